@@ -1,0 +1,83 @@
+-- Finitary theories.
+use Rattle.std.proofs.Common.{◌≡◌, ℕ, zero, Some, List, [], ◌∷◌, ◌⊎◌, inl, inr, sym, ap, ◌∙◌, subst, append_assoc, append-nil}
+use Rattle.ft_theory.specs.Expressions.{Expression, MentionsOnly}
+use Rattle.ft_theory.specs.Statements.{Statement, plain, domain_count, IsObject, IsEquation}
+use Rattle.ft_theory.specs.Rules.{look_up, Rule, rule_at}
+use Rattle.ft_theory.specs.Steps.{Sequent, sequent, Step, variable, metavariable, metavariable_equation, metavariable_congruence, abstraction, reflexive_type, reflexive_term, symmetric_types, symmetric_terms, transitive_types, transitive_terms, convert_term, convert_equation, for_type, for_term, for_types, for_terms, symbol_rule, equation_rule, congruence, Tree, Trees, node, none, more, Prim}
+use Rattle.ft_theory.specs.Derivability.{PremisesHold, RuleHolds}
+use Rattle.std.specs.Prelude.{◌++◌}
+use Rattle.ft_laws.proofs.Induction.{AllOf, induct}
+use Rattle.ft_laws.proofs.Acts.{Uses_mono}
+use Rattle.ft_laws.proofs.Opens.{by_test}
+use Rattle.ft_laws.proofs.Scope.{scope, Fine, InVars, InMets}
+use Rattle.ft_laws.proofs.Statements.{stmt_mono, core_mono}
+use Rattle.ft_laws.proofs.Commute.{ScopedTheory, ScopedPremises, Covered}
+use Rattle.ft_laws.proofs.Rules.{Within, look_before, found, past, nothing}
+
+-- trees over more rules
+pub more_rules : (T U : List Rule) → ((r : ℕ) (R : Rule) → rule_at T r ≡ Some R → rule_at U r ≡ Some R) → (c : Sequent) → Tree (Step T) c → Tree (Step U) c
+more_rules T U w = induct (Step T) (λ c. Tree (Step U) c) (λ ps c s ts h. node ps (step ps c s) (trees ps h))
+  where
+    trees : (ps : List Sequent) → AllOf (λ c. Tree (Step U) c) ps → Trees (Step U) ps
+    trees [] h = none
+    trees (p ∷ ps) h = more h.0 (trees ps h.1)
+
+    step : (ps : List Sequent) (c : Sequent) → Step T ps c → Step U ps c
+    step ps c (variable v A q) = variable v A q
+    step ps c (metavariable m b a q g o d) = metavariable m b a q g o d
+    step ps c (metavariable_equation m b a q g o d) = metavariable_equation m b a q g o d
+    step ps c (metavariable_congruence m b a k q g o d d') = metavariable_congruence m b a k q g o d d'
+    step ps c (abstraction v B x n u) = abstraction v B x n u
+    step ps c (reflexive_type B) = reflexive_type B
+    step ps c (reflexive_term t B) = reflexive_term t B
+    step ps c (symmetric_types B C) = symmetric_types B C
+    step ps c (symmetric_terms s t B) = symmetric_terms s t B
+    step ps c (transitive_types B C D) = transitive_types B C D
+    step ps c (transitive_terms s t u B) = transitive_terms s t u B
+    step ps c (convert_term t A B) = convert_term t A B
+    step ps c (convert_equation s t B C) = convert_equation s t B C
+    step ps c for_type = for_type
+    step ps c (for_term B) = for_term B
+    step ps c (for_types B C) = for_types B C
+    step ps c (for_terms s t B) = for_terms s t B
+    step ps c (symbol_rule r R a q f o) = symbol_rule r R a (w r R q) f o
+    step ps c (equation_rule r R a q f o) = equation_rule r R a (w r R q) f o
+    step ps c (congruence r R a b q f f' o) = congruence r R a b (w r R q) f f' o
+
+-- each rule's boundaries are derived by primitive steps, over the whole theory
+abbrev pub Sound : List Rule → Type 0
+Sound T = (r : ℕ) (R : Rule) → rule_at T r ≡ Some R → RuleHolds (λ M x. Prim T M [] x) R
+
+look_covered : (ps : List (ℕ × Statement)) (m k : ℕ) (b : Statement) → look_up ps m ≡ Some b → IsObject b → k ≡ domain_count b → Covered ps m k
+look_covered [] m k b q o d = nothing q
+look_covered (p ∷ ps) m k b q o d = by_test (Covered (p ∷ ps) m k) m p.0
+    (λ e. inl (e, subst IsObject (sym (found m p ps b e q)) o, d ∙ ap domain_count (sym (found m p ps b e q))))
+    (λ n. inr (look_covered ps m k b (past m p ps b n q) o d))
+
+scoped_expr : (M all : List (ℕ × Statement)) → Within M all → (k : ℕ) (e : Expression) → Fine M [] k e → MentionsOnly (λ v. ⊥) (Covered all) e
+scoped_expr M all w k e f = Uses_mono e (InVars []) (λ v. ⊥) (InMets M) (Covered all) (λ v h. nothing h.1) (λ m k h. look_covered all m k h.0 (w m h.0 h.1) h.2 h.3) f.1
+
+scoped_premises : (T : List Rule) (all M ps : List (ℕ × Statement)) → Within (M ++ ps) all → PremisesHold (λ M x. Prim T M [] x) M ps → ScopedPremises all ps
+scoped_premises T all M [] w h = tt
+scoped_premises T all M (p ∷ ps) w h = (
+  stmt_mono p.1 (Fine M []) (λ l. MentionsOnly (λ v. ⊥) (Covered all)) zero (λ l e f. scoped_expr M all (λ m b r. w m b (look_before M (p ∷ ps) m b r)) l e f) (scope T (sequent M [] p.1) h.2),
+  scoped_premises T all (M ++ (p ∷ [])) ps (λ m b r. w m b (ap (λ z. look_up z m) (sym (append_assoc M (p ∷ []) ps)) ∙ r)) h.3,
+)
+
+pub scoped : (T : List Rule) → Sound T → ScopedTheory T
+scoped T s r R q =
+    let h : RuleHolds (λ M x. Prim T M [] x) R = s r R q in (
+      scoped_premises T R.premises [] R.premises (λ m b r. r) h.0,
+      core_mono R.conclusion (Fine R.premises [] zero) (MentionsOnly (λ v. ⊥) (Covered R.premises)) (λ e f. scoped_expr R.premises R.premises (λ m b r. r) zero e f) (scope T (sequent R.premises [] (plain R.conclusion)) h.2),
+    )
+
+-- the boundary of one premise
+pub premise_at : (D : List (ℕ × Statement) → Statement → Type 0) (M ps : List (ℕ × Statement)) (q : ℕ × Statement) (qs : List (ℕ × Statement)) → PremisesHold D M (ps ++ (q ∷ qs)) → (IsObject q.1 ⊎ IsEquation q.1) × D (M ++ ps) q.1
+premise_at D M [] q qs h = (h.1, subst (λ z. D z q.1) (sym (append-nil M)) h.2)
+premise_at D M (p ∷ ps) q qs h =
+    let r : (IsObject q.1 ⊎ IsEquation q.1) × D ((M ++ (p ∷ [])) ++ ps) q.1 = premise_at D (M ++ (p ∷ [])) ps q qs h.3 in
+    (r.0, subst (λ z. D z q.1) (append_assoc M (p ∷ []) ps) r.1)
+
+pub first_premises : (D : List (ℕ × Statement) → Statement → Type 0) (M ps qs : List (ℕ × Statement)) → PremisesHold D M (ps ++ qs) → PremisesHold D M ps
+first_premises D M [] qs h = tt
+first_premises D M (p ∷ ps) qs h = (h.0, h.1, h.2, first_premises D (M ++ (p ∷ [])) ps qs h.3)

@@ -1,0 +1,477 @@
+-- Each item that is allowed keeps the store well formed.
+use Rattle.std.proofs.Common.{◌≡◌, ◌≢◌, ℕ, zero, suc, ◌<◌, Bool, true, false, cond, nat_lt, ◌&&◌, not, Option, Some, None, List, [], ◌∷◌, ◌++◌, length, ◌⊎◌, inl, inr, refl, sym, ap, ap₂, ◌∙◌, subst, arith, append_assoc, append-nil}
+use Rattle.std.proofs.lemmas.Bool.{ltb-true, lt-ltb}
+use Rattle.std.specs.Prelude.{option_map, option_and_then}
+use Rattle.ft_theory.specs.Statements.{is_type, Statement, plain, abstracted, IsObject, IsEquation}
+use Rattle.ft_theory.specs.Rules.{look_up, Rule, rule_at}
+use Rattle.ft_theory.specs.Steps.{Prim}
+use Rattle.ft_theory.specs.Derivability.{DerUpTo, PremisesHold, RuleHolds, FinitaryAfter, FinitaryUpTo}
+use Rattle.ft_laws.proofs.Opens.{same, other, by_test}
+use Rattle.ft_laws.proofs.Fresh.{some_path}
+use Rattle.ft_laws.proofs.Rules.{nothing, look_before}
+use Rattle.ft_laws.proofs.Commute.{ScopedTheory}
+use Rattle.ft_laws.proofs.Finitary.{scoped}
+use Rattle.ft_laws.proofs.Admissible.{finitary_sound, law}
+use Rattle.ft_items.specs.Sets.{Atom, met, var, Has, Within, is_within, same_set, metavariables_only, has}
+use Rattle.ft_items.specs.Equal.{equal_statements, is_thesis, is_plain}
+use Rattle.ft_items.specs.Item.{Name, Entry, Item, variable, metavariable, rule, entry, shown}
+use Rattle.ft_items.specs.Store.{Assertion, Annotation, Declared, Store, nth, each, entry_named, metavariable_named, type_in, claim_in, premises_of, Resolved, resolve, add_variable, add_metavariable, add_rule, add, add_all, empty_store}
+use Rattle.ft_items.specs.Rows.{conclusion, result_set, atoms, differ, on_earlier, concludes_thesis}
+use Rattle.ft_items.specs.Good.{Reject, Kind, Premise, Conclusion, Set, Named, Number, Many, Loose, unless, of_kind, same_kind, is_next, is_plain_type, is_new, reason_of_result, reason_of_entry, reason_of_variable, reason_of_metavariable, reason_of_rule, reason_of_shown, reason_in, given, AllowedVariable, AllowedMetavariable, AllowedRule, AllowedEntry, AllowedShown, AllowedIn, GoodAfter}
+use Rattle.ft_items.proofs.Lists.{nth_before}
+use Rattle.ft_sound.proofs.KindRows.{conclusion_kind}
+use Rattle.ft_items.proofs.SetLemmas.{both, both_true, not_true, wrong, same_set_true, same_set_self, no_variable, within_true, has_false}
+use Rattle.ft_sound.proofs.EqualLemmas.{stmt_true, stmt_self, boundary_kind}
+use Rattle.ft_sound.proofs.Valid.{Later, Declares, Valid, WellFormed, later_valid, scoped_rules}
+use Rattle.ft_sound.proofs.MetaRows.{AllDeclared, over_premises}
+use Rattle.ft_sound.proofs.Steps.{resolved, sound_step, all_declared}
+
+-- an entry states what its step gives
+abbrev pub StatesWhatItsStepGives : Store → Entry → Type 0
+StatesWhatItsStepGives W e = (s : Resolved) × (resolve W e.step ≡ Some s) × (of_kind s ≡ true) × (conclusion W s ≡ Some e.statement) × (result_set s ≡ e.set)
+
+-- a test that held
+pub unless_none : (b : Bool) (why : Reject) (next : Option Reject) → unless b why next ≡ None → (b ≡ true) × (next ≡ None)
+unless_none true why next e = (refl, e)
+unless_none false why next e = nothing (sym e)
+
+-- the last of a list
+pub nth_last : {A : Type 0} (xs : List A) (y : A) (n : ℕ) (x : A) → nth (xs ++ (y ∷ [])) n ≡ Some x → (nth xs n ≡ Some x) ⊎ ((n ≡ length xs) × (y ≡ x))
+nth_last [] y zero x e = inr (refl, some_path y x e)
+nth_last [] y (suc n) x e = nothing e
+nth_last (z ∷ xs) y zero x e = inl e
+nth_last (z ∷ xs) y (suc n) x e = next (nth_last xs y n x e)
+  where
+    next : (nth xs n ≡ Some x) ⊎ ((n ≡ length xs) × (y ≡ x)) → (nth xs n ≡ Some x) ⊎ ((suc n ≡ suc (length xs)) × (y ≡ x))
+    next (inl h) = inl h
+    next (inr h) = inr (ap suc h.0, h.1)
+
+pub nth_below : {A : Type 0} (xs : List A) (n : ℕ) (x : A) → nth xs n ≡ Some x → n < length xs
+nth_below [] n x e = nothing e
+nth_below (y ∷ xs) zero x e = omega arith
+nth_below (y ∷ xs) (suc n) x e = let h : n < length xs = nth_below xs n x e in omega (arith, h)
+
+pub look_last : {A : Type 0} (xs : List (ℕ × A)) (v : ℕ) (a : A) (u : ℕ) (d : A) → look_up (xs ++ ((v, a) ∷ [])) u ≡ Some d → (look_up xs u ≡ Some d) ⊎ ((u ≡ v) × (a ≡ d))
+look_last {A} [] v a u d e = by_test ((look_up {A = A} [] u ≡ Some d) ⊎ ((u ≡ v) × (a ≡ d))) u v
+    (λ f. inr (f, some_path a d (sym (same u v (Some a) None f) ∙ e)))
+    (λ n. nothing (sym (other u v (Some a) None n) ∙ e))
+look_last {A} (p ∷ xs) v a u d e = by_test ((look_up (p ∷ xs) u ≡ Some d) ⊎ ((u ≡ v) × (a ≡ d))) u p.0
+    (λ f. inl (same u p.0 (Some p.1) (look_up xs u) f ∙ sym (same u p.0 (Some p.1) (look_up (xs ++ ((v, a) ∷ [])) u) f) ∙ e))
+    (λ n. next n (look_last xs v a u d (sym (other u p.0 (Some p.1) (look_up (xs ++ ((v, a) ∷ [])) u) n) ∙ e)))
+  where
+    next : u ≢ p.0 → (look_up xs u ≡ Some d) ⊎ ((u ≡ v) × (a ≡ d)) → (look_up (p ∷ xs) u ≡ Some d) ⊎ ((u ≡ v) × (a ≡ d))
+    next n (inl h) = inl (other u p.0 (Some p.1) (look_up xs u) n ∙ h)
+    next n (inr h) = inr h
+
+pub next_above : (xs : List (ℕ × Annotation)) (v u : ℕ) (d : Annotation) → is_next xs v ≡ true → look_up xs u ≡ Some d → u < v
+next_above [] v u d h e = nothing e
+next_above (p ∷ xs) v u d h e =
+    let k : (nat_lt p.0 v ≡ true) × (is_next xs v ≡ true) = both (nat_lt p.0 v) (is_next xs v) h in
+    by_test (u < v) u p.0
+    (λ f. subst (λ z. z < v) (sym f) (ltb-true p.0 v k.0))
+    (λ n. next_above xs v u d k.1 (sym (other u p.0 (Some p.1) (look_up xs u) n) ∙ e))
+
+rule_before : (T U : List Rule) (r : ℕ) (R : Rule) → rule_at T r ≡ Some R → rule_at (T ++ U) r ≡ Some R
+rule_before [] U r R q = nothing q
+rule_before (S ∷ T) U zero R q = q
+rule_before (S ∷ T) U (suc r) R q = rule_before T U r R q
+
+-- what is to be shown of each declaration
+abbrev MetHolds : Store → ℕ → Declared → Type 0
+MetHolds W m d = Valid W d.boundary d.set × (IsObject d.boundary ⊎ IsEquation d.boundary) × ((v : ℕ) → Has (var v) d.set → ⊥) × ((n : ℕ) → Has (met n) d.set → n < m)
+
+abbrev VarHolds : Store → ℕ → Annotation → Type 0
+VarHolds W v d = Valid W (plain (is_type d.annotation)) d.set × ((w : ℕ) → Has (var w) d.set → w < v)
+
+later_well_formed : (W X : Store) → WellFormed W → Later W X → ((k : ℕ) → FinitaryUpTo k X.rules)
+    → ((m : ℕ) (d : Declared) → nth X.metavariables m ≡ Some d → (nth W.metavariables m ≡ Some d) ⊎ MetHolds X m d)
+    → ((v : ℕ) (d : Annotation) → look_up X.variables v ≡ Some d → (look_up W.variables v ≡ Some d) ⊎ VarHolds X v d)
+    → ((p : ℕ) (a : Assertion) → nth X.entries p ≡ Some a → (nth W.entries p ≡ Some a) ⊎ Valid X a.statement a.set)
+    → WellFormed X
+later_well_formed W X F l fin ms vs es = record {
+  finitary = fin;
+  metavariables = λ m d q. met_case m d (ms m d q);
+  variables = λ v d q. var_case v d (vs v d q);
+  entries = λ p a q. entry_case p a (es p a q);
+}
+  where
+    sc : ScopedTheory X.rules
+    sc = scoped X.rules (finitary_sound zero X.rules (fin zero))
+
+    met_case : (m : ℕ) (d : Declared) → (nth W.metavariables m ≡ Some d) ⊎ MetHolds X m d → MetHolds X m d
+    met_case m d (inl q) = let h : MetHolds W m d = F.metavariables m d q in (later_valid W X d.boundary d.set sc l h.0, h.1, h.2, h.3)
+    met_case m d (inr h) = h
+
+    var_case : (v : ℕ) (d : Annotation) → (look_up W.variables v ≡ Some d) ⊎ VarHolds X v d → VarHolds X v d
+    var_case v d (inl q) = let h : VarHolds W v d = F.variables v d q in (later_valid W X (plain (is_type d.annotation)) d.set sc l h.0, h.1)
+    var_case v d (inr h) = h
+
+    entry_case : (p : ℕ) (a : Assertion) → (nth W.entries p ≡ Some a) ⊎ Valid X a.statement a.set → Valid X a.statement a.set
+    entry_case p a (inl q) = later_valid W X a.statement a.set sc l (F.entries p a q)
+    entry_case p a (inr h) = h
+
+-- an entry
+pub as_given : (W : Store) (e : Entry) → reason_in W (entry e) ≡ None → StatesWhatItsStepGives W e
+as_given W e h = go (resolve W e.step) refl h
+  where
+    result : (s : Resolved) → resolve W e.step ≡ Some s → of_kind s ≡ true → (o : Option Statement) → conclusion W s ≡ o → reason_of_result o (result_set s) e ≡ None → StatesWhatItsStepGives W e
+    result s q kind None c h = nothing (sym h)
+    result s q kind (Some x) c h =
+        let k : (equal_statements x e.statement ≡ true) × (unless (same_set (result_set s) e.set) Set None ≡ None) = unless_none (equal_statements x e.statement) Conclusion (unless (same_set (result_set s) e.set) Set None) h in
+        let l : (same_set (result_set s) e.set ≡ true) × (None ≡ None) = unless_none (same_set (result_set s) e.set) Set None k.1 in
+        (s, q, kind, c ∙ ap Some (stmt_true x e.statement k.0), same_set_true (result_set s) e.set l.0)
+
+    go : (o : Option Resolved) → resolve W e.step ≡ o → reason_of_entry W o e ≡ None → StatesWhatItsStepGives W e
+    go None q h = nothing (sym h)
+    go (Some s) q h =
+        let k : ((of_kind s && same_kind (concludes_thesis s) (is_thesis e.statement)) ≡ true) × (reason_of_result (conclusion W s) (result_set s) e ≡ None) = unless_none (of_kind s && same_kind (concludes_thesis s) (is_thesis e.statement)) Kind (reason_of_result (conclusion W s) (result_set s) e) h in
+        result s q (both (of_kind s) (same_kind (concludes_thesis s) (is_thesis e.statement)) k.0).0 (conclusion W s) refl k.1
+
+pub entry_valid : (W : Store) → WellFormed W → (e : Entry) → reason_in W (entry e) ≡ None → Valid W e.statement e.set
+entry_valid W F e h =
+    let g : StatesWhatItsStepGives W e = as_given W e h in
+    subst (Valid W e.statement) g.4 (sound_step W F g.0 (resolved W F e.step g.0 g.1) e.statement g.3)
+
+same_rules : (W : Store) (m : ℕ) (R : Rule) → rule_at W.rules m ≡ Some R → rule_at W.rules m ≡ Some R
+same_rules W m R q = q
+
+add_entry : (W : Store) → WellFormed W → (e : Entry) → reason_in W (entry e) ≡ None → WellFormed (add W (entry e))
+add_entry W F e h = later_well_formed W (add W (entry e)) F l F.finitary (λ m d q. inl q) (λ v d q. inl q)
+    (λ p a q. entries p a (nth_last W.entries (record { statement = e.statement; set = e.set }) p a q))
+  where
+    l : Later W (add W (entry e))
+    l = record { rules = λ r R q. q; metavariables = λ m d q. q; variables = λ v d q. q }
+
+    entries : (p : ℕ) (a : Assertion) → (nth W.entries p ≡ Some a) ⊎ ((p ≡ length W.entries) × (record { statement = e.statement; set = e.set } ≡ a)) → (nth W.entries p ≡ Some a) ⊎ Valid (add W (entry e)) a.statement a.set
+    entries p a (inl q) = inl q
+    entries p a (inr q) = inr (subst (λ (z : Assertion). Valid (add W (entry e)) z.statement z.set) q.1 (later_valid W (add W (entry e)) e.statement e.set (scoped_rules W F) l (entry_valid W F e h)))
+
+-- a variable
+plain_type : (x : Statement) → is_plain_type x ≡ true → x ≡ plain (is_type (type_in x))
+plain_type (plain (is_type A)) h = refl
+plain_type x h = wrong h
+
+add_var : (W : Store) → WellFormed W → (v : ℕ) (n : Name) (p : ℕ) → reason_in W (variable v n p) ≡ None → WellFormed (add W (variable v n p))
+add_var W F v n p h = go (entry_named W p) refl k.1
+  where
+    k : (is_next W.variables v ≡ true) × (reason_of_variable (entry_named W p) ≡ None)
+    k = unless_none (is_next W.variables v) Number (reason_of_variable (entry_named W p)) h
+
+    go : (o : Option Assertion) → entry_named W p ≡ o → reason_of_variable o ≡ None → WellFormed (add_variable W v n o)
+    go None q h = nothing (sym h)
+    go (Some a) q h = later_well_formed W X F l F.finitary (λ m d q. inl q) (λ u d q. case u d (look_last W.variables v (record { name = n; annotation = type_in a.statement; set = a.set }) u d q)) (λ p a q. inl q)
+      where
+        X : Store
+        X = add_variable W v n (Some a)
+
+        t : (is_thesis a.statement ≡ true) × (unless (is_plain_type a.statement) Premise None ≡ None)
+        t = unless_none (is_thesis a.statement) Kind (unless (is_plain_type a.statement) Premise None) h
+
+        u : is_plain_type a.statement ≡ true
+        u = (unless_none (is_plain_type a.statement) Premise None t.1).0
+
+        l : Later W X
+        l = record { rules = λ r R q. q; metavariables = λ m d q. q; variables = λ u d q. look_before W.variables ((v, record { name = n; annotation = type_in a.statement; set = a.set }) ∷ []) u d q }
+
+        below : (w : ℕ) → Has (var w) a.set → w < v
+        below w j = let r : (R : List Atom) × Declares W (var w) R × Within R a.set = (F.entries p a q).proper.closed (var w) j in next_above W.variables v w r.1.0 k.0 r.1.1
+
+        valid : Valid X (plain (is_type (type_in a.statement))) a.set
+        valid = later_valid W X (plain (is_type (type_in a.statement))) a.set (scoped_rules W F) l (subst (λ z. Valid W z a.set) (plain_type a.statement u) (F.entries p a q))
+
+        case : (w : ℕ) (d : Annotation) → (look_up W.variables w ≡ Some d) ⊎ ((w ≡ v) × (record { name = n; annotation = type_in a.statement; set = a.set } ≡ d)) → (look_up W.variables w ≡ Some d) ⊎ VarHolds X w d
+        case w d (inl q) = inl q
+        case w d (inr q) = inr (subst (λ (z : Annotation). VarHolds X w z) q.1 (valid, λ i j. subst (λ z. i < z) (sym q.0) (below i j)))
+
+-- a metavariable
+add_met : (W : Store) → WellFormed W → (n : Name) (p : ℕ) → reason_in W (metavariable n p) ≡ None → WellFormed (add W (metavariable n p))
+add_met W F n p h = go (entry_named W p) refl h
+  where
+    go : (o : Option Assertion) → entry_named W p ≡ o → reason_of_metavariable o ≡ None → WellFormed (add_metavariable W n o)
+    go None q h = nothing (sym h)
+    go (Some a) q h = later_well_formed W X F l F.finitary (λ m d q. case m d (nth_last W.metavariables (record { name = n; boundary = a.statement; set = a.set }) m d q)) (λ v d q. inl q) (λ p a q. inl q)
+      where
+        X : Store
+        X = add_metavariable W n (Some a)
+
+        t : (not (is_thesis a.statement) ≡ true) × (unless (metavariables_only a.set) Loose None ≡ None)
+        t = unless_none (not (is_thesis a.statement)) Kind (unless (metavariables_only a.set) Loose None) h
+
+        u : metavariables_only a.set ≡ true
+        u = (unless_none (metavariables_only a.set) Loose None t.1).0
+
+        l : Later W X
+        l = record { rules = λ r R q. q; metavariables = λ m d q. nth_before W.metavariables (record { name = n; boundary = a.statement; set = a.set } ∷ []) m d q; variables = λ u d q. q }
+
+        below : (w : ℕ) → Has (met w) a.set → w < length W.metavariables
+        below w j = let r : (R : List Atom) × Declares W (met w) R × Within R a.set = (F.entries p a q).proper.closed (met w) j in nth_below W.metavariables w r.1.0 r.1.1
+
+        valid : Valid X a.statement a.set
+        valid = later_valid W X a.statement a.set (scoped_rules W F) l (F.entries p a q)
+
+        case : (m : ℕ) (d : Declared) → (nth W.metavariables m ≡ Some d) ⊎ ((m ≡ length W.metavariables) × (record { name = n; boundary = a.statement; set = a.set } ≡ d)) → (nth W.metavariables m ≡ Some d) ⊎ MetHolds X m d
+        case m d (inl q) = inl q
+        case m d (inr q) = inr (subst (λ (z : Declared). MetHolds X m z) q.1 (valid, boundary_kind a.statement (not_true (is_thesis a.statement) t.0), (λ v j. no_variable v a.set u j), λ i j. subst (λ z. i < z) (sym q.0) (below i j)))
+
+-- a rule
+premises_last : (ms : List (ℕ × Declared)) (d : ℕ × Declared) → premises_of (ms ++ (d ∷ [])) ≡ premises_of ms ++ ((d.0, d.1.boundary) ∷ [])
+premises_last [] d = refl
+premises_last (c ∷ ms) d = ap (λ z. (c.0, c.1.boundary) ∷ z) (premises_last ms d)
+
+atoms_last : (ms : List (ℕ × Declared)) (d : ℕ × Declared) → atoms (ms ++ (d ∷ [])) ≡ atoms ms ++ (met d.0 ∷ [])
+atoms_last [] d = refl
+atoms_last (c ∷ ms) d = ap (λ z. met c.0 ∷ z) (atoms_last ms d)
+
+has_last : (S : List Atom) (a c : Atom) → Has c (S ++ (a ∷ [])) → Has c S ⊎ (c ≡ a)
+has_last [] a c (inl e) = inr e
+has_last [] a c (inr k) = absurd k
+has_last (b ∷ S) a c (inl e) = inl (inl e)
+has_last (b ∷ S) a c (inr k) = next (has_last S a c k)
+  where
+    next : Has c S ⊎ (c ≡ a) → Has c (b ∷ S) ⊎ (c ≡ a)
+    next (inl k) = inl (inr k)
+    next (inr e) = inr e
+
+absent_premise : (ms : List (ℕ × Declared)) (m : ℕ) → (Has (met m) (atoms ms) → ⊥) → look_up (premises_of ms) m ≡ None
+absent_premise [] m n = refl
+absent_premise (d ∷ ms) m n = other m d.0 (Some d.1.boundary) (look_up (premises_of ms) m) (λ e. n (inl (ap met e))) ∙ absent_premise ms m (λ k. n (inr k))
+
+declared_last : (W : Store) (F : WellFormed W) (ms : List (ℕ × Declared)) (d : ℕ × Declared) → AllDeclared W F ms → nth W.metavariables d.0 ≡ Some d.1 → AllDeclared W F (ms ++ (d ∷ []))
+declared_last W F [] d h q = (q, tt)
+declared_last W F (c ∷ ms) d h q = (h.0, declared_last W F ms d h.1 q)
+
+premises_hold : (W : Store) (F : WellFormed W) (k : ℕ) (done ms : List (ℕ × Declared)) → AllDeclared W F done → AllDeclared W F ms
+    → ((a : Atom) → Has a (atoms done) → Has a (atoms ms) → ⊥) → differ (atoms ms) ≡ true → on_earlier (atoms done) ms ≡ true
+    → PremisesHold (λ M x. DerUpTo k W.rules M [] x) (premises_of done) (premises_of ms)
+premises_hold W F k done [] dd dm ap' df oe = tt
+premises_hold W F k done (d ∷ ms) dd dm apart df oe =
+    let p : (not (has (met d.0) (atoms ms)) ≡ true) × (differ (atoms ms) ≡ true) = both (not (has (met d.0) (atoms ms))) (differ (atoms ms)) df in
+    let q : (is_within d.1.set (atoms done) ≡ true) × (on_earlier (atoms done ++ (met d.0 ∷ [])) ms ≡ true) = both (is_within d.1.set (atoms done)) (on_earlier (atoms done ++ (met d.0 ∷ [])) ms) oe in
+    let h : MetHolds W d.0 d.1 = F.metavariables d.0 d.1 dm.0 in (
+      absent_premise done d.0 (λ j. apart (met d.0) j (inl refl)),
+      h.1,
+      (law k W.rules (F.finitary k) (premises_of done) [] d.1.boundary).1 (over_premises W F done dd d.1.boundary d.1.set (within_true d.1.set (atoms done) q.0) h.0.derivable),
+      subst (λ z. PremisesHold (λ M x. DerUpTo k W.rules M [] x) z (premises_of ms)) (premises_last done d)
+          (premises_hold W F k (done ++ (d ∷ [])) ms (declared_last W F done d dd dm.0) dm.1
+          (λ a i j. later a (not_true (has (met d.0) (atoms ms)) p.0) (has_last (atoms done) (met d.0) a (subst (Has a) (atoms_last done d) i)) j)
+          p.1 (subst (λ z. on_earlier z ms ≡ true) (sym (atoms_last done d)) q.1)),
+    )
+  where
+    later : (a : Atom) → has (met d.0) (atoms ms) ≡ false → Has a (atoms done) ⊎ (a ≡ met d.0) → Has a (atoms ms) → ⊥
+    later a f (inl i) j = apart a i (inr j)
+    later a f (inr e) j = has_false (met d.0) (atoms ms) f (subst (λ z. Has z (atoms ms)) e j)
+
+finitary_last : (D : List Rule → List (ℕ × Statement) → Statement → Type 0) (T Rs : List Rule) (R : Rule) → FinitaryAfter D T Rs → RuleHolds (D (T ++ Rs)) R → FinitaryAfter D T (Rs ++ (R ∷ []))
+finitary_last D T [] R f h = (subst (λ z. RuleHolds (D z) R) (append-nil T) h, tt)
+finitary_last D T (S ∷ Rs) R f h = (f.0, finitary_last D (T ++ (S ∷ [])) Rs R f.1 (subst (λ z. RuleHolds (D z) R) (sym (append_assoc T (S ∷ []) Rs)) h))
+
+plain_core : (x : Statement) → is_plain x ≡ true → x ≡ plain (claim_in x)
+plain_core (plain c) h = refl
+plain_core (abstracted A x) h = wrong h
+
+add_a_rule : (W : Store) → WellFormed W → (n : Name) (ms : List ℕ) (p : ℕ) → reason_in W (rule n ms p) ≡ None → WellFormed (add W (rule n ms p))
+add_a_rule W F n ms p h = go (each (metavariable_named W) ms) refl (entry_named W p) refl k.1
+  where
+    j : (is_new W.names n ≡ true) × (unless (nat_lt (length W.rules) 65536) Many (reason_of_rule (each (metavariable_named W) ms) (entry_named W p)) ≡ None)
+    j = unless_none (is_new W.names n) Named (unless (nat_lt (length W.rules) 65536) Many (reason_of_rule (each (metavariable_named W) ms) (entry_named W p))) h
+
+    k : (nat_lt (length W.rules) 65536 ≡ true) × (reason_of_rule (each (metavariable_named W) ms) (entry_named W p) ≡ None)
+    k = unless_none (nat_lt (length W.rules) 65536) Many (reason_of_rule (each (metavariable_named W) ms) (entry_named W p)) j.1
+
+    go : (os : Option (List (ℕ × Declared))) → each (metavariable_named W) ms ≡ os → (o : Option Assertion) → entry_named W p ≡ o → reason_of_rule os o ≡ None → WellFormed (add_rule W n os o)
+    go None i o q h = nothing (sym h)
+    go (Some ds) i None q h = nothing (sym h)
+    go (Some ds) i (Some a) q h = later_well_formed W X F l fin (λ m d q. inl q) (λ v d q. inl q) (λ p a q. inl q)
+      where
+        X : Store
+        X = add_rule W n (Some ds) (Some a)
+
+        R : Rule
+        R = record { premises = premises_of ds; conclusion = claim_in a.statement }
+
+        t : (((differ (atoms ds) && not (is_thesis a.statement)) && is_plain a.statement) ≡ true) × (unless (on_earlier [] ds && is_within a.set (atoms ds)) Loose None ≡ None)
+        t = unless_none ((differ (atoms ds) && not (is_thesis a.statement)) && is_plain a.statement) Kind (unless (on_earlier [] ds && is_within a.set (atoms ds)) Loose None) h
+
+        u : (on_earlier [] ds && is_within a.set (atoms ds)) ≡ true
+        u = (unless_none (on_earlier [] ds && is_within a.set (atoms ds)) Loose None t.1).0
+
+        t1 : ((differ (atoms ds) && not (is_thesis a.statement)) ≡ true) × (is_plain a.statement ≡ true)
+        t1 = both (differ (atoms ds) && not (is_thesis a.statement)) (is_plain a.statement) t.0
+
+        t2 : (differ (atoms ds) ≡ true) × (not (is_thesis a.statement) ≡ true)
+        t2 = both (differ (atoms ds)) (not (is_thesis a.statement)) t1.0
+
+        u1 : (on_earlier [] ds ≡ true) × (is_within a.set (atoms ds) ≡ true)
+        u1 = both (on_earlier [] ds) (is_within a.set (atoms ds)) u
+
+        dm : AllDeclared W F ds
+        dm = all_declared W F ms ds i
+
+        e : a.statement ≡ plain (claim_in a.statement)
+        e = plain_core a.statement t1.1
+
+        holds : (n : ℕ) → RuleHolds (λ M x. DerUpTo n W.rules M [] x) R
+        holds n = (
+          premises_hold W F n [] ds tt dm (λ a i j. i) t2.0 u1.0,
+          subst (λ z. IsObject z ⊎ IsEquation z) e (boundary_kind a.statement (not_true (is_thesis a.statement) t2.1)),
+          (law n W.rules (F.finitary n) (premises_of ds) [] (plain (claim_in a.statement))).1
+              (subst (λ z. Prim W.rules (premises_of ds) [] z) e (over_premises W F ds dm a.statement a.set (within_true a.set (atoms ds) u1.1) (F.entries p a q).derivable)),
+        )
+
+        fin : (n : ℕ) → FinitaryUpTo n X.rules
+        fin n = finitary_last (λ T M x. DerUpTo n T M [] x) [] W.rules R (F.finitary n) (holds n)
+
+        l : Later W X
+        l = record { rules = λ r S q. rule_before W.rules (R ∷ []) r S q; metavariables = λ m d q. q; variables = λ u d q. q }
+
+-- allowed, by the tests
+none_of : (b : Bool) (why : Reject) (next : Option Reject) → b ≡ true → next ≡ None → unless b why next ≡ None
+none_of true why next h e = e
+none_of false why next h e = wrong h
+
+not_false : (b : Bool) → b ≡ false → not b ≡ true
+not_false true h = wrong (sym h)
+not_false false h = refl
+
+plain_type_thesis : (x : Statement) → is_plain_type x ≡ true → is_thesis x ≡ true
+plain_type_thesis (plain (is_type A)) h = refl
+plain_type_thesis x h = wrong h
+
+variable_reason : (W : Store) (v p : ℕ) → AllowedVariable W v p → unless (is_next W.variables v) Number (reason_of_variable (entry_named W p)) ≡ None
+variable_reason W v p h = none_of (is_next W.variables v) Number (reason_of_variable (entry_named W p)) h.0
+    (ap reason_of_variable h.2 ∙ none_of (is_thesis h.1.statement) Kind (unless (is_plain_type h.1.statement) Premise None) (plain_type_thesis h.1.statement h.3) (none_of (is_plain_type h.1.statement) Premise None h.3 refl))
+
+metavariable_reason : (W : Store) (p : ℕ) → AllowedMetavariable W p → reason_of_metavariable (entry_named W p) ≡ None
+metavariable_reason W p h = ap reason_of_metavariable h.1 ∙ none_of (not (is_thesis h.0.statement)) Kind (unless (metavariables_only h.0.set) Loose None) (not_false (is_thesis h.0.statement) h.2) (none_of (metavariables_only h.0.set) Loose None h.3 refl)
+
+rule_reason : (W : Store) (n : Name) (ms : List ℕ) (p : ℕ) → AllowedRule W n ms p → reason_in W (rule n ms p) ≡ None
+rule_reason W n ms p h =
+    let ds : List (ℕ × Declared) = h.2 in
+    let a : Assertion = h.4 in
+    none_of (is_new W.names n) Named (unless (nat_lt (length W.rules) 65536) Many (reason_of_rule (each (metavariable_named W) ms) (entry_named W p))) h.0
+    (none_of (nat_lt (length W.rules) 65536) Many (reason_of_rule (each (metavariable_named W) ms) (entry_named W p)) (lt-ltb (length W.rules) 65536 h.1)
+    (ap₂ reason_of_rule h.3 h.5
+    ∙ none_of ((differ (atoms ds) && not (is_thesis a.statement)) && is_plain a.statement) Kind (unless (on_earlier [] ds && is_within a.set (atoms ds)) Loose None)
+    (both_true (differ (atoms ds) && not (is_thesis a.statement)) (is_plain a.statement) (both_true (differ (atoms ds)) (not (is_thesis a.statement)) h.6 (not_false (is_thesis a.statement) h.7)) h.8)
+    (none_of (on_earlier [] ds && is_within a.set (atoms ds)) Loose None (both_true (on_earlier [] ds) (is_within a.set (atoms ds)) h.9 h.10) refl)))
+
+shown_reason : (W : Store) (p : ℕ) → AllowedShown W p → reason_of_shown (entry_named W p) ≡ None
+shown_reason W p h = ap reason_of_shown h.1 ∙ none_of (is_thesis h.0.statement) Kind None h.2 refl
+
+abbrev statement_of : Assertion → Statement
+statement_of p = p.statement
+
+abbrev set_of : Assertion → List Atom
+set_of p = p.set
+
+-- what a step gives, taken apart
+allowed_states : (W : Store) (e : Entry) → AllowedEntry W e → StatesWhatItsStepGives W e
+allowed_states W e h = go (resolve W e.step) refl h
+  where
+    E : Assertion
+    E = record { statement = e.statement; set = e.set }
+
+    concluded : (s : Resolved) → resolve W e.step ≡ Some s → of_kind s ≡ true → (o : Option Statement) → conclusion W s ≡ o → option_map (λ x. record { statement = x; set = result_set s }) o ≡ Some E → StatesWhatItsStepGives W e
+    concluded s q k None c h = nothing h
+    concluded s q k (Some x) c h =
+        let i : record { statement = x; set = result_set s } ≡ E = some_path (record { statement = x; set = result_set s }) E h in
+        (s, q, k, c ∙ ap Some (ap statement_of i), ap set_of i)
+
+    tested : (s : Resolved) → resolve W e.step ≡ Some s → (b : Bool) → of_kind s ≡ b → cond b (option_map (λ x. record { statement = x; set = result_set s }) (conclusion W s)) None ≡ Some E → StatesWhatItsStepGives W e
+    tested s q true k h = concluded s q k (conclusion W s) refl h
+    tested s q false k h = nothing h
+
+    go : (o : Option Resolved) → resolve W e.step ≡ o → option_and_then (given W) o ≡ Some E → StatesWhatItsStepGives W e
+    go None q h = nothing h
+    go (Some s) q h = tested s q (of_kind s) refl h
+
+states_allowed : (W : Store) (e : Entry) → StatesWhatItsStepGives W e → AllowedEntry W e
+states_allowed W e h =
+    ap (option_and_then (given W)) h.1
+    ∙ ap (λ b. cond b (option_map (λ x. record { statement = x; set = result_set h.0 }) (conclusion W h.0)) None) h.2
+    ∙ ap (option_map (λ x. record { statement = x; set = result_set h.0 })) h.3
+    ∙ ap (λ S. Some (record { statement = e.statement; set = S })) h.4
+
+kinds_agree : (a b : Bool) → b ≡ a → same_kind a b ≡ true
+kinds_agree true b e = e
+kinds_agree false b e = not_false b e
+
+entry_reason : (W : Store) → WellFormed W → (e : Entry) → AllowedEntry W e → reason_in W (entry e) ≡ None
+entry_reason W F e h =
+    let g : StatesWhatItsStepGives W e = allowed_states W e h in
+    ap (λ o. reason_of_entry W o e) g.1
+    ∙ none_of (of_kind g.0 && same_kind (concludes_thesis g.0) (is_thesis e.statement)) Kind (reason_of_result (conclusion W g.0) (result_set g.0) e)
+    (both_true (of_kind g.0) (same_kind (concludes_thesis g.0) (is_thesis e.statement)) g.2 (kinds_agree (concludes_thesis g.0) (is_thesis e.statement) (conclusion_kind W F g.0 (resolved W F e.step g.0 g.1) g.2 e.statement g.3)))
+    (ap (λ o. reason_of_result o (result_set g.0) e) g.3
+    ∙ none_of (equal_statements e.statement e.statement) Conclusion (unless (same_set (result_set g.0) e.set) Set None) (stmt_self e.statement)
+    (none_of (same_set (result_set g.0) e.set) Set None (subst (λ S. same_set S e.set ≡ true) (sym g.4) (same_set_self e.set)) refl))
+
+pub no_reason : (W : Store) → WellFormed W → (i : Item) → AllowedIn W i → reason_in W i ≡ None
+no_reason W F (variable v n p) h = variable_reason W v p h
+no_reason W F (metavariable n p) h = metavariable_reason W p h
+no_reason W F (rule n ms p) h = rule_reason W n ms p h
+no_reason W F (entry e) h = entry_reason W F e h
+no_reason W F (shown p) h = shown_reason W p h
+
+-- and back
+variable_allowed : (W : Store) (v p : ℕ) → unless (is_next W.variables v) Number (reason_of_variable (entry_named W p)) ≡ None → AllowedVariable W v p
+variable_allowed W v p h = let k : (is_next W.variables v ≡ true) × (reason_of_variable (entry_named W p) ≡ None) = unless_none (is_next W.variables v) Number (reason_of_variable (entry_named W p)) h in go k.0 (entry_named W p) refl k.1
+  where
+    go : is_next W.variables v ≡ true → (o : Option Assertion) → entry_named W p ≡ o → reason_of_variable o ≡ None → AllowedVariable W v p
+    go n None q h = nothing (sym h)
+    go n (Some a) q h =
+        let t : (is_thesis a.statement ≡ true) × (unless (is_plain_type a.statement) Premise None ≡ None) = unless_none (is_thesis a.statement) Kind (unless (is_plain_type a.statement) Premise None) h in
+        (n, a, q, (unless_none (is_plain_type a.statement) Premise None t.1).0)
+
+metavariable_allowed : (W : Store) (p : ℕ) → reason_of_metavariable (entry_named W p) ≡ None → AllowedMetavariable W p
+metavariable_allowed W p h = go (entry_named W p) refl h
+  where
+    go : (o : Option Assertion) → entry_named W p ≡ o → reason_of_metavariable o ≡ None → AllowedMetavariable W p
+    go None q h = nothing (sym h)
+    go (Some a) q h =
+        let t : (not (is_thesis a.statement) ≡ true) × (unless (metavariables_only a.set) Loose None ≡ None) = unless_none (not (is_thesis a.statement)) Kind (unless (metavariables_only a.set) Loose None) h in
+        (a, q, not_true (is_thesis a.statement) t.0, (unless_none (metavariables_only a.set) Loose None t.1).0)
+
+rule_allowed : (W : Store) (n : Name) (ms : List ℕ) (p : ℕ) → reason_in W (rule n ms p) ≡ None → AllowedRule W n ms p
+rule_allowed W n ms p h =
+    let j : (is_new W.names n ≡ true) × (unless (nat_lt (length W.rules) 65536) Many (reason_of_rule (each (metavariable_named W) ms) (entry_named W p)) ≡ None) = unless_none (is_new W.names n) Named (unless (nat_lt (length W.rules) 65536) Many (reason_of_rule (each (metavariable_named W) ms) (entry_named W p))) h in
+    let k : (nat_lt (length W.rules) 65536 ≡ true) × (reason_of_rule (each (metavariable_named W) ms) (entry_named W p) ≡ None) = unless_none (nat_lt (length W.rules) 65536) Many (reason_of_rule (each (metavariable_named W) ms) (entry_named W p)) j.1 in
+    go j.0 (ltb-true (length W.rules) 65536 k.0) (each (metavariable_named W) ms) refl (entry_named W p) refl k.1
+  where
+    go : is_new W.names n ≡ true → length W.rules < 65536 → (os : Option (List (ℕ × Declared))) → each (metavariable_named W) ms ≡ os → (o : Option Assertion) → entry_named W p ≡ o → reason_of_rule os o ≡ None → AllowedRule W n ms p
+    go nn l None i o q h = nothing (sym h)
+    go nn l (Some ds) i None q h = nothing (sym h)
+    go nn l (Some ds) i (Some a) q h =
+        let t : (((differ (atoms ds) && not (is_thesis a.statement)) && is_plain a.statement) ≡ true) × (unless (on_earlier [] ds && is_within a.set (atoms ds)) Loose None ≡ None) = unless_none ((differ (atoms ds) && not (is_thesis a.statement)) && is_plain a.statement) Kind (unless (on_earlier [] ds && is_within a.set (atoms ds)) Loose None) h in
+        let t1 : ((differ (atoms ds) && not (is_thesis a.statement)) ≡ true) × (is_plain a.statement ≡ true) = both (differ (atoms ds) && not (is_thesis a.statement)) (is_plain a.statement) t.0 in
+        let t2 : (differ (atoms ds) ≡ true) × (not (is_thesis a.statement) ≡ true) = both (differ (atoms ds)) (not (is_thesis a.statement)) t1.0 in
+        let u1 : (on_earlier [] ds ≡ true) × (is_within a.set (atoms ds) ≡ true) = both (on_earlier [] ds) (is_within a.set (atoms ds)) (unless_none (on_earlier [] ds && is_within a.set (atoms ds)) Loose None t.1).0 in
+        (nn, l, ds, i, a, q, t2.0, not_true (is_thesis a.statement) t2.1, t1.1, u1.0, u1.1)
+
+shown_allowed : (W : Store) (p : ℕ) → reason_of_shown (entry_named W p) ≡ None → AllowedShown W p
+shown_allowed W p h = go (entry_named W p) refl h
+  where
+    go : (o : Option Assertion) → entry_named W p ≡ o → reason_of_shown o ≡ None → AllowedShown W p
+    go None q h = nothing (sym h)
+    go (Some a) q h = (a, q, (unless_none (is_thesis a.statement) Kind None h).0)
+
+pub allowed : (W : Store) (i : Item) → reason_in W i ≡ None → AllowedIn W i
+allowed W (variable v n p) h = variable_allowed W v p h
+allowed W (metavariable n p) h = metavariable_allowed W p h
+allowed W (rule n ms p) h = rule_allowed W n ms p h
+allowed W (entry e) h = states_allowed W e (as_given W e h)
+allowed W (shown p) h = shown_allowed W p h
+
+pub well_formed_add : (W : Store) → WellFormed W → (i : Item) → AllowedIn W i → WellFormed (add W i)
+well_formed_add W F (variable v n p) h = add_var W F v n p (variable_reason W v p h)
+well_formed_add W F (metavariable n p) h = add_met W F n p (metavariable_reason W p h)
+well_formed_add W F (rule n ms p) h = add_a_rule W F n ms p (rule_reason W n ms p h)
+well_formed_add W F (entry e) h = add_entry W F e (entry_reason W F e h)
+well_formed_add W F (shown p) h = F
+
+pub well_formed_all : (W : Store) → WellFormed W → (items : List Item) → GoodAfter W items → WellFormed (add_all W items)
+well_formed_all W F [] g = F
+well_formed_all W F (i ∷ items) g = well_formed_all (add W i) (well_formed_add W F i g.0) items g.1
+
+pub well_formed_empty : WellFormed empty_store
+well_formed_empty = record { finitary = λ k. tt; metavariables = λ m d q. nothing q; variables = λ v d q. nothing q; entries = λ p a q. nothing q }

@@ -1,0 +1,62 @@
+-- The depth and the size of an expression, and when it is small: what the program forms is small.
+use Rattle.std.specs.Prelude.{ℕ, suc, ◌+◌, ◌^◌, ◌<◌, ◌≤◌, max}
+use Rattle.ft_theory.specs.Expressions.{Expression, bound, free, symbol, meta, Arguments, no_arguments, with_body, dummy, Terms, no_terms, also}
+
+-- The depth of a variable is 1. That of an application is 1 more than the greatest depth of its arguments' bodies, and 1
+-- without them. A dummy has depth 0.
+abbrev mutual
+  pub depth : Expression → ℕ
+  depth (bound i) = 1
+  depth (free v) = 1
+  depth (symbol s a) = suc (depth_of_arguments a)
+  depth (meta m a) = suc (depth_of_terms a)
+
+  pub depth_of_arguments : Arguments → ℕ
+  depth_of_arguments no_arguments = 0
+  depth_of_arguments (with_body n e a) = max (depth e) (depth_of_arguments a)
+  depth_of_arguments (dummy n a) = depth_of_arguments a
+
+  pub depth_of_terms : Terms → ℕ
+  depth_of_terms no_terms = 0
+  depth_of_terms (also t a) = max (depth t) (depth_of_terms a)
+
+-- The size of a variable is 1. That of an application is 1 more than the sum of the sizes of its arguments' bodies. A dummy
+-- has size 0.
+abbrev mutual
+  pub size : Expression → ℕ
+  size (bound i) = 1
+  size (free v) = 1
+  size (symbol s a) = suc (size_of_arguments a)
+  size (meta m a) = suc (size_of_terms a)
+
+  pub size_of_arguments : Arguments → ℕ
+  size_of_arguments no_arguments = 0
+  size_of_arguments (with_body n e a) = size e + size_of_arguments a
+  size_of_arguments (dummy n a) = size_of_arguments a
+
+  pub size_of_terms : Terms → ℕ
+  size_of_terms no_terms = 0
+  size_of_terms (also t a) = size t + size_of_terms a
+
+-- each bound number is below 2 ^ 64 - 1, and no argument has 2 ^ 32 binders or more
+abbrev mutual
+  pub NumbersFit : Expression → Type 0
+  NumbersFit (bound i) = suc i < 2 ^ 64
+  NumbersFit (free v) = Unit {0}
+  NumbersFit (symbol s a) = NumbersFitInArguments a
+  NumbersFit (meta m a) = NumbersFitInTerms a
+
+  pub NumbersFitInArguments : Arguments → Type 0
+  NumbersFitInArguments no_arguments = Unit {0}
+  NumbersFitInArguments (with_body n e a) = (n < 2 ^ 32) × NumbersFit e × NumbersFitInArguments a
+  NumbersFitInArguments (dummy n a) = (n < 2 ^ 32) × NumbersFitInArguments a
+
+  pub NumbersFitInTerms : Terms → Type 0
+  NumbersFitInTerms no_terms = Unit {0}
+  NumbersFitInTerms (also t a) = NumbersFit t × NumbersFitInTerms a
+
+-- An expression is small where its depth is at most 1,000, its size at most 65,536, and its numbers fit.
+pub record IsSmall (e : Expression) : Type 0 where
+  pub low : depth e ≤ 1000
+  pub short : size e ≤ 65536
+  pub numbers : NumbersFit e

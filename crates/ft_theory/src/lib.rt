@@ -1,0 +1,2 @@
+// Expressions, statements, rules, steps and derivations: definitions only, in specs/.
+#![tactic(auto)]

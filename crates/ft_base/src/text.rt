@@ -1,6 +1,6 @@
 //! Texts as lists of bytes.
 
-ghost use Rattle.std.specs.Prelude.{◌≡◌, ◌++◌, [], IfOk, OnOk, OnErr, decimal, encode_utf8_all};
+ghost use Rattle.std.specs.Prelude.{◌≡◌, ◌++◌, [], IfOk, OnOk, OnErr, decimal, encode_utf8, encode_utf8_all};
 
 use crate::memory::Memory;
 use crate::name::Name;
@@ -49,6 +49,21 @@ impl Text {
         self.push(text.as_bytes())
     }
 
+    /// Appends the characters in UTF-8.
+    pub fn push_chars(&mut self, chars: &[char]) -> Result<(), Memory>
+        ensures ok { OnOk result (self.new ≡ self.old ++ encode_utf8_all chars.now) }
+        ensures err { OnErr result (self.new ≡ self.old) }
+    {
+        let length = self.bytes.len();
+        for c in chars {
+            if push_char(&mut self.bytes, *c).is_err() {
+                self.bytes.truncate(length);
+                return Err(Memory);
+            }
+        }
+        Ok(())
+    }
+
     /// Appends the decimal digits of the number, without leading zeros.
     pub fn push_number(&mut self, number: u64) -> Result<(), Memory>
         ensures ok { OnOk result (self.new ≡ self.old ++ decimal number) }
@@ -73,4 +88,13 @@ impl Text {
             bytes: self.bytes.clone()?,
         })
     }
+}
+
+fn push_char(bytes: &mut Vec<u8>, c: char) -> Result<(), Memory>
+    ensures ok { OnOk result (bytes.new.items ≡ bytes.old.items ++ encode_utf8 c) }
+    ensures err { OnErr result (bytes.new.items ≡ bytes.old.items) }
+{
+    let mut buffer = [0; 4];
+    bytes.extend_from_slice(c.encode_utf8(&mut buffer).as_bytes())?;
+    Ok(())
 }

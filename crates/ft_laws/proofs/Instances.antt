@@ -4,7 +4,9 @@ use Rattle.ft_theory.specs.Expressions.{Expression, bound, free, meta, Terms, no
 use Rattle.ft_theory.specs.Statements.{equal_terms, Statement, plain, abstracted, opened, domain_count, at, fill, equate, IsObject, IsEquation}
 use Rattle.ft_theory.specs.Rules.{look_up, Rule, term_typings, term_equations}
 use Rattle.ft_theory.specs.Steps.{sequent, sequents, IsVariableFree, Step, metavariable, metavariable_equation, metavariable_congruence, Trees, node, more, Prim}
-use Rattle.ft_laws.proofs.Acts.{IsClosedMap}
+use Rattle.ft_laws.specs.Syntax.{HasClosedBodies}
+use Rattle.ft_laws.specs.Instances.{StaysOrGiven, stays, given, EquationStaysOrHolds, stays_equation, given_equation, IsInstance, StaysOrGivenInBoth, both_stay, both_given, AreEqualInstances}
+use Rattle.ft_laws.proofs.Acts.{IsClosedMap, ClosedBody}
 use Rattle.ft_laws.proofs.Steps.{do_variable}
 use Rattle.ft_laws.proofs.Scope.{scope, Fine, FineTerms, object-at, domain_count-at, stmt_head, Fine_typings}
 use Rattle.ft_laws.proofs.Statements.{fill-map, equate-map, domain_count-map, object-opened, object-map, equation-map, act_stmt_nothing, fill_any}
@@ -17,20 +19,13 @@ use Rattle.ft_laws.proofs.Equal.{RelArgs, EqHere, Eq, grow}
 use Rattle.ft_laws.proofs.Relate.{Pairs, relate, related_args}
 use Rattle.ft_laws.proofs.EqualTerms.{head_flat, reify_flat, transitive_flat, staying, itself, right_side}
 
--- an object metavariable stays, or has an argument
-pub data Place (T : List Rule) (N : List (ℕ × Statement)) (H : List (ℕ × Expression)) (i : ℕ → ℕ → Option Expression) (m : ℕ) (b : Statement) : Type 0 where
-  stays : i m (domain_count b) ≡ None → look_up N m ≡ Some (inst_of i b) → IsVariableFree (inst_of i b) → Place T N H i m b
-  given : (e : Expression) → i m (domain_count b) ≡ Some e → Prim T N H (fill (inst_of i b) e) → Place T N H i m b
-
-pub data EquationPlace (T : List Rule) (N : List (ℕ × Statement)) (H : List (ℕ × Expression)) (i : ℕ → ℕ → Option Expression) (m : ℕ) (b : Statement) : Type 0 where
-  stays_equation : look_up N m ≡ Some (inst_of i b) → IsVariableFree (inst_of i b) → EquationPlace T N H i m b
-  given_equation : Prim T N H (fill (inst_of i b) (bound zero)) → EquationPlace T N H i m b
-
-pub record IsInstance (T : List Rule) (M : List (ℕ × Statement)) (G : List (ℕ × Expression)) (N : List (ℕ × Statement)) (H : List (ℕ × Expression)) (i : ℕ → ℕ → Option Expression) : Type 0 where
-  pub closed : IsClosedMap free i
-  pub frees : (v : ℕ) (A : Expression) → look_up G v ≡ Some A → look_up H v ≡ Some (act free i A)
-  pub objects : (m : ℕ) (b : Statement) → look_up M m ≡ Some b → IsVariableFree b → IsObject b → Place T N H i m b
-  pub equated_premises : (m : ℕ) (b : Statement) → look_up M m ≡ Some b → IsVariableFree b → IsEquation b → EquationPlace T N H i m b
+-- an instance with closed bodies acts as a closed map
+pub closed_map : (i : ℕ → ℕ → Option Expression) → HasClosedBodies i → IsClosedMap free i
+closed_map i h = record { frees = λ v. tt; bodies = λ m k. body m k (i m k) (λ e q. h m k e q) }
+  where
+    body : (m k : ℕ) (o : Option Expression) → ((e : Expression) → o ≡ Some e → ClosedAt k e) → ClosedBody o k
+    body m k None h = tt
+    body m k (Some e) h = h e refl
 
 -- the argument of an object metavariable, at its terms
 applied_none : (i : ℕ → ℕ → Option Expression) (m k : ℕ) (a : Terms) → count a ≡ k → i m k ≡ None → applied i m a ≡ meta m a
@@ -89,17 +84,17 @@ closed_pairs T N H x a c d ts =
 
 pub instance_maps : (T : List Rule) → ScopedTheory T → (M : List (ℕ × Statement)) (G : List (ℕ × Expression)) (N : List (ℕ × Statement)) (H : List (ℕ × Expression)) (i : ℕ → ℕ → Option Expression) → IsInstance T M G N H i → Maps T M G N H free i
 instance_maps T sc M G N H i s = record {
-  closed = s.closed;
-  frees = λ v A q K g p. do_variable v (g v (act free i A) (s.frees v A q)) p;
+  closed = closed_map i s.closed;
+  frees = λ v A q K g p. do_variable v (g v (act free i A) (s.variables v A q)) p;
   objects = λ m b q gl o K g a d p ts. object m b (s.objects m b q gl o) K g o a d p ts;
-  equated_premises = λ m b q gl o K g a d p ts. equation m b (s.equated_premises m b q gl o) K g o a d p ts;
+  equations = λ m b q gl o K g a d p ts. equation m b (s.equations m b q gl o) K g o a d p ts;
   congruences = λ m b q gl o K g a c d d' p p' ts. congruent m b (s.objects m b q gl o) K g o a c d d' p p' ts;
 }
   where
     dep : (b : Statement) → domain_count (inst_of i b) ≡ domain_count b
     dep b = domain_count-map b (λ l. act free i) zero
 
-    object : (m : ℕ) (b : Statement) → Place T N H i m b → (K : List (ℕ × Expression)) → Grows H K → IsObject b → (a : Terms) → count a ≡ domain_count b → Prim T N K (inst_of i b) → Trees (Step T) (sequents N K (term_typings (inst_of i b) a)) → Prim T N K (fill (at (inst_of i b) a) (applied i m a))
+    object : (m : ℕ) (b : Statement) → StaysOrGiven T N H i m b → (K : List (ℕ × Expression)) → Grows H K → IsObject b → (a : Terms) → count a ≡ domain_count b → Prim T N K (inst_of i b) → Trees (Step T) (sequents N K (term_typings (inst_of i b) a)) → Prim T N K (fill (at (inst_of i b) a) (applied i m a))
     object m b (stays n q gl) K g o a d p ts =
         subst (λ h. Prim T N K (fill (at (inst_of i b) a) h)) (sym (applied_none i m (domain_count b) a d n))
         (node (sequent N K (inst_of i b) ∷ sequents N K (term_typings (inst_of i b) a)) (metavariable m (inst_of i b) a q gl (object-map b (λ l. act free i) zero o) (d ∙ sym (dep b))) (more p ts))
@@ -107,13 +102,13 @@ instance_maps T sc M G N H i s = record {
         subst (λ h. Prim T N K (fill (at (inst_of i b) a) h)) (sym (applied_some i m (domain_count b) a e d q))
         (at_body T sc N K (inst_of i b) e a (object-map b (λ l. act free i) zero o) (d ∙ sym (dep b)) (grow T sc N H K (fill (inst_of i b) e) g t) ts)
 
-    equation : (m : ℕ) (b : Statement) → EquationPlace T N H i m b → (K : List (ℕ × Expression)) → Grows H K → IsEquation b → (a : Terms) → count a ≡ domain_count b → Prim T N K (inst_of i b) → Trees (Step T) (sequents N K (term_typings (inst_of i b) a)) → Prim T N K (fill (at (inst_of i b) a) (bound zero))
+    equation : (m : ℕ) (b : Statement) → EquationStaysOrHolds T N H i m b → (K : List (ℕ × Expression)) → Grows H K → IsEquation b → (a : Terms) → count a ≡ domain_count b → Prim T N K (inst_of i b) → Trees (Step T) (sequents N K (term_typings (inst_of i b) a)) → Prim T N K (fill (at (inst_of i b) a) (bound zero))
     equation m b (stays_equation q gl) K g o a d p ts =
         node (sequent N K (inst_of i b) ∷ sequents N K (term_typings (inst_of i b) a)) (metavariable_equation m (inst_of i b) a q gl (equation-map b (λ l. act free i) zero o) (d ∙ sym (dep b))) (more p ts)
     equation m b (given_equation t) K g o a d p ts =
         at_equation T sc N K (inst_of i b) (bound zero) a (equation-map b (λ l. act free i) zero o) (d ∙ sym (dep b)) (grow T sc N H K (fill (inst_of i b) (bound zero)) g t) ts
 
-    congruent : (m : ℕ) (b : Statement) → Place T N H i m b → (K : List (ℕ × Expression)) → Grows H K → IsObject b → (a c : Terms) → count a ≡ domain_count b → count c ≡ domain_count b → Prim T N K (fill (at (inst_of i b) a) (applied i m a)) → Prim T N K (fill (at (inst_of i b) a) (applied i m c)) → Trees (Step T) (sequents N K (term_equations (inst_of i b) a c)) → Prim T N K (equate (at (inst_of i b) a) (applied i m a) (applied i m c))
+    congruent : (m : ℕ) (b : Statement) → StaysOrGiven T N H i m b → (K : List (ℕ × Expression)) → Grows H K → IsObject b → (a c : Terms) → count a ≡ domain_count b → count c ≡ domain_count b → Prim T N K (fill (at (inst_of i b) a) (applied i m a)) → Prim T N K (fill (at (inst_of i b) a) (applied i m c)) → Trees (Step T) (sequents N K (term_equations (inst_of i b) a c)) → Prim T N K (equate (at (inst_of i b) a) (applied i m a) (applied i m c))
     congruent m b (stays n q gl) K g o a c d d' p p' ts =
         let A : applied i m a ≡ meta m a = applied_none i m (domain_count b) a d n in
         let C : applied i m c ≡ meta m c = applied_none i m (domain_count b) c d' n in
@@ -130,28 +125,18 @@ instance_maps T sc M G N H i s = record {
 pub instantiate : (T : List Rule) → ScopedTheory T → (M : List (ℕ × Statement)) (G : List (ℕ × Expression)) (N : List (ℕ × Statement)) (H : List (ℕ × Expression)) (i : ℕ → ℕ → Option Expression) (x : Statement) → IsInstance T M G N H i → Prim T M G x → Prim T N H (inst_of i x)
 instantiate T sc M G N H i x s p = traverse T sc (sequent M G x) p N H free i (instance_maps T sc M G N H i s)
 
--- two instances: an object metavariable stays in both, or has equal arguments
-pub data TwoPlaces (T : List Rule) (N : List (ℕ × Statement)) (H : List (ℕ × Expression)) (i j : ℕ → ℕ → Option Expression) (m : ℕ) (b : Statement) : Type 0 where
-  both_stay : i m (domain_count b) ≡ None → j m (domain_count b) ≡ None → look_up N m ≡ Some (inst_of i b) → IsVariableFree (inst_of i b) → inst_of j b ≡ inst_of i b → TwoPlaces T N H i j m b
-  both_given : (e f : Expression) → i m (domain_count b) ≡ Some e → j m (domain_count b) ≡ Some f → Prim T N H (fill (inst_of i b) e) → Prim T N H (equate (inst_of i b) e f) → TwoPlaces T N H i j m b
-
-pub record AreEqual (T : List Rule) (M : List (ℕ × Statement)) (G : List (ℕ × Expression)) (N : List (ℕ × Statement)) (H : List (ℕ × Expression)) (i j : ℕ → ℕ → Option Expression) : Type 0 where
-  pub left : IsInstance T M G N H i
-  pub closed : IsClosedMap free j
-  pub places : (m : ℕ) (b : Statement) → look_up M m ≡ Some b → IsVariableFree b → IsObject b → TwoPlaces T N H i j m b
-
-pub equal_pairs : (T : List Rule) → ScopedTheory T → (M : List (ℕ × Statement)) (G : List (ℕ × Expression)) (N : List (ℕ × Statement)) (H : List (ℕ × Expression)) (i j : ℕ → ℕ → Option Expression) → AreEqual T M G N H i j → Pairs T M G N H free i free j
+pub equal_pairs : (T : List Rule) → ScopedTheory T → (M : List (ℕ × Statement)) (G : List (ℕ × Expression)) (N : List (ℕ × Statement)) (H : List (ℕ × Expression)) (i j : ℕ → ℕ → Option Expression) → AreEqualInstances T M G N H i j → Pairs T M G N H free i free j
 equal_pairs T sc M G N H i j s = record {
   left = instance_maps T sc M G N H i s.left;
-  closed = s.closed;
-  related = λ v A q. inl (v, refl, refl, s.left.frees v A q);
-  heads = λ m b q gl o K g a c d d' p e ta tc pp. heads m b (s.places m b q gl o) K g o a c d d' p e ta tc pp;
+  closed = closed_map j s.closed;
+  related = λ v A q. inl (v, refl, refl, s.left.variables v A q);
+  heads = λ m b q gl o K g a c d d' p e ta tc pp. heads m b (s.objects m b q gl o) K g o a c d d' p e ta tc pp;
 }
   where
     dep : (i : ℕ → ℕ → Option Expression) (b : Statement) → domain_count (inst_of i b) ≡ domain_count b
     dep i b = domain_count-map b (λ l. act free i) zero
 
-    heads : (m : ℕ) (b : Statement) → TwoPlaces T N H i j m b → (K : List (ℕ × Expression)) → Grows H K → IsObject b → (a c : Terms) → count a ≡ domain_count b → count c ≡ domain_count b
+    heads : (m : ℕ) (b : Statement) → StaysOrGivenInBoth T N H i j m b → (K : List (ℕ × Expression)) → Grows H K → IsObject b → (a c : Terms) → count a ≡ domain_count b → count c ≡ domain_count b
         → Prim T N K (inst_of i b) → Eq T N K (inst_of i b) (inst_of j b) → Trees (Step T) (sequents N K (term_typings (inst_of i b) a)) → Trees (Step T) (sequents N K (term_typings (inst_of j b) c)) → Trees (Step T) (sequents N K (term_equations (inst_of i b) a c))
         → EqHere T N K (fill (at (inst_of i b) a) (applied i m a)) (fill (at (inst_of j b) c) (applied j m c))
     heads m b (both_stay n n' q gl same) K g o a c d d' p e ta tc pp =
@@ -183,5 +168,5 @@ equal_pairs T sc M G N H i j s = record {
         (transitive_flat T N K (at bi a) (put (pushes bound a) f) (put (pushes bound a) k) (put (pushes bound c) k) (domain_count-at a bi di) (object-at a bi oi) one two))
 
 -- LAW: equal instances
-pub equal_instances : (T : List Rule) → ScopedTheory T → (M : List (ℕ × Statement)) (G : List (ℕ × Expression)) (N : List (ℕ × Statement)) (H : List (ℕ × Expression)) (i j : ℕ → ℕ → Option Expression) (x : Statement) → AreEqual T M G N H i j → Prim T M G x → Eq T N H (inst_of i x) (inst_of j x)
+pub equal_instances : (T : List Rule) → ScopedTheory T → (M : List (ℕ × Statement)) (G : List (ℕ × Expression)) (N : List (ℕ × Statement)) (H : List (ℕ × Expression)) (i j : ℕ → ℕ → Option Expression) (x : Statement) → AreEqualInstances T M G N H i j → Prim T M G x → Eq T N H (inst_of i x) (inst_of j x)
 equal_instances T sc M G N H i j x s p = relate T sc (sequent M G x) p N H free i free j (equal_pairs T sc M G N H i j s)

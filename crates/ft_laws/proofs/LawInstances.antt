@@ -13,8 +13,9 @@ use Rattle.ft_laws.proofs.Statements.{stmt_mono, act_stmt_agree, act_stmt_nothin
 use Rattle.ft_laws.proofs.Commute.{ScopedTheory, act-fill}
 use Rattle.ft_laws.proofs.Traverse.{inst_of}
 use Rattle.ft_laws.proofs.Equal.{Eq, reify}
-use Rattle.ft_laws.proofs.Instances.{Place, stays, given, EquationPlace, stays_equation, given_equation, IsInstance, TwoPlaces, both_stay, both_given, AreEqual, instantiate, equal_instances}
-use Rattle.ft_laws.proofs.Rules.{given_object, given_eq, given_two, closed_instance, closed_bodies, right_closed, past, found, nothing}
+use Rattle.ft_laws.specs.Instances.{StaysOrGiven, stays, given, EquationStaysOrHolds, stays_equation, given_equation, IsInstance, StaysOrGivenInBoth, both_stay, both_given, AreEqualInstances}
+use Rattle.ft_laws.proofs.Instances.{instantiate, equal_instances}
+use Rattle.ft_laws.proofs.Rules.{given_object, given_eq, given_two, closed_instance, has_closed_bodies, right_closed, past, found, nothing}
 use Rattle.ft_laws.proofs.Finitary.{scoped}
 use Rattle.ft_laws.proofs.Admissible.{law, finitary_sound}
 
@@ -50,12 +51,12 @@ instance_derivable : (T : List Rule) (ms M : List (ℕ × Statement)) (G : List 
     → FitsPremises ms a → Trees (Step T) (sequents M G (filled_premises (instance_of ms a) ms a)) → IsInstance T (ms ++ M) G M G (instance_of ms a)
 instance_derivable T ms M G a av am f ts = record {
   closed = closed_instance T M G (instance_of ms a) ms a f ts;
-  frees = λ v A q. q ∙ ap Some (sym (avoid ms a A (av v A q)));
+  variables = λ v A q. q ∙ ap Some (sym (avoid ms a A (av v A q)));
   objects = λ m b q gl o. object m b gl o (cases ms M m b q);
-  equated_premises = λ m b q gl o. equation m b gl o (cases ms M m b q);
+  equations = λ m b q gl o. equation m b gl o (cases ms M m b q);
 }
   where
-    object : (m : ℕ) (b : Statement) → IsVariableFree b → IsObject b → (look_up ms m ≡ Some b) ⊎ ((look_up ms m ≡ None) × (look_up M m ≡ Some b)) → Place T M G (instance_of ms a) m b
+    object : (m : ℕ) (b : Statement) → IsVariableFree b → IsObject b → (look_up ms m ≡ Some b) ⊎ ((look_up ms m ≡ None) × (look_up M m ≡ Some b)) → StaysOrGiven T M G (instance_of ms a) m b
     object m b gl o (inl q) =
         let r : (e : Expression) × (instance_of ms a m (domain_count b) ≡ Some e) × Prim T M G (fill (inst_of (instance_of ms a) b) e) = given_object T M G (instance_of ms a) ms a m b f ts q o in
         given r.0 r.1 r.2
@@ -63,21 +64,21 @@ instance_derivable T ms M G a av am f ts = record {
         let E : inst_of (instance_of ms a) b ≡ b = avoid_stmt ms a b (am m b q.1) in
         stays (inst_none ms a m (domain_count b) q.0) (q.1 ∙ ap Some (sym E)) (subst IsVariableFree (sym E) gl)
 
-    equation : (m : ℕ) (b : Statement) → IsVariableFree b → IsEquation b → (look_up ms m ≡ Some b) ⊎ ((look_up ms m ≡ None) × (look_up M m ≡ Some b)) → EquationPlace T M G (instance_of ms a) m b
+    equation : (m : ℕ) (b : Statement) → IsVariableFree b → IsEquation b → (look_up ms m ≡ Some b) ⊎ ((look_up ms m ≡ None) × (look_up M m ≡ Some b)) → EquationStaysOrHolds T M G (instance_of ms a) m b
     equation m b gl o (inl q) = given_equation (given_eq T M G (instance_of ms a) ms a m b f ts q o)
     equation m b gl o (inr q) =
         let E : inst_of (instance_of ms a) b ≡ b = avoid_stmt ms a b (am m b q.1) in
         stays_equation (q.1 ∙ ap Some (sym E)) (subst IsVariableFree (sym E) gl)
 
 equal_of : (T : List Rule) → ScopedTheory T → (ms M : List (ℕ × Statement)) (G : List (ℕ × Expression)) (a c : Arguments) → ((v : ℕ) (A : Expression) → look_up G v ≡ Some A → Avoids ms A) → ((m : ℕ) (b : Statement) → look_up M m ≡ Some b → StatementAvoids ms b)
-    → FitsPremises ms a → FitsPremises ms c → Trees (Step T) (sequents M G (filled_premises (instance_of ms a) ms a)) → Trees (Step T) (sequents M G (equated_premises (instance_of ms a) ms a c)) → AreEqual T (ms ++ M) G M G (instance_of ms a) (instance_of ms c)
+    → FitsPremises ms a → FitsPremises ms c → Trees (Step T) (sequents M G (filled_premises (instance_of ms a) ms a)) → Trees (Step T) (sequents M G (equated_premises (instance_of ms a) ms a c)) → AreEqualInstances T (ms ++ M) G M G (instance_of ms a) (instance_of ms c)
 equal_of T sc ms M G a c av am f f' ts es = record {
   left = instance_derivable T ms M G a av am f ts;
-  closed = record { frees = λ v. tt; bodies = λ m k. closed_bodies ms c m k (right_closed T sc M G (instance_of ms a) ms a c f f' es) };
-  places = λ m b q gl o. place m b gl o (cases ms M m b q);
+  closed = has_closed_bodies ms c (right_closed T sc M G (instance_of ms a) ms a c f f' es);
+  objects = λ m b q gl o. place m b gl o (cases ms M m b q);
 }
   where
-    place : (m : ℕ) (b : Statement) → IsVariableFree b → IsObject b → (look_up ms m ≡ Some b) ⊎ ((look_up ms m ≡ None) × (look_up M m ≡ Some b)) → TwoPlaces T M G (instance_of ms a) (instance_of ms c) m b
+    place : (m : ℕ) (b : Statement) → IsVariableFree b → IsObject b → (look_up ms m ≡ Some b) ⊎ ((look_up ms m ≡ None) × (look_up M m ≡ Some b)) → StaysOrGivenInBoth T M G (instance_of ms a) (instance_of ms c) m b
     place m b gl o (inl q) =
         let r : (e : Expression) × (instance_of ms a m (domain_count b) ≡ Some e) × Prim T M G (fill (inst_of (instance_of ms a) b) e) = given_object T M G (instance_of ms a) ms a m b f ts q o in
         let s : (x y : Expression) × (instance_of ms a m (domain_count b) ≡ Some x) × (instance_of ms c m (domain_count b) ≡ Some y) × Prim T M G (equate (inst_of (instance_of ms a) b) x y) = given_two T M G (instance_of ms a) ms a c m b f f' es q o in

@@ -6,7 +6,7 @@ use Rattle.ft_theory.specs.Rules.{look_up, Rule, instance_of, FitsPremises, fill
 use Rattle.ft_theory.specs.Steps.{sequent, sequents, Step, Trees, none, more, Prim}
 use Rattle.ft_theory.specs.Derivability.{PremisesHold}
 use Rattle.std.specs.Prelude.{◌++◌, ◌&&◌}
-use Rattle.ft_laws.proofs.Acts.{IsClosedMap, ClosedBody}
+use Rattle.ft_laws.proofs.Acts.{ClosedBody}
 use Rattle.ft_laws.proofs.Opens.{same, other, by_test}
 use Rattle.std.proofs.lemmas.Bool.Decides.{eqb_tells}
 use Rattle.ft_laws.proofs.Steps.{do_symmetric_types, do_symmetric_terms, do_convert_equation}
@@ -19,7 +19,9 @@ use Rattle.ft_laws.proofs.Peel.{domain_count-fill}
 use Rattle.ft_laws.proofs.Equal.{EqCore, Eq, grow, eq_here, eq_plain, eq_open, eq_abs, rel_same, types_of, transport, reify_core}
 use Rattle.ft_laws.proofs.Relate.{head_here, equation_here_core}
 use Rattle.ft_laws.proofs.EqualTerms.{itself, right_side}
-use Rattle.ft_laws.proofs.Instances.{given, given_equation, IsInstance, both_given, AreEqual, equal_instances}
+use Rattle.ft_laws.specs.Syntax.{HasClosedBodies}
+use Rattle.ft_laws.specs.Instances.{given, given_equation, IsInstance, both_given, AreEqualInstances}
+use Rattle.ft_laws.proofs.Instances.{equal_instances}
 
 -- a boundary equal to another, with one head
 pub with_head : (T : List Rule) → ScopedTheory T → (M : List (ℕ × Statement)) (n : ℕ) (G : List (ℕ × Expression)) (b c y : Statement) (h k : Expression) → domain_count b ≡ n → domain_count c ≡ n → domain_count y ≡ n → IsObject b → IsObject c → IsObject y → Eq T M G b c → Eq T M G (fill b h) (fill y k) → Eq T M G (fill b h) (fill c k)
@@ -179,15 +181,18 @@ and_right false c e = absurd (clash e)
     clash : false ≡ true → ⊥
     clash e = cc
 
-pub closed_bodies : (ps : List (ℕ × Statement)) (a : Arguments) (m k : ℕ) → ClosedArguments zero a → ClosedBody (instance_of ps a m k) k
+closed_bodies : (ps : List (ℕ × Statement)) (a : Arguments) (m k : ℕ) → ClosedArguments zero a → ClosedBody (instance_of ps a m k) k
 closed_bodies [] a m k c = tt
 closed_bodies (p ∷ ps) no_arguments m k c = tt
 closed_bodies (p ∷ ps) (with_body n e a) m k c = closed_choice (nat_eq m p.0 && nat_eq k n) e (instance_of ps a m k) k
     (λ h. subst (λ l. ClosedAt l e) (omega arith ∙ sym (eqb-true k n (and_right (nat_eq m p.0) (nat_eq k n) h))) c.0) (closed_bodies ps a m k c.1)
 closed_bodies (p ∷ ps) (dummy n a) m k c = closed_bodies ps a m k c
 
-pub closed_instance : (T : List Rule) (N : List (ℕ × Statement)) (H : List (ℕ × Expression)) (i : ℕ → ℕ → Option Expression) (ps : List (ℕ × Statement)) (a : Arguments) → FitsPremises ps a → Trees (Step T) (sequents N H (filled_premises i ps a)) → IsClosedMap free (instance_of ps a)
-closed_instance T N H i ps a f ts = record { frees = λ v. tt; bodies = λ m k. closed_bodies ps a m k (Fine_demands N H i ps a f (fine_all T (sequents N H (filled_premises i ps a)) ts)).0 }
+pub has_closed_bodies : (ps : List (ℕ × Statement)) (a : Arguments) → ClosedArguments zero a → HasClosedBodies (instance_of ps a)
+has_closed_bodies ps a c m k e q = subst (λ o. ClosedBody o k) q (closed_bodies ps a m k c)
+
+pub closed_instance : (T : List Rule) (N : List (ℕ × Statement)) (H : List (ℕ × Expression)) (i : ℕ → ℕ → Option Expression) (ps : List (ℕ × Statement)) (a : Arguments) → FitsPremises ps a → Trees (Step T) (sequents N H (filled_premises i ps a)) → HasClosedBodies (instance_of ps a)
+closed_instance T N H i ps a f ts = has_closed_bodies ps a (Fine_demands N H i ps a f (fine_all T (sequents N H (filled_premises i ps a)) ts)).0
 
 -- part of a list of premises
 abbrev pub Within : List (ℕ × Statement) → List (ℕ × Statement) → Type 0
@@ -197,11 +202,11 @@ Within M ps = (m : ℕ) (b : Statement) → look_up M m ≡ Some b → look_up p
 pub whole_instance : (T : List Rule) (M : List (ℕ × Statement)) (N : List (ℕ × Statement)) (H : List (ℕ × Expression)) (ps : List (ℕ × Statement)) (a : Arguments) → Within M ps → FitsPremises ps a → Trees (Step T) (sequents N H (filled_premises (instance_of ps a) ps a)) → IsInstance T M [] N H (instance_of ps a)
 whole_instance T M N H ps a w f ts = record {
   closed = closed_instance T N H (instance_of ps a) ps a f ts;
-  frees = λ v A q. nothing q;
+  variables = λ v A q. nothing q;
   objects = λ m b q gl o.
       let r : (e : Expression) × (instance_of ps a m (domain_count b) ≡ Some e) × Prim T N H (fill (inst_of (instance_of ps a) b) e) = given_object T N H (instance_of ps a) ps a m b f ts (w m b q) o in
       given r.0 r.1 r.2;
-  equated_premises = λ m b q gl o. given_equation (given_eq T N H (instance_of ps a) ps a m b f ts (w m b q) o);
+  equations = λ m b q gl o. given_equation (given_eq T N H (instance_of ps a) ps a m b f ts (w m b q) o);
 }
 
 -- the right arguments of equal instances are closed
@@ -221,11 +226,11 @@ right_closed T sc N H i (p ∷ ps) (with_body n e a) (with_body l h c) f f' (mor
     (subst (λ k. ClosedAt (k + zero) h) (domain_count-map p.1 (λ k. act free i) zero ∙ sym f'.0) q, right_closed T sc N H i ps a c f.2 f'.2 ts)
 right_closed T sc N H i (p ∷ ps) (dummy n a) (dummy l c) f f' ts = right_closed T sc N H i ps a c f.2 f'.2 ts
 
-pub whole_pair : (T : List Rule) → ScopedTheory T → (M : List (ℕ × Statement)) (N : List (ℕ × Statement)) (H : List (ℕ × Expression)) (ps : List (ℕ × Statement)) (a c : Arguments) → Within M ps → FitsPremises ps a → FitsPremises ps c → Trees (Step T) (sequents N H (filled_premises (instance_of ps a) ps a)) → Trees (Step T) (sequents N H (equated_premises (instance_of ps a) ps a c)) → AreEqual T M [] N H (instance_of ps a) (instance_of ps c)
+pub whole_pair : (T : List Rule) → ScopedTheory T → (M : List (ℕ × Statement)) (N : List (ℕ × Statement)) (H : List (ℕ × Expression)) (ps : List (ℕ × Statement)) (a c : Arguments) → Within M ps → FitsPremises ps a → FitsPremises ps c → Trees (Step T) (sequents N H (filled_premises (instance_of ps a) ps a)) → Trees (Step T) (sequents N H (equated_premises (instance_of ps a) ps a c)) → AreEqualInstances T M [] N H (instance_of ps a) (instance_of ps c)
 whole_pair T sc M N H ps a c w f f' ts es = record {
   left = whole_instance T M N H ps a w f ts;
-  closed = record { frees = λ v. tt; bodies = λ m k. closed_bodies ps c m k (right_closed T sc N H (instance_of ps a) ps a c f f' es) };
-  places = λ m b q gl o.
+  closed = has_closed_bodies ps c (right_closed T sc N H (instance_of ps a) ps a c f f' es);
+  objects = λ m b q gl o.
       let r : (e : Expression) × (instance_of ps a m (domain_count b) ≡ Some e) × Prim T N H (fill (inst_of (instance_of ps a) b) e) = given_object T N H (instance_of ps a) ps a m b f ts (w m b q) o in
       let s : (x y : Expression) × (instance_of ps a m (domain_count b) ≡ Some x) × (instance_of ps c m (domain_count b) ≡ Some y) × Prim T N H (equate (inst_of (instance_of ps a) b) x y) = given_two T N H (instance_of ps a) ps a c m b f f' es (w m b q) o in
       let same : r.0 ≡ s.0 = some_path r.0 s.0 (sym r.1 ∙ s.2) in

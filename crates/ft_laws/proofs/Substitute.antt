@@ -26,7 +26,7 @@ identity T M N G H e s = record {
       let E : inst_of no_bodies b ≡ b = act_stmt_nothing b in
       subst (λ z. Prim T N K (fill (at z a) (meta m a))) (sym E)
       (node (sequent N K b ∷ sequents N K (term_typings b a)) (metavariable m b a (e m b q) gl o d) (more (subst (λ z. Prim T N K z) E p) (subst (λ z. Trees (Step T) (sequents N K (term_typings z a))) E ts)));
-  equated_premises = λ m b q gl o K s' a d p ts.
+  equations = λ m b q gl o K s' a d p ts.
       let E : inst_of no_bodies b ≡ b = act_stmt_nothing b in
       subst (λ z. Prim T N K (fill (at z a) (bound zero))) (sym E)
       (node (sequent N K b ∷ sequents N K (term_typings b a)) (metavariable_equation m b a (e m b q) gl o d) (more (subst (λ z. Prim T N K z) E p) (subst (λ z. Trees (Step T) (sequents N K (term_typings z a))) E ts)));

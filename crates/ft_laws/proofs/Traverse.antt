@@ -27,7 +27,7 @@ pub record Maps (T : List Rule) (M : List (ℕ × Statement)) (G : List (ℕ × 
   pub closed : IsClosedMap g i
   pub frees : (v : ℕ) (A : Expression) → look_up G v ≡ Some A → (K : List (ℕ × Expression)) → Grows H K → Prim T N K (plain (is_type (act g i A))) → Prim T N K (plain (has_type (g v) (act g i A)))
   pub objects : (m : ℕ) (b : Statement) → look_up M m ≡ Some b → IsVariableFree b → IsObject b → (K : List (ℕ × Expression)) → Grows H K → (a : Terms) → count a ≡ domain_count b → Prim T N K (inst_of i b) → Trees (Step T) (sequents N K (term_typings (inst_of i b) a)) → Prim T N K (fill (at (inst_of i b) a) (applied i m a))
-  pub equated_premises : (m : ℕ) (b : Statement) → look_up M m ≡ Some b → IsVariableFree b → IsEquation b → (K : List (ℕ × Expression)) → Grows H K → (a : Terms) → count a ≡ domain_count b → Prim T N K (inst_of i b) → Trees (Step T) (sequents N K (term_typings (inst_of i b) a)) → Prim T N K (fill (at (inst_of i b) a) (bound zero))
+  pub equations : (m : ℕ) (b : Statement) → look_up M m ≡ Some b → IsVariableFree b → IsEquation b → (K : List (ℕ × Expression)) → Grows H K → (a : Terms) → count a ≡ domain_count b → Prim T N K (inst_of i b) → Trees (Step T) (sequents N K (term_typings (inst_of i b) a)) → Prim T N K (fill (at (inst_of i b) a) (bound zero))
   pub congruences : (m : ℕ) (b : Statement) → look_up M m ≡ Some b → IsVariableFree b → IsObject b → (K : List (ℕ × Expression)) → Grows H K → (a c : Terms) → count a ≡ domain_count b → count c ≡ domain_count b → Prim T N K (fill (at (inst_of i b) a) (applied i m a)) → Prim T N K (fill (at (inst_of i b) a) (applied i m c)) → Trees (Step T) (sequents N K (term_equations (inst_of i b) a c)) → Prim T N K (equate (at (inst_of i b) a) (applied i m a) (applied i m c))
 
 -- g with v sent to t
@@ -78,7 +78,7 @@ under_abs T M G N H K g i v A t m n u f s c h = record {
       subst₂ (λ z D. Prim T N L (plain (has_type z D))) (sym (other w v t (g w) e)) (sym Be)
       (m.frees w B q' L (λ x C r. s' x C (s x C r)) (subst (λ D. Prim T N L (plain (is_type D))) Be p)));
   objects = λ k b q gl o L s'. m.objects k b q gl o L (λ x C r. s' x C (s x C r));
-  equated_premises = λ k b q gl o L s'. m.equated_premises k b q gl o L (λ x C r. s' x C (s x C r));
+  equations = λ k b q gl o L s'. m.equations k b q gl o L (λ x C r. s' x C (s x C r));
   congruences = λ k b q gl o L s'. m.congruences k b q gl o L (λ x C r. s' x C (s x C r));
 }
 
@@ -178,7 +178,7 @@ traverse T sc = induct (Step T) (Carried T) step
         let pb : Prim T N H (inst_of i b) = subst (λ z. Prim T N H z) (global-act b g i gl) (h.0 N H g i m) in
         let pa : Trees (Step T) (sequents N H (term_typings (inst_of i b) (act_terms g i a))) =
         subst (λ xs. Trees (Step T) (sequents N H xs)) (term_typings-act a b g i m.closed fa.0 ∙ ap (λ z. term_typings z (act_terms g i a)) (global-act b g i gl)) (carry_all T M G N H g i m (term_typings b a) h.1) in
-        subst (λ z. Prim T N H z) (sym (meta_equation_path b a g i m.closed gl fa.0)) (m.equated_premises k b q gl o H (Grows_refl H) (act_terms g i a) (count-act a g i ∙ d) pb pa)
+        subst (λ z. Prim T N H z) (sym (meta_equation_path b a g i m.closed gl fa.0)) (m.equations k b q gl o H (Grows_refl H) (act_terms g i a) (count-act a g i ∙ d) pb pa)
     step ps c (metavariable_congruence {M} {G} k b a e q gl o d d') (more tl (more tr ts)) h N H g i m =
         let fa : FineTerms M G a × FineTerms M G e = Closed_pairings M G a e b (d ∙ sym d') (fine_all T (sequents M G (term_equations b a e)) ts) in
         let pl : Prim T N H (fill (at (inst_of i b) (act_terms g i a)) (applied i k (act_terms g i a))) = subst (λ z. Prim T N H z) (meta_path b a k g i m.closed gl fa.0.0) (h.0 N H g i m) in
@@ -220,8 +220,8 @@ traverse T sc = induct (Step T) (Carried T) step
         (subst (λ xs. Trees (Step T) (sequents N H xs)) (filled_premises-act R.premises R.premises a a g i m.closed f (sc r R q).0 f) (carry_all T M G N H g i m (filled_premises (instance_of R.premises a) R.premises a) h.1))))
     step ps c (congruence {M} {G} r R a b q f f' o) ts h N H g i m =
         subst (λ z. Prim T N H (plain z)) (sym (pair_path R a g i (symbol r a) (symbol r b) m.closed f (sc r R q)))
-        (node (sequent N H (plain (fill_goal (conclusion_at R (act_arguments g i a)) (symbol r (act_arguments g i a)))) ∷ sequent N H (plain (fill_goal (conclusion_at R (act_arguments g i a)) (symbol r (act_arguments g i b)))) ∷ sequents N H (Rattle.ft_theory.specs.Rules.equated_premises (instance_of R.premises (act_arguments g i a)) R.premises (act_arguments g i a) (act_arguments g i b)))
+        (node (sequent N H (plain (fill_goal (conclusion_at R (act_arguments g i a)) (symbol r (act_arguments g i a)))) ∷ sequent N H (plain (fill_goal (conclusion_at R (act_arguments g i a)) (symbol r (act_arguments g i b)))) ∷ sequents N H (equated_premises (instance_of R.premises (act_arguments g i a)) R.premises (act_arguments g i a) (act_arguments g i b)))
         (congruence r R (act_arguments g i a) (act_arguments g i b) q (FitsPremises-act R.premises a g i f) (FitsPremises-act R.premises b g i f') o)
         (more (subst (λ z. Prim T N H (plain z)) (rule_path R a g i (symbol r a) m.closed f (sc r R q)) (h.0 N H g i m))
         (more (subst (λ z. Prim T N H (plain z)) (rule_path R a g i (symbol r b) m.closed f (sc r R q)) (h.1.0 N H g i m))
-        (subst (λ xs. Trees (Step T) (sequents N H xs)) (equated_premises-act R.premises R.premises a a b g i m.closed f (sc r R q).0 f f') (carry_all T M G N H g i m (Rattle.ft_theory.specs.Rules.equated_premises (instance_of R.premises a) R.premises a b) h.1.1)))))
+        (subst (λ xs. Trees (Step T) (sequents N H xs)) (equated_premises-act R.premises R.premises a a b g i m.closed f (sc r R q).0 f f') (carry_all T M G N H g i m (equated_premises (instance_of R.premises a) R.premises a b) h.1.1)))))

@@ -215,7 +215,7 @@ holds_map : (D E : List (ℕ × Statement) → Statement → Type 0) → ((M : L
 holds_map D E w M [] h = tt
 holds_map D E w M (p ∷ ps) h = (h.0, h.1, w M p.1 h.2, holds_map D E w (M ++ (p ∷ [])) ps h.3)
 
-rule_before : (T U : List Rule) (r : ℕ) (R : Rule) → rule_at T r ≡ Some R → rule_at (T ++ U) r ≡ Some R
+pub rule_before : (T U : List Rule) (r : ℕ) (R : Rule) → rule_at T r ≡ Some R → rule_at (T ++ U) r ≡ Some R
 rule_before [] U r R q = nothing q
 rule_before (S ∷ T) U zero R q = q
 rule_before (S ∷ T) U (suc r) R q = rule_before T U r R q
@@ -226,33 +226,52 @@ rule_last [] S (suc r) R q = nothing q
 rule_last (Q ∷ T) S zero R q = inl q
 rule_last (Q ∷ T) S (suc r) R q = rule_last T S r R q
 
+-- a rule that is well formed by derivations of one level is so by derivations of another
+rule_holds_map : (D E : List (ℕ × Statement) → Statement → Type 0) → ((M : List (ℕ × Statement)) (x : Statement) → D M x → E M x) → (R : Rule) → RuleHolds D R → RuleHolds E R
+rule_holds_map D E w R h = (holds_map D E w [] R.premises h.0, h.1, w R.premises (plain R.conclusion) h.2)
+
+-- what is derived over a theory is so over the theory with one more rule
+one_more : (T : List Rule) (S : Rule) (M : List (ℕ × Statement)) (x : Statement) → Prim T M [] x → Prim (T ++ (S ∷ [])) M [] x
+one_more T S M x p = more_rules T (T ++ (S ∷ [])) (λ r R q. rule_before T (S ∷ []) r R q) (sequent M [] x) p
+
+-- a theory whose boundaries are primitively derived stays so with a rule that is well formed over it
+sound_longer : (T : List Rule) (S : Rule) → Sound T → RuleHolds (λ M x. Prim T M [] x) S → Sound (T ++ (S ∷ []))
+sound_longer T S so h r R q = of_rule (rule_last T S r R q)
+  where
+    of_rule : (rule_at T r ≡ Some R) ⊎ (S ≡ R) → RuleHolds (λ M x. Prim (T ++ (S ∷ [])) M [] x) R
+    of_rule (inl q) = rule_holds_map (λ M x. Prim T M [] x) (λ M x. Prim (T ++ (S ∷ [])) M [] x) (one_more T S) R (so r R q)
+    of_rule (inr e) = subst (RuleHolds (λ M x. Prim (T ++ (S ∷ [])) M [] x)) e (rule_holds_map (λ M x. Prim T M [] x) (λ M x. Prim (T ++ (S ∷ [])) M [] x) (one_more T S) S h)
+
+rule_is_primitive : (k : ℕ) (T : List Rule) → Sound T → (R : Rule) → RuleHolds (λ M x. DerUpTo k T M [] x) R → RuleHolds (λ M x. Prim T M [] x) R
+rule_is_primitive k T so R h = rule_holds_map (λ M x. DerUpTo k T M [] x) (λ M x. Prim T M [] x) (λ M x p. all_levels T so k (sequent M [] x) p) R h
+
 sound_after : (k : ℕ) (T Rs : List Rule) → Sound T → FinitaryAfter (λ T M x. DerUpTo k T M [] x) T Rs → Sound (T ++ Rs)
 sound_after k T [] so f = subst Sound (sym (append-nil T)) so
-sound_after k T (S ∷ Rs) so f = subst Sound (append_assoc T (S ∷ []) Rs) (sound_after k (T ++ (S ∷ [])) Rs longer f.1)
-  where
-    up : (x : Statement) (M : List (ℕ × Statement)) → Prim T M [] x → Prim (T ++ (S ∷ [])) M [] x
-    up x M p = more_rules T (T ++ (S ∷ [])) (λ r R q. rule_before T (S ∷ []) r R q) (sequent M [] x) p
-
-    new : RuleHolds (λ M x. Prim (T ++ (S ∷ [])) M [] x) S
-    new = (holds_map (λ M x. DerUpTo k T M [] x) (λ M x. Prim (T ++ (S ∷ [])) M [] x) (λ M x p. up x M (all_levels T so k (sequent M [] x) p)) [] S.premises f.0.0, f.0.1, up (plain S.conclusion) S.premises (all_levels T so k (sequent S.premises [] (plain S.conclusion)) f.0.2))
-
-    longer : Sound (T ++ (S ∷ []))
-    longer r R q = go (rule_last T S r R q)
-      where
-        go : (rule_at T r ≡ Some R) ⊎ (S ≡ R) → RuleHolds (λ M x. Prim (T ++ (S ∷ [])) M [] x) R
-        go (inl q) = (holds_map (λ M x. Prim T M [] x) (λ M x. Prim (T ++ (S ∷ [])) M [] x) (λ M x p. up x M p) [] R.premises (so r R q).0, (so r R q).1, up (plain R.conclusion) R.premises (so r R q).2)
-        go (inr e) = subst (RuleHolds (λ M x. Prim (T ++ (S ∷ [])) M [] x)) e new
+sound_after k T (S ∷ Rs) so f = subst Sound (append_assoc T (S ∷ []) Rs) (sound_after k (T ++ (S ∷ [])) Rs (sound_longer T S so (rule_is_primitive k T so S f.0)) f.1)
 
 pub finitary_sound : (k : ℕ) (T : List Rule) → FinitaryUpTo k T → Sound T
 finitary_sound k T f = sound_after k [] T (λ r R q. nothing q) f
 
+-- primitive steps are steps of every level
+pub at_level : (k : ℕ) (T : List Rule) (c : Sequent) → Tree (Step T) c → Tree (StepUpTo k T) c
+at_level k T = induct (Step T) (λ c. Tree (StepUpTo k T) c) (λ ps c s ts h. node ps (inl s) (trees ps h))
+  where
+    trees : (ps : List Sequent) → AllOf (λ c. Tree (StepUpTo k T) c) ps → Trees (StepUpTo k T) ps
+    trees [] h = none
+    trees (p ∷ ps) h = more h.0 (trees ps h.1)
+
 -- THE THEOREM: for each level k, over each theory that is finitary at level k, and for all maps and statements
 pub law : (k : ℕ) (T : List Rule) → FinitaryUpTo k T → (M : List (ℕ × Statement)) (G : List (ℕ × Expression)) (x : Statement) → DerUpTo k T M G x ↔ Prim T M G x
-law k T f M G x = (all_levels T (finitary_sound k T f) k (sequent M G x), back (sequent M G x))
-  where
-    back : (c : Sequent) → Tree (Step T) c → Tree (StepUpTo k T) c
-    back = induct (Step T) (λ c. Tree (StepUpTo k T) c) (λ ps c s ts h. node ps (inl s) (trees ps h))
-      where
-        trees : (ps : List Sequent) → AllOf (λ c. Tree (StepUpTo k T) c) ps → Trees (StepUpTo k T) ps
-        trees [] h = none
-        trees (p ∷ ps) h = more h.0 (trees ps h.1)
+law k T f M G x = (all_levels T (finitary_sound k T f) k (sequent M G x), at_level k T (sequent M G x))
+
+-- finitary at one level is finitary at each
+finitary_after_levels : (k l : ℕ) (T Rs : List Rule) → Sound T → FinitaryAfter (λ T M x. DerUpTo k T M [] x) T Rs → FinitaryAfter (λ T M x. DerUpTo l T M [] x) T Rs
+finitary_after_levels k l T [] so f = tt
+finitary_after_levels k l T (S ∷ Rs) so f =
+    let h : RuleHolds (λ M x. Prim T M [] x) S = rule_is_primitive k T so S f.0 in (
+      rule_holds_map (λ M x. Prim T M [] x) (λ M x. DerUpTo l T M [] x) (λ M x p. at_level l T (sequent M [] x) p) S h,
+      finitary_after_levels k l (T ++ (S ∷ [])) Rs (sound_longer T S so h) f.1,
+    )
+
+pub finitary_levels : (k l : ℕ) (T : List Rule) → FinitaryUpTo k T → FinitaryUpTo l T
+finitary_levels k l T f = finitary_after_levels k l [] T (λ r R q. nothing q) f

@@ -1,5 +1,5 @@
 -- Equal terms in one place.
-use Rattle.std.proofs.Common.{◌≡◌, ℕ, zero, suc, ◌+◌, ◌≤◌, Some, List, ◌∷◌, inl, inr, refl, sym, ap, ◌∙◌, subst, subst₂, arith}
+use Rattle.std.proofs.Common.{◌≡◌, ℕ, zero, suc, ◌+◌, ◌≤◌, Some, None, List, ◌∷◌, inl, inr, refl, sym, ap, ◌∙◌, subst, subst₂, arith}
 use Rattle.ft_theory.specs.Expressions.{Expression, free, meta, Terms, count, body_or, open_at}
 use Rattle.ft_theory.specs.Statements.{Claim, is_type, has_type, equal_types, equal_terms, type_goal, term_goal, type_equation_goal, term_equation_goal, Statement, plain, abstracted, opened, domain_count, at, fill_goal, fill, equate_goal, equate, IsObjectGoal, IsObject}
 use Rattle.ft_theory.specs.Rules.{look_up, Rule, term_typings, term_equations}
@@ -93,11 +93,15 @@ right_of_claim T sc M G (term_equation_goal s t A) h k o p = absurd o
 pub first_domain : (T : List Rule) (M : List (ℕ × Statement)) (G : List (ℕ × Expression)) (A : Expression) (x : Statement) → Prim T M G (abstracted A x) → Prim T M G (plain (is_type A))
 first_domain T M G A x p = Rattle.ft_laws.proofs.Peel.Peeled.first (Rattle.ft_laws.proofs.Peel.peel T (sequent M G (abstracted A x)) A x p refl)
 
-pub at_fresh : (T : List Rule) → ScopedTheory T → (M : List (ℕ × Statement)) (G : List (ℕ × Expression)) (A : Expression) (x : Statement) (w : ℕ) → top_vars G ≤ w → Prim T M G (abstracted A x) → Prim T M ((w, A) ∷ G) (opened (free w) (abstracted A x))
-at_fresh T sc M G A x w l p =
+-- a statement under a domain, opened at a variable that the map lacks
+pub at_absent : (T : List Rule) → ScopedTheory T → (M : List (ℕ × Statement)) (G : List (ℕ × Expression)) (A : Expression) (x : Statement) (w : ℕ) → look_up G w ≡ None → Prim T M G (abstracted A x) → Prim T M ((w, A) ∷ G) (opened (free w) (abstracted A x))
+at_absent T sc M G A x w l p =
     let K : List (ℕ × Expression) = (w, A) ∷ G in
-    let g : Grows G K = Grows_add G G w A (Grows_refl G) (fresh_absent G w l) in
+    let g : Grows G K = Grows_add G G w A (Grows_refl G) l in
     substitute T sc M K A (free w) x (grow T sc M G K (abstracted A x) g p) (Rattle.ft_laws.proofs.Steps.do_variable w (look_here G w A) (grow T sc M G K (plain (is_type A)) g (first_domain T M G A x p)))
+
+pub at_fresh : (T : List Rule) → ScopedTheory T → (M : List (ℕ × Statement)) (G : List (ℕ × Expression)) (A : Expression) (x : Statement) (w : ℕ) → top_vars G ≤ w → Prim T M G (abstracted A x) → Prim T M ((w, A) ∷ G) (opened (free w) (abstracted A x))
+at_fresh T sc M G A x w l p = at_absent T sc M G A x w (fresh_absent G w l) p
 
 pub right_side : (T : List Rule) → ScopedTheory T → (M : List (ℕ × Statement)) (n : ℕ) (G : List (ℕ × Expression)) (b : Statement) (h k : Expression) → domain_count b ≡ n → IsObject b → Prim T M G (equate b h k) → Prim T M G (fill b k)
 right_side T sc M n G (plain c) h k z o p = right_of_claim T sc M G c h k o p

@@ -1,7 +1,7 @@
 -- Weakening and substitution.
 use Rattle.std.proofs.Common.{◌≡◌, ℕ, zero, suc, Some, List, [], ◌∷◌, refl, sym, ap, ◌∙◌, subst, arith}
 use Rattle.ft_theory.specs.Expressions.{Expression, bound, free, meta, Terms, no_terms, also, count, body_or, act, ClosedAt, Without}
-use Rattle.ft_theory.specs.Statements.{has_type, Statement, plain, abstracted, AllOfStatement, act_statement, opened, domain_count, at, fill, equate}
+use Rattle.ft_theory.specs.Statements.{is_type, has_type, Statement, plain, abstracted, AllOfStatement, act_statement, opened, domain_count, at, fill, equate}
 use Rattle.ft_theory.specs.Rules.{look_up, Rule, term_typings, term_equations}
 use Rattle.ft_theory.specs.Steps.{sequent, sequents, Step, metavariable, metavariable_equation, metavariable_congruence, Trees, node, none, more, Prim}
 use Rattle.ft_laws.proofs.Acts.{no_bodies, act_nothing}
@@ -16,12 +16,14 @@ use Rattle.ft_laws.proofs.Traverse.{Grows, Grows_refl, inst_of, Maps, send, send
 abbrev pub Extends : List (ℕ × Statement) → List (ℕ × Statement) → Type 0
 Extends M N = (m : ℕ) (b : Statement) → look_up M m ≡ Some b → look_up N m ≡ Some b
 
--- nothing is put for anything
-pub identity : (T : List Rule) (M N : List (ℕ × Statement)) (G H : List (ℕ × Expression)) → Extends M N → Grows G H → Maps T M G N H free no_bodies
+-- a substitution for free variables, where the metavariables stay
+pub substitution_maps : (T : List Rule) (M N : List (ℕ × Statement)) (G H : List (ℕ × Expression)) (g : ℕ → Expression) → Extends M N → ((v : ℕ) → ClosedAt zero (g v))
+    → ((v : ℕ) (A : Expression) → look_up G v ≡ Some A → (K : List (ℕ × Expression)) → Grows H K → Prim T N K (plain (is_type (act g no_bodies A))) → Prim T N K (plain (has_type (g v) (act g no_bodies A))))
+    → Maps T M G N H g no_bodies
 unfolding body_or
-identity T M N G H e s = record {
-  closed = record { frees = λ v. tt; bodies = λ m k. tt };
-  frees = λ v A q K s' p. do_variable v (subst (λ B. look_up K v ≡ Some B) (sym (act_nothing A)) (s' v A (s v A q))) p;
+substitution_maps T M N G H g e c s = record {
+  closed = record { frees = c; bodies = λ m k. tt };
+  frees = s;
   objects = λ m b q gl o K s' a d p ts.
       let E : inst_of no_bodies b ≡ b = act_stmt_nothing b in
       subst (λ z. Prim T N K (fill (at z a) (meta m a))) (sym E)
@@ -36,6 +38,10 @@ identity T M N G H e s = record {
       (node (sequent N K (fill (at b a) (meta m a)) ∷ sequent N K (fill (at b a) (meta m c)) ∷ sequents N K (term_equations b a c)) (metavariable_congruence m b a c (e m b q) gl o d d')
       (more (subst (λ z. Prim T N K (fill (at z a) (meta m a))) E p) (more (subst (λ z. Prim T N K (fill (at z a) (meta m c))) E p') (subst (λ z. Trees (Step T) (sequents N K (term_equations z a c))) E ts))));
 }
+
+-- nothing is put for anything
+pub identity : (T : List Rule) (M N : List (ℕ × Statement)) (G H : List (ℕ × Expression)) → Extends M N → Grows G H → Maps T M G N H free no_bodies
+identity T M N G H e s = substitution_maps T M N G H free e (λ v. tt) (λ v A q K s' p. do_variable v (subst (λ B. look_up K v ≡ Some B) (sym (act_nothing A)) (s' v A (s v A q))) p)
 
 pub weaken : (T : List Rule) → ScopedTheory T → (M N : List (ℕ × Statement)) (G H : List (ℕ × Expression)) (x : Statement) → Extends M N → Grows G H → Prim T M G x → Prim T N H x
 weaken T sc M N G H x e s p = subst (λ z. Prim T N H z) (act_stmt_nothing x) (traverse T sc (sequent M G x) p N H free no_bodies (identity T M N G H e s))

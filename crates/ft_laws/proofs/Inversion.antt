@@ -17,7 +17,7 @@ use Rattle.ft_laws.proofs.Sides.{parts}
 abbrev pub OfType : List Rule → List (ℕ × Statement) → List (ℕ × Expression) → Expression → Type 0
 OfType T M G (bound i) = Unit {0}
 OfType T M G (free v) = Unit {0}
-OfType T M G (symbol r a) = (R : Rule) × (rule_at T r ≡ Some R) × Trees (Step T) (sequents M G (filled_premises (instance_of R.premises a) R.premises a))
+OfType T M G (symbol r a) = (R : Rule) × (rule_at T r ≡ Some R) × Trees (Step T) (sequents M G (filled_premises (instance_of R.premises a) R.premises a)) × (conclusion_at R a ≡ type_goal)
 OfType T M G (meta m a) = (b : Statement) × (look_up M m ≡ Some b) × Trees (Step T) (sequents M G (term_typings b a))
 
 abbrev pub OfTerm : List Rule → List (ℕ × Statement) → List (ℕ × Expression) → Expression → Expression → Type 0
@@ -52,7 +52,7 @@ from_meta T M G m b a q ts (plain (term_equation_goal s t A)) e o p = absurd o
 from_meta T M G m b a q ts (abstracted A x) e o p = tt
 
 from_symbol : (T : List Rule) (M : List (ℕ × Statement)) (G : List (ℕ × Expression)) (r : ℕ) (R : Rule) (a : Arguments) → rule_at T r ≡ Some R → Trees (Step T) (sequents M G (filled_premises (instance_of R.premises a) R.premises a)) → (c : Claim) → conclusion_at R a ≡ c → IsObjectGoal c → Prim T M G (plain c) → FromCore T M G (fill_goal c (symbol r a))
-from_symbol T M G r R a q ts type_goal e o p = (R, q, ts)
+from_symbol T M G r R a q ts type_goal e o p = (R, q, ts, e)
 from_symbol T M G r R a q ts (term_goal N) e o p = (R, q, ts, N, e, do_reflexive_type (parts T (sequent M G (plain (term_goal N))) p))
 from_symbol T M G r R a q ts (is_type A) e o p = absurd o
 from_symbol T M G r R a q ts (has_type t A) e o p = absurd o

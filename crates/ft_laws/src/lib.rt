@@ -5,6 +5,7 @@ ghost use Rattle.ft_laws.specs.Laws.{Law, LawInstantiate, LawEqualInstantiate};
 ghost use Rattle.ft_laws.specs.Syntax.{OpenUndoesClose, CloseUndoesOpen, OpenUndoesCloseInStatement, CloseUndoesOpenInStatement, SubstitutionAfterSubstitution, SubstitutionOfAbsent, OpenIsSubstitution, InstanceOfInstance, InstanceOfRuleInstance};
 ghost use Rattle.ft_laws.specs.Derivations.{DerivableIsPrimitive, FinitaryAtEachLevel, LawScope, LawRenaming, LawSimultaneousSubstitution, LawDomain, LawDomainAtEach, LawLongerTheory, LawLongerTheoryPrimitive};
 ghost use Rattle.ft_laws.specs.Instances.{LawGeneralInstance, LawGeneralEqualInstances, LawRightInstance};
+ghost use Rattle.ft_laws.specs.Examples.{TwoIsNatural, ProductsAreFinitary, BetaIsDerivable, NothingFromIllFormedBoundary, NothingFromIllFormedAnnotation, NothingFromIllFormedEquation, NoAbsentVariable, NoLooseVariable, NoughtIsNoType, NoughtIsNotInNought};
 
 /// Weakening: a statement may be taken to larger maps.
 /// Derivability by kinds up to 1 is derivability by primitive steps.
@@ -121,4 +122,34 @@ pub fn law_general_instance()
 pub fn law_general_equal_instances()
     ensures heads { LawGeneralEqualInstances }
     ensures right { LawRightInstance }
+{}
+
+/// Over the natural numbers, `S(S(O)) : Nat` is primitively derivable.
+pub fn example_naturals()
+    ensures two { TwoIsNatural }
+{}
+
+/// The theory of natural numbers and dependent products with their beta rule is finitary, and an instance of the beta rule is derivable over it.
+pub fn example_products()
+    ensures finitary { ProductsAreFinitary }
+    ensures beta { BetaIsDerivable }
+{}
+
+/// An ill-formed boundary of a metavariable, or an ill-formed type of a variable, gives nothing; and no ill-formed equation is derivable.
+pub fn example_ill_formed()
+    ensures boundary { NothingFromIllFormedBoundary }
+    ensures annotation { NothingFromIllFormedAnnotation }
+    ensures equation { NothingFromIllFormedEquation }
+{}
+
+/// No variable is derivable that the sequent lacks, and no bound variable without its binder.
+pub fn example_out_of_scope()
+    ensures absent { NoAbsentVariable }
+    ensures loose { NoLooseVariable }
+{}
+
+/// Over the natural numbers `O type` and `O : O` are not derivable.
+pub fn example_ill_typed()
+    ensures no_type { NoughtIsNoType }
+    ensures not_in_itself { NoughtIsNotInNought }
 {}

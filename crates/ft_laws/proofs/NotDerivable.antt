@@ -17,7 +17,7 @@ use Rattle.ft_laws.proofs.Finitary.{scoped}
 use Rattle.ft_laws.proofs.Admissible.{finitary_sound}
 
 -- a symbol of no rule is no type
-no_rule : (T : List Rule) → ScopedTheory T → (M : List (ℕ × Statement)) (G : List (ℕ × Expression)) (s : ℕ) (a : Arguments) → rule_at T s ≡ None → Prim T M G (plain (is_type (symbol s a))) → ⊥
+pub no_rule : (T : List Rule) → ScopedTheory T → (M : List (ℕ × Statement)) (G : List (ℕ × Expression)) (s : ℕ) (a : Arguments) → rule_at T s ≡ None → Prim T M G (plain (is_type (symbol s a))) → ⊥
 no_rule T sc M G s a n p =
     let h : OfType T M G (symbol s a) = origin T sc (sequent M G (plain (is_type (symbol s a)))) p in
     nothing (sym n ∙ h.1)

@@ -11,10 +11,10 @@ use Rattle.ft_laws.proofs.Rules.{nothing}
 use Rattle.ft_laws.proofs.Admissible.{law}
 use Rattle.ft_laws.proofs.Products.{by_step, by_rule, family_boundary, family_is_type, body_boundary, body_in_family, product_is_type, argument_in_base, application_in_family, base_is_type}
 
-type_boundary : (T : List Rule) (M : List (ℕ × Statement)) (G : List (ℕ × Expression)) → Der T M G (plain type_goal)
+pub type_boundary : (T : List Rule) (M : List (ℕ × Statement)) (G : List (ℕ × Expression)) → Der T M G (plain type_goal)
 type_boundary T M G = by_step T [] (sequent M G (plain type_goal)) for_type none
 
-term_boundary : (T : List Rule) (M : List (ℕ × Statement)) (G : List (ℕ × Expression)) (A : Expression) → Der T M G (plain (is_type A)) → Der T M G (plain (term_goal A))
+pub term_boundary : (T : List Rule) (M : List (ℕ × Statement)) (G : List (ℕ × Expression)) (A : Expression) → Der T M G (plain (is_type A)) → Der T M G (plain (term_goal A))
 term_boundary T M G A p = by_step T (sequent M G (plain (is_type A)) ∷ []) (sequent M G (plain (term_goal A))) (for_term A) (more p none)
 
 -- the natural numbers, by steps of all kinds

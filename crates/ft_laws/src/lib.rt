@@ -6,6 +6,7 @@ ghost use Rattle.ft_laws.specs.Syntax.{OpenUndoesClose, CloseUndoesOpen, OpenUnd
 ghost use Rattle.ft_laws.specs.Derivations.{DerivableIsPrimitive, FinitaryAtEachLevel, LawScope, LawRenaming, LawSimultaneousSubstitution, LawDomain, LawDomainAtEach, LawLongerTheory, LawLongerTheoryPrimitive};
 ghost use Rattle.ft_laws.specs.Instances.{LawGeneralInstance, LawGeneralEqualInstances, LawRightInstance};
 ghost use Rattle.ft_laws.specs.Examples.{TwoIsNatural, ProductsAreFinitary, BetaIsDerivable, NothingFromIllFormedBoundary, NothingFromIllFormedAnnotation, NothingFromIllFormedEquation, NoAbsentVariable, NoLooseVariable, NoughtIsNoType, NoughtIsNotInNought};
+ghost use Rattle.ft_laws.specs.Counterexamples.{LawNeedsFinitary, SidesNeedTheBoundary, NoStrengthening};
 
 /// Weakening: a statement may be taken to larger maps.
 /// Derivability by kinds up to 1 is derivability by primitive steps.
@@ -152,4 +153,19 @@ pub fn example_out_of_scope()
 pub fn example_ill_typed()
     ensures no_type { NoughtIsNoType }
     ensures not_in_itself { NoughtIsNotInNought }
+{}
+
+/// From level five on the law is false for theories that are not finitary.
+pub fn counterexample_not_finitary()
+    ensures law { LawNeedsFinitary }
+{}
+
+/// Without the premise that a metavariable's boundary is derivable, the law on sides is false.
+pub fn counterexample_loose_metavariable()
+    ensures law { SidesNeedTheBoundary }
+{}
+
+/// A variable that a derivable statement does not mention cannot always be dropped.
+pub fn counterexample_strengthening()
+    ensures law { NoStrengthening }
 {}

@@ -1,13 +1,11 @@
 -- Theories and maps over which a law without a premise of its own fails.
-use Rattle.std.proofs.Common.{◌≡◌, ◌≤◌, ℕ, zero, suc, Some, None, List, [], ◌∷◌, ◌⊎◌, inl, inr, refl, sym, ap, ◌∙◌, subst, arith}
-use Rattle.ft_theory.specs.Expressions.{Expression, bound, free, symbol, meta, Arguments, no_arguments, with_body, dummy, Terms, no_terms, also, count, act}
-use Rattle.ft_theory.specs.Statements.{Claim, is_type, has_type, equal_types, equal_terms, type_goal, term_goal, type_equation_goal, term_equation_goal, Statement, plain, abstracted, domain_count, at, fill_goal, fill, equate_goal, equate, IsObjectGoal, IsObject, IsEquationGoal}
-use Rattle.ft_theory.specs.Rules.{look_up, Rule, rule_at, instance_of, FitsPremises, filled_premises, conclusion_at, term_typings}
-use Rattle.ft_theory.specs.Steps.{Sequent, sequent, sequents, Step, variable, metavariable, metavariable_equation, metavariable_congruence, abstraction, reflexive_type, reflexive_term, symmetric_types, symmetric_terms, transitive_types, transitive_terms, convert_term, convert_equation, for_type, for_term, for_types, for_terms, symbol_rule, equation_rule, congruence, Tree, Trees, node, none, more, Prim}
+use Rattle.std.proofs.Common.{◌≡◌, ℕ, zero, suc, Some, List, [], ◌∷◌, ◌⊎◌, inl, inr, refl, sym, ap, ◌∙◌, subst}
+use Rattle.ft_theory.specs.Expressions.{bound, symbol, meta, no_arguments, Terms, no_terms, count, act}
+use Rattle.ft_theory.specs.Statements.{is_type, has_type, equal_types, equal_terms, type_goal, term_goal, type_equation_goal, term_equation_goal, Statement, plain, abstracted, at, fill, equate}
+use Rattle.ft_theory.specs.Rules.{look_up, Rule}
+use Rattle.ft_theory.specs.Steps.{Sequent, sequent, Step, variable, metavariable, metavariable_equation, metavariable_congruence, abstraction, reflexive_type, reflexive_term, symmetric_types, symmetric_terms, transitive_types, transitive_terms, convert_term, convert_equation, for_type, for_term, for_types, for_terms, symbol_rule, equation_rule, congruence, Tree, node, none, Prim}
 use Rattle.ft_theory.specs.WideSteps.{conclusion_boundary}
-use Rattle.ft_theory.specs.Derivability.{StepUpTo, DerUpTo, Finitary}
-use Rattle.ft_laws.specs.Counterexamples.{LawForAllTheories, LawNeedsFinitary, LooseMetavariable, loose, Loose, SidesNeedTheBoundary}
-use Rattle.ft_laws.proofs.Induction.{AllOf, induct}
+use Rattle.ft_laws.specs.Counterexamples.{LawNeedsFinitary, LooseMetavariable, loose, SidesNeedTheBoundary}
 use Rattle.ft_laws.proofs.Fresh.{some_path}
 use Rattle.ft_laws.proofs.Commute.{ScopedTheory, ScopedRule}
 use Rattle.ft_laws.proofs.Sides.{parts}

@@ -10,9 +10,10 @@ use Rattle.ft_laws.proofs.Induction.{AllOf, induct}
 use Rattle.ft_laws.proofs.Acts.{Uses_mono}
 use Rattle.ft_laws.proofs.Opens.{by_test}
 use Rattle.ft_laws.proofs.Scope.{scope, Fine, InVars, InMets}
-use Rattle.ft_laws.proofs.Statements.{stmt_mono, core_mono}
+use Rattle.ft_laws.proofs.Statements.{stmt_mono, AllOfClaim_mono}
 use Rattle.ft_laws.proofs.Commute.{ScopedTheory, ScopedPremises, Covered}
-use Rattle.ft_laws.proofs.Rules.{Within, look_before, found, past, nothing}
+use Rattle.ft_laws.proofs.Substitute.{Extends}
+use Rattle.ft_laws.proofs.Rules.{look_before, found, past, nothing}
 
 -- a primitive step over more rules
 pub more_rules_step : (T U : List Rule) → ((r : ℕ) (R : Rule) → rule_at T r ≡ Some R → rule_at U r ≡ Some R) → (ps : List Sequent) (c : Sequent) → Step T ps c → Step U ps c
@@ -55,13 +56,13 @@ look_covered (p ∷ ps) m k b q o d = by_test (Covered (p ∷ ps) m k) m p.0
     (λ e. inl (e, subst IsObject (sym (found m p ps b e q)) o, d ∙ ap domain_count (sym (found m p ps b e q))))
     (λ n. inr (look_covered ps m k b (past m p ps b n q) o d))
 
-scoped_expr : (M all : List (ℕ × Statement)) → Within M all → (k : ℕ) (e : Expression) → Fine M [] k e → MentionsOnly (λ v. ⊥) (Covered all) e
-scoped_expr M all w k e f = Uses_mono e (InVars []) (λ v. ⊥) (InMets M) (Covered all) (λ v h. nothing h.1) (λ m k h. look_covered all m k h.0 (w m h.0 h.1) h.2 h.3) f.1
+scoped_expression : (M all : List (ℕ × Statement)) → Extends M all → (k : ℕ) (e : Expression) → Fine M [] k e → MentionsOnly (λ v. ⊥) (Covered all) e
+scoped_expression M all w k e f = Uses_mono e (InVars []) (λ v. ⊥) (InMets M) (Covered all) (λ v h. nothing h.1) (λ m k h. look_covered all m k h.0 (w m h.0 h.1) h.2 h.3) f.1
 
-scoped_premises : (T : List Rule) (all M ps : List (ℕ × Statement)) → Within (M ++ ps) all → PremisesHold (λ M x. Prim T M [] x) M ps → ScopedPremises all ps
+scoped_premises : (T : List Rule) (all M ps : List (ℕ × Statement)) → Extends (M ++ ps) all → PremisesHold (λ M x. Prim T M [] x) M ps → ScopedPremises all ps
 scoped_premises T all M [] w h = tt
 scoped_premises T all M (p ∷ ps) w h = (
-  stmt_mono p.1 (Fine M []) (λ l. MentionsOnly (λ v. ⊥) (Covered all)) zero (λ l e f. scoped_expr M all (λ m b r. w m b (look_before M (p ∷ ps) m b r)) l e f) (scope T (sequent M [] p.1) h.2),
+  stmt_mono p.1 (Fine M []) (λ l. MentionsOnly (λ v. ⊥) (Covered all)) zero (λ l e f. scoped_expression M all (λ m b r. w m b (look_before M (p ∷ ps) m b r)) l e f) (scope T (sequent M [] p.1) h.2),
   scoped_premises T all (M ++ (p ∷ [])) ps (λ m b r. w m b (ap (λ z. look_up z m) (sym (append_assoc M (p ∷ []) ps)) ∙ r)) h.3,
 )
 
@@ -69,7 +70,7 @@ pub scoped : (T : List Rule) → Sound T → ScopedTheory T
 scoped T s r R q =
     let h : RuleHolds (λ M x. Prim T M [] x) R = s r R q in (
       scoped_premises T R.premises [] R.premises (λ m b r. r) h.0,
-      core_mono R.conclusion (Fine R.premises [] zero) (MentionsOnly (λ v. ⊥) (Covered R.premises)) (λ e f. scoped_expr R.premises R.premises (λ m b r. r) zero e f) (scope T (sequent R.premises [] (plain R.conclusion)) h.2),
+      AllOfClaim_mono R.conclusion (Fine R.premises [] zero) (MentionsOnly (λ v. ⊥) (Covered R.premises)) (λ e f. scoped_expression R.premises R.premises (λ m b r. r) zero e f) (scope T (sequent R.premises [] (plain R.conclusion)) h.2),
     )
 
 -- the boundary of one premise

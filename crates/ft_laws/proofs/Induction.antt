@@ -12,7 +12,3 @@ mutual
   pub induct_all : (S : List Sequent → Sequent → Type 0) (P : Sequent → Type 0) → ((ps : List Sequent) (c : Sequent) → S ps c → Trees S ps → AllOf P ps → P c) → (cs : List Sequent) → Trees S cs → AllOf P cs
   induct_all S P h [] none = tt
   induct_all S P h (c ∷ cs) (more t ts) = (induct S P h c t, induct_all S P h cs ts)
-
--- the trees of a list that shares its maps
-pub Trees_one : (S : List Sequent → Sequent → Type 0) (c : Sequent) → Tree S c → Trees S (c ∷ [])
-Trees_one S c t = more t none

@@ -1,11 +1,10 @@
 -- Sequents that are not derivable: by inversion of a derivation of a term or a type, and by what a derivation may mention.
-use Rattle.std.proofs.Common.{◌≡◌, ℕ, Some, None, List, refl, sym, ap, ◌∙◌, subst, arith}
+use Rattle.std.proofs.Common.{◌≡◌, ℕ, None, List, sym, ap, ◌∙◌, subst, arith}
 use Rattle.ft_theory.specs.Expressions.{Expression, bound, free, symbol, meta, Arguments, no_arguments, no_terms}
 use Rattle.ft_theory.specs.Statements.{Claim, is_type, has_type, equal_types, type_goal, term_goal, Statement, plain, at}
-use Rattle.ft_theory.specs.Rules.{look_up, Rule, rule_at, conclusion_at}
+use Rattle.ft_theory.specs.Rules.{Rule, rule_at, conclusion_at}
 use Rattle.ft_theory.specs.Steps.{sequent, Prim}
-use Rattle.ft_theory.specs.Derivability.{Finitary}
-use Rattle.ft_laws.specs.Examples.{nought, rule_nought, naturals, naturals_and_products, NothingFromIllFormedBoundary, NothingFromIllFormedEquation, NothingFromIllFormedAnnotation, NoAbsentVariable, NoLooseVariable, NoughtIsNoType, NoughtIsNotInNought}
+use Rattle.ft_laws.specs.Examples.{nought, rule_nought, naturals, NothingFromIllFormedBoundary, NothingFromIllFormedEquation, NothingFromIllFormedAnnotation, NoAbsentVariable, NoLooseVariable, NoughtIsNoType, NoughtIsNotInNought}
 use Rattle.ft_laws.proofs.Fresh.{some_path}
 use Rattle.ft_laws.proofs.Scope.{scope}
 use Rattle.ft_laws.proofs.Commute.{ScopedTheory}

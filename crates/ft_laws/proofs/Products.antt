@@ -1,15 +1,14 @@
 -- The natural numbers and dependent products: worked derivations, by primitive and wide steps.
-use Rattle.std.proofs.Common.{◌≡◌, ◌≤◌, ℕ, Some, None, List, [], ◌∷◌, inl, inr, refl, arith}
-use Rattle.ft_theory.specs.Expressions.{Expression, bound, free, symbol, meta, Arguments, no_arguments, with_body, Terms, no_terms, also, count, rename, lift, lifts, put, push, pushes, body_or, act, open_at, close_at}
+use Rattle.std.proofs.Common.{◌≡◌, ℕ, Some, List, [], ◌∷◌, inl, inr, refl, arith}
+use Rattle.ft_theory.specs.Expressions.{Expression, bound, free, symbol, Arguments, no_arguments, with_body, no_terms, also, count, lifts, put, push, pushes, body_or, act, open_at, close_at}
 use Rattle.ft_theory.specs.Statements.{is_type, has_type, equal_terms, type_goal, term_goal, term_equation_goal, Statement, plain, abstracted, domain_count, at, fill_goal, fill, opened, IsObjectGoal, IsObject, IsEquationGoal}
-use Rattle.ft_theory.specs.Rules.{look_up, Rule, rule_at, instance_of, FitsPremises, filled_premises, conclusion_at, term_typings}
-use Rattle.ft_theory.specs.Steps.{Sequent, sequent, sequents, IsVariableFree, Step, variable, metavariable, abstraction, for_type, for_term, for_terms, symbol_rule, Tree, Trees, node, none, more, Prim}
-use Rattle.ft_theory.specs.WideSteps.{WideStep, weakening, object_instance, equation_instance}
-use Rattle.ft_theory.specs.Derivability.{StepUpTo, Der, Finitary}
-use Rattle.ft_laws.specs.Examples.{natural, nought, successor, rule_natural, rule_nought, rule_successor, naturals, base, family, body, function, argument, product, lambda, application, rule_product, rule_lambda, rule_application, rule_beta, naturals_and_products, TwoIsNatural, ProductsAreFinitary, BetaIsDerivable}
+use Rattle.ft_theory.specs.Rules.{look_up, Rule, rule_at, instance_of, FitsPremises, filled_premises, conclusion_at}
+use Rattle.ft_theory.specs.Steps.{Sequent, sequent, sequents, Step, variable, metavariable, abstraction, for_type, for_term, symbol_rule, Tree, Trees, node, none, more, Prim}
+use Rattle.ft_theory.specs.WideSteps.{weakening, object_instance}
+use Rattle.ft_theory.specs.Derivability.{StepUpTo, Der}
+use Rattle.ft_laws.specs.Examples.{natural, nought, successor, rule_natural, rule_nought, rule_successor, naturals, base, family, body, argument, product, lambda, application, rule_product, rule_lambda, rule_application, TwoIsNatural}
 use Rattle.ft_laws.proofs.Steps.{do_for_term}
 use Rattle.ft_laws.proofs.Rules.{nothing}
-use Rattle.ft_laws.proofs.Admissible.{law}
 
 -- primitive derivations of numerals
 natural_is_type : (M : List (ℕ × Statement)) (G : List (ℕ × Expression)) → Prim naturals M G (plain (is_type natural))

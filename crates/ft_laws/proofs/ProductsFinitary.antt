@@ -1,11 +1,11 @@
 -- The theory of natural numbers and dependent products is finitary, rule by rule; and an instance of its beta rule.
-use Rattle.std.proofs.Common.{◌≡◌, ◌≤◌, ℕ, Some, List, [], ◌∷◌, inl, inr, refl, arith}
-use Rattle.ft_theory.specs.Expressions.{Expression, bound, free, Arguments, no_arguments, with_body, no_terms, also, count, rename, lift, lifts, put, push, pushes, body_or, act, close_at}
+use Rattle.std.proofs.Common.{◌≡◌, ℕ, Some, List, [], ◌∷◌, inl, inr, refl, arith}
+use Rattle.ft_theory.specs.Expressions.{Expression, bound, free, Arguments, no_arguments, with_body, count, rename, lift, lifts, put, push, pushes, body_or, act, close_at}
 use Rattle.ft_theory.specs.Statements.{is_type, has_type, equal_terms, type_goal, term_goal, term_equation_goal, Statement, plain, abstracted}
-use Rattle.ft_theory.specs.Rules.{look_up, Rule, rule_at, instance_of, filled_premises}
-use Rattle.ft_theory.specs.Steps.{sequent, sequents, variable, abstraction, for_type, for_term, for_terms, Tree, Trees, node, none, more, Prim}
+use Rattle.ft_theory.specs.Rules.{Rule, rule_at, instance_of, filled_premises}
+use Rattle.ft_theory.specs.Steps.{sequent, sequents, variable, abstraction, for_type, for_term, for_terms, node, none, more, Prim}
 use Rattle.ft_theory.specs.WideSteps.{equation_instance}
-use Rattle.ft_theory.specs.Derivability.{StepUpTo, Der, Finitary, RuleHolds}
+use Rattle.ft_theory.specs.Derivability.{Der, Finitary, RuleHolds}
 use Rattle.ft_laws.specs.Examples.{natural, nought, successor, rule_natural, rule_nought, rule_successor, naturals, base, family, body, argument, product, lambda, application, rule_product, rule_lambda, rule_application, rule_beta, naturals_and_products, ProductsAreFinitary, BetaIsDerivable}
 use Rattle.ft_laws.proofs.Rules.{nothing}
 use Rattle.ft_laws.proofs.Admissible.{law}

@@ -1,7 +1,7 @@
 -- A theory over which a variable that is not mentioned cannot be dropped: `absurd (a : Empty) : Nat == Bool`.
-use Rattle.std.proofs.Common.{◌≡◌, ◌≢◌, ℕ, zero, suc, Some, None, List, [], ◌∷◌, ◌⊎◌, inl, inr, refl, sym, ap, ap₂, ◌∙◌, subst}
+use Rattle.std.proofs.Common.{◌≡◌, ℕ, zero, suc, Some, List, [], ◌∷◌, ◌⊎◌, inl, inr, refl, sym, ap, ◌∙◌, subst}
 use Rattle.ft_theory.specs.Expressions.{Expression, free, symbol, Arguments, no_arguments, with_body, dummy, act}
-use Rattle.ft_theory.specs.Statements.{Claim, is_type, has_type, equal_types, equal_terms, type_goal, term_goal, type_equation_goal, term_equation_goal, Statement, plain, abstracted, fill_goal, equate_goal, IsObjectGoal, IsEquationGoal}
+use Rattle.ft_theory.specs.Statements.{is_type, has_type, equal_types, equal_terms, type_goal, term_goal, type_equation_goal, term_equation_goal, Statement, plain, abstracted, fill_goal, equate_goal, IsObjectGoal, IsEquationGoal}
 use Rattle.ft_theory.specs.Rules.{Rule, rule_at, instance_of, FitsPremises, filled_premises, conclusion_at, look_up}
 use Rattle.ft_theory.specs.Steps.{Sequent, sequent, sequents, Step, variable, metavariable, metavariable_equation, metavariable_congruence, abstraction, reflexive_type, reflexive_term, symmetric_types, symmetric_terms, transitive_types, transitive_terms, convert_term, convert_equation, for_type, for_term, for_types, for_terms, symbol_rule, equation_rule, congruence, Tree, node, none, more, Prim}
 use Rattle.ft_theory.specs.Derivability.{Der, Finitary, RuleHolds}

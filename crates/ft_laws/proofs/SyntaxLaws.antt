@@ -1,10 +1,8 @@
 -- The laws of the syntax in their stated form: substitutions and instances, one after the other.
-use Rattle.std.proofs.Common.{◌≡◌, ◌≢◌, ℕ, Option, Some, None, List, [], ◌∷◌, ◌⊎◌, inl, inr, refl, sym, ap, ◌∙◌, subst}
+use Rattle.std.proofs.Common.{◌≡◌, ◌≢◌, ℕ, Option, Some, None, refl, sym, ap, ◌∙◌, subst}
 use mathlib.Core.Path.{fun_ext}
 use Rattle.ft_theory.specs.Expressions.{Expression, free, Arguments, act, substitute, in_place_of, MentionsOnly, Without, open_at}
-use Rattle.ft_theory.specs.Statements.{Statement, StatementMentionsOnly, domain_count, IsObject}
-use Rattle.ft_theory.specs.Rules.{look_up, instance_of, FitsPremises}
-use Rattle.ft_laws.specs.Syntax.{PutsClosed, SubstitutionAfterSubstitution, SubstitutionOfAbsent, OpenIsSubstitution, HasClosedBodies, instance_after, InstanceOfInstance, IsObjectPremise, InstanceOfRuleInstance}
+use Rattle.ft_laws.specs.Syntax.{PutsClosed, SubstitutionAfterSubstitution, SubstitutionOfAbsent, OpenIsSubstitution, instance_after, InstanceOfInstance, IsObjectPremise, InstanceOfRuleInstance}
 use Rattle.ft_laws.proofs.Acts.{IsClosedMap, act-act, after, after_at, no_bodies, act_agree, act_nothing, Uses_mono}
 use Rattle.ft_laws.proofs.Opens.{same, other, by_test, act-open}
 use Rattle.ft_laws.proofs.Statements.{stmt_mono}

@@ -1,7 +1,7 @@
 -- Conditions that carry weight: the laws without a premise of theirs are false, and there is no strengthening.
-use Rattle.std.specs.Prelude.{ℕ, ◌≤◌, Some, None, ◌≡◌, List, [], ◌∷◌, ◌⊎◌, ◌↔◌}
-use Rattle.ft_theory.specs.Expressions.{Expression, symbol, meta, Arguments, no_arguments, Terms, count, Without}
-use Rattle.ft_theory.specs.Statements.{is_type, has_type, equal_types, type_goal, term_goal, type_equation_goal, Statement, plain, AllOfStatement, domain_count, at, fill, IsObject}
+use Rattle.std.specs.Prelude.{ℕ, ◌≤◌, Some, ◌≡◌, List, ◌∷◌, ◌⊎◌, ◌↔◌}
+use Rattle.ft_theory.specs.Expressions.{Expression, meta, Terms, count, Without}
+use Rattle.ft_theory.specs.Statements.{is_type, has_type, Statement, plain, AllOfStatement, domain_count, at, fill, IsObject}
 use Rattle.ft_theory.specs.Rules.{look_up, Rule, term_typings}
 use Rattle.ft_theory.specs.Steps.{Sequent, sequent, sequents, IsVariableFree, Step, Tree, Prim}
 use Rattle.ft_theory.specs.Derivability.{DerUpTo, Finitary}

@@ -2,7 +2,7 @@
 -- After Haselwarter and Bauer, "Finitary type theories with and without contexts".
 use Rattle.std.specs.Prelude.{ℕ, zero, Some, None, ◌≡◌, List, ◌∷◌, ◌++◌, ◌↔◌}
 use Rattle.ft_theory.specs.Expressions.{Expression, free, substitute, Without}
-use Rattle.ft_theory.specs.Statements.{is_type, has_type, Statement, plain, abstracted, AllOfStatement, ClosedStatement, StatementMentionsOnly, act_statement, opened, domain_count, IsObject}
+use Rattle.ft_theory.specs.Statements.{is_type, has_type, Statement, plain, abstracted, AllOfStatement, ClosedStatement, StatementMentionsOnly, act_statement, opened}
 use Rattle.ft_theory.specs.Rules.{look_up, Rule}
 use Rattle.ft_theory.specs.Steps.{Unmentioned, Prim}
 use Rattle.ft_theory.specs.Derivability.{Der, DerUpTo, Finitary, FinitaryUpTo}

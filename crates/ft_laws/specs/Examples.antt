@@ -5,7 +5,7 @@ use Rattle.ft_theory.specs.Expressions.{Expression, bound, free, symbol, meta, A
 use Rattle.ft_theory.specs.Statements.{is_type, has_type, equal_types, equal_terms, type_goal, term_goal, term_equation_goal, Statement, plain, abstracted}
 use Rattle.ft_theory.specs.Rules.{look_up, Rule, rule_at}
 use Rattle.ft_theory.specs.Steps.{Prim}
-use Rattle.ft_theory.specs.Derivability.{Der, Finitary}
+use Rattle.ft_theory.specs.Derivability.{Finitary}
 
 -- `Nat`, `O` and `S(n)`, the symbols of the rules 0, 1 and 2
 abbrev pub natural : Expression

@@ -1,3 +1,4 @@
+-- What is put for free variables and metavariables (`act`), after renaming, putting and acting; it depends only on what is mentioned.
 use Rattle.std.proofs.Common.{◌≡◌, ℕ, zero, suc, ◌+◌, ◌<◌, Option, Some, None, refl, sym, ap, ap₂, ◌∙◌, subst, arith}
 use mathlib.Core.Path.{fun_ext}
 use Rattle.ft_theory.specs.Expressions.{Expression, bound, free, symbol, meta, Arguments, no_arguments, with_body, dummy, Terms, no_terms, also, count, under_binders, rename, rename_arguments, rename_terms, lift, lifts, put, put_arguments, put_terms, push, pushes, body_or, act, act_arguments, act_terms, ClosedAt, MentionsOnly, ArgumentsMentionOnly, TermsMentionOnly}
@@ -154,7 +155,7 @@ mutual
   act-act-terms no_terms g h i j c = refl
   act-act-terms (also e a) g h i j c = ap₂ also (act-act e g h i j c) (act-act-terms a g h i j c)
 
--- maps that agree where they are used
+-- maps that agree on what an expression mentions
 mutual
   unfolding act
 
@@ -173,7 +174,7 @@ mutual
   act_agree-terms no_terms g h i j u = refl
   act_agree-terms (also e a) g h i j u = ap₂ also (act_agree e g h i j u.0) (act_agree-terms a g h i j u.1)
 
--- nothing acts
+-- what puts nothing
 abbrev pub no_bodies : ℕ → ℕ → Option Expression
 no_bodies m k = None
 
@@ -195,7 +196,7 @@ mutual
   act_nothing-terms no_terms = refl
   act_nothing-terms (also e a) = ap₂ also (act_nothing e) (act_nothing-terms a)
 
--- a weaker use
+-- what is mentioned, by a weaker condition
 mutual
   pub Uses_mono : (e : Expression) (f f' : ℕ → Type 0) (d d' : ℕ → ℕ → Type 0) → ((v : ℕ) → f v → f' v) → ((m k : ℕ) → d m k → d' m k) → MentionsOnly f d e → MentionsOnly f' d' e
   Uses_mono (bound k) f f' d d' p q u = tt

@@ -1,4 +1,4 @@
--- Each wide step is admissible.
+-- Each wide step is admissible over a theory whose boundaries are primitively derivable; finitary theories are such.
 use Rattle.std.proofs.Common.{◌≡◌, ℕ, zero, suc, Some, List, [], ◌∷◌, ◌⊎◌, inl, inr, refl, sym, ap, ◌∙◌, subst, arith, append_assoc, append-nil, ◌↔◌}
 use Rattle.ft_theory.specs.Expressions.{Expression, bound, free, symbol, meta, Arguments, Terms, no_terms, also, count, act, open_at}
 use Rattle.ft_theory.specs.Statements.{Claim, is_type, has_type, equal_types, equal_terms, type_goal, term_goal, type_equation_goal, term_equation_goal, Statement, plain, abstracted, map_claim, map_statement, opened, domain, domain_count, at, fill_goal, equate, IsObject, IsEquation}
@@ -71,7 +71,7 @@ split S M G (x ∷ xs) ys (more t ts) =
     let r : Trees S (sequents M G xs) × Trees S (sequents M G ys) = split S M G xs ys ts in
     (more t r.0, r.1)
 
--- the terms of a pairing
+-- equal terms are terms, the left ones at the domains of x, the right ones at the domains of an equal y
 left_term_typings : (T : List Rule) → ScopedTheory T → (M : List (ℕ × Statement)) (G : List (ℕ × Expression)) (a c : Terms) (x : Statement) → count a ≡ count c → Trees (Step T) (sequents M G (term_equations x a c)) → Trees (Step T) (sequents M G (term_typings x a))
 unfolding count
 left_term_typings T sc M G no_terms c x d ts = none
@@ -261,7 +261,7 @@ at_level k T = induct (Step T) (λ c. Tree (StepUpTo k T) c) (λ ps c s ts h. no
     trees [] h = none
     trees (p ∷ ps) h = more h.0 (trees ps h.1)
 
--- THE THEOREM: for each level k, over each theory that is finitary at level k, and for all maps and statements
+-- The theorem: for each level k, over each theory that is finitary at level k, and for all maps and statements.
 pub law : (k : ℕ) (T : List Rule) → FinitaryUpTo k T → (M : List (ℕ × Statement)) (G : List (ℕ × Expression)) (x : Statement) → DerUpTo k T M G x ↔ Prim T M G x
 law k T f M G x = (all_levels T (finitary_sound k T f) k (sequent M G x), at_level k T (sequent M G x))
 

@@ -1,4 +1,4 @@
--- A body at its terms, all at once and one by one.
+-- A boundary filled with a body, opened at terms one by one, is the opened boundary filled with the body at all terms at once.
 use Rattle.std.proofs.Common.{◌≡◌, ◌≢◌, ℕ, zero, suc, ◌+◌, ◌<◌, ◌∷◌, refl, sym, ap, ap₂, ◌∙◌, subst, arith}
 use Rattle.ft_theory.specs.Expressions.{Expression, bound, Terms, no_terms, also, count, put, push, pushes, ClosedAt, ClosedTerms, open_at}
 use Rattle.ft_theory.specs.Statements.{has_type, Statement, plain, abstracted, opened, domain, domain_count, at, fill, equate}

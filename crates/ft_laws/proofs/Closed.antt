@@ -1,3 +1,4 @@
+-- Renaming is a putting; putting each bound variable for itself changes nothing; only the loose bound variables count.
 use Rattle.std.proofs.Common.{◌≡◌, ℕ, zero, suc, ◌+◌, ◌<◌, refl, sym, ap, ap₂, ◌∙◌, arith}
 use mathlib.Core.Path.{fun_ext}
 use Rattle.ft_theory.specs.Expressions.{Expression, bound, free, symbol, meta, Arguments, no_arguments, with_body, dummy, Terms, no_terms, also, under_binder, under_binders, rename, rename_arguments, rename_terms, lift, lifts, put, put_arguments, put_terms, ClosedAt, ClosedArguments, ClosedTerms}
@@ -27,7 +28,7 @@ mutual
   rename_put-terms no_terms r = refl
   rename_put-terms (also e a) r = ap₂ also (rename_is_put e r) (rename_put-terms a r)
 
--- put bound is nothing
+-- putting each bound variable for itself
 lifts_bound : (n : ℕ) (i : ℕ) → lifts n bound i ≡ bound i
 unfolding lifts lift rename
 lifts_bound zero i = refl

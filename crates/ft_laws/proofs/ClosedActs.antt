@@ -1,3 +1,4 @@
+-- Renaming, putting and acting keep expressions closed.
 use Rattle.std.proofs.Common.{ℕ, zero, suc, ◌+◌, ◌<◌, Option, Some, None, sym, subst, arith}
 use Rattle.ft_theory.specs.Expressions.{Expression, bound, free, symbol, meta, Arguments, no_arguments, with_body, dummy, Terms, no_terms, also, count, under_binder, under_binders, rename, rename_arguments, rename_terms, lift, lifts, put, put_arguments, put_terms, push, pushes, body_or, act, act_arguments, act_terms, ClosedAt, ClosedArguments, ClosedTerms}
 use Rattle.ft_laws.proofs.Acts.{count-act, IsClosedMap, ClosedBody}

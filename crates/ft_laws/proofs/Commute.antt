@@ -1,4 +1,4 @@
--- What acts, on the parts of the steps.
+-- Acting commutes with what the steps are made of: filling, equations, terms at domains, instances of rules.
 use Rattle.std.proofs.Common.{◌≡◌, ℕ, zero, ◌&&◌, Bool, true, false, cond, nat_eq, Option, Some, List, [], ◌∷◌, ◌⊎◌, inl, inr, refl, sym, ap, ap₂, ◌∙◌}
 use Rattle.ft_theory.specs.Expressions.{Expression, bound, free, Arguments, no_arguments, with_body, dummy, Terms, no_terms, also, act, act_arguments, act_terms, ClosedTerms, MentionsOnly}
 use Rattle.ft_theory.specs.Statements.{Claim, is_type, has_type, equal_types, equal_terms, type_goal, term_goal, type_equation_goal, term_equation_goal, Statement, plain, abstracted, map_claim, AllOfClaim, StatementMentionsOnly, act_statement, opened, domain_count, at, fill, equate, IsObjectGoal, IsEquationGoal, IsObject, IsEquation}
@@ -39,7 +39,8 @@ term_equations-act (also s a) (also t b) x g i m c =
     ap₂ (λ D r. plain (equal_terms (act g i s) (act g i t) D) ∷ r) (domain-act x g i)
     (term_equations-act a b (opened s x) g i m c.1 ∙ ap (λ y. term_equations y (act_terms g i a) (act_terms g i b)) (act-opened x g i s m c.0 (Closed-act s g i zero m c.0)))
 
--- the metavariables of object premises, with their numbers of domains
+-- The metavariables of object premises, each with its boundary's number of domains. A theory is scoped where its rules' boundaries
+-- mention no free variable and only those of the rule itself. That is all that most laws ask of a theory.
 abbrev pub Covered : List (ℕ × Statement) → ℕ → ℕ → Type 0
 Covered [] m k = ⊥
 Covered (p ∷ ps) m k = ((m ≡ p.0) × IsObject p.1 × (k ≡ domain_count p.1)) ⊎ Covered ps m k

@@ -1,4 +1,4 @@
--- Statements whose parts are equal at equal terms.
+-- Statements whose parts are equal at all equal terms, and what follows of the one from the other.
 use Rattle.std.proofs.Common.{◌≡◌, ℕ, zero, suc, ◌+◌, Some, List, ◌∷◌, ◌⊎◌, inl, inr, refl, sym, ap, ◌∙◌, subst, subst₂, arith}
 use Rattle.ft_theory.specs.Expressions.{Expression, bound, free, symbol, meta, Arguments, no_arguments, with_body, dummy, Terms, no_terms, also, count, body_or, act, act_arguments, act_terms, ClosedAt, ClosedArguments, ClosedTerms, MentionsOnly, ArgumentsMentionOnly, TermsMentionOnly, Without}
 use Rattle.ft_theory.specs.Statements.{Claim, is_type, has_type, equal_types, equal_terms, type_goal, term_goal, type_equation_goal, term_equation_goal, Statement, plain, abstracted, opened, domain, domain_count, at, fill_goal, fill, equate_goal, equate, IsObjectGoal, IsObject}
@@ -12,17 +12,19 @@ use Rattle.ft_laws.proofs.Traverse.{Grows, Grows_refl, Grows_add, under_abstract
 use Rattle.ft_laws.proofs.Substitute.{weaken, substitute, closed_term}
 use Rattle.ft_laws.proofs.Sides.{parts, boundary}
 
--- two terms that stand for one variable
+-- Two terms that stand for one variable of the type A: both are one variable of that type, of which nothing more is asked, or they
+-- are derivably equal.
 abbrev pub Paired : List Rule → List (ℕ × Statement) → List (ℕ × Expression) → Expression → Expression → Expression → Type 0
 Paired T M G s t A = ((w : ℕ) × (s ≡ free w) × (t ≡ free w) × (look_up G w ≡ Some A)) ⊎ Prim T M G (plain (equal_terms s t A))
 
+-- so for each of two lists of terms, at the domains of a statement
 abbrev pub AllPaired : List Rule → List (ℕ × Statement) → List (ℕ × Expression) → Statement → Terms → Terms → Type 0
 AllPaired T M G x no_terms no_terms = Unit {0}
 AllPaired T M G x no_terms (also t b) = ⊥
 AllPaired T M G x (also s a) no_terms = ⊥
 AllPaired T M G x (also s a) (also t b) = Paired T M G s t (domain x) × AllPaired T M G (opened s x) a b
 
--- cores of one form whose parts are equal
+-- Claims of one form whose parts are equal. Of an equation it says that the sides are equal, and not the equation itself.
 abbrev pub EqualClaims : List Rule → List (ℕ × Statement) → List (ℕ × Expression) → Claim → Claim → Type 0
 EqualClaims T M G (is_type A) (is_type B) = Prim T M G (plain (equal_types A B))
 EqualClaims T M G (has_type t A) (has_type u B) = Prim T M G (plain (equal_types A B)) × Prim T M G (plain (equal_terms t u A))
@@ -34,12 +36,14 @@ EqualClaims T M G (type_equation_goal A B) (type_equation_goal C D) = Prim T M G
 EqualClaims T M G (term_equation_goal s t A) (term_equation_goal u v B) = Prim T M G (plain (equal_types A B)) × Prim T M G (plain (equal_terms s u A)) × Prim T M G (plain (equal_terms t v A))
 EqualClaims T M G _ _ = ⊥
 
+-- Statements that are equal as far as their first domains, or as claims.
 abbrev pub EqualHere : List Rule → List (ℕ × Statement) → List (ℕ × Expression) → Statement → Statement → Type 0
 EqualHere T M G (plain c) (plain d) = EqualClaims T M G c d
 EqualHere T M G (plain c) (abstracted B y) = ⊥
 EqualHere T M G (abstracted A x) (plain d) = ⊥
 EqualHere T M G (abstracted A x) (abstracted B y) = Prim T M G (plain (equal_types A B))
 
+-- Statements that are equal, over each larger map, when opened at paired terms, as far as the terms go.
 abbrev pub EqualStatements : List Rule → List (ℕ × Statement) → List (ℕ × Expression) → Statement → Statement → Type 0
 EqualStatements T M G x y = (K : List (ℕ × Expression)) → Grows G K → (a b : Terms) → AllPaired T M K x a b → EqualHere T M K (at x a) (at y b)
 
@@ -68,7 +72,7 @@ pub at_plain : (a : Terms) (c : Claim) → at (plain c) a ≡ plain c
 at_plain no_terms c = refl
 at_plain (also t a) c = at_plain a c
 
--- how such pairs are made and used
+-- how equal statements are made and used
 pub equal_plain : (T : List Rule) → ScopedTheory T → (M : List (ℕ × Statement)) (G : List (ℕ × Expression)) (c d : Claim) → EqualClaims T M G c d → EqualStatements T M G (plain c) (plain d)
 equal_plain T sc M G c d e K g a b r = subst₂ (λ x y. EqualHere T M K x y) (sym (at_plain a c)) (sym (at_plain b d)) (grow_claims T sc M G K g c d e)
 
@@ -90,7 +94,7 @@ equal_flat T sc M G (plain c) (plain d) z e = equal_plain T sc M G c d e
 equal_flat T sc M G (plain c) (abstracted B y) z e = absurd e
 equal_flat T sc M G (abstracted A x) y z e = absurd (grind (arith, z))
 
--- what two related terms are
+-- paired terms are equal, and closed
 pub paired_equal : (T : List Rule) (M : List (ℕ × Statement)) (G : List (ℕ × Expression)) (s t A : Expression) → Paired T M G s t A → Prim T M G (plain (is_type A)) → Prim T M G (plain (equal_terms s t A))
 paired_equal T M G s t A (inl r) p = subst₂ (λ x y. Prim T M G (plain (equal_terms x y A))) (sym r.1) (sym r.2) (do_reflexive_term (do_variable r.0 r.3 p))
 paired_equal T M G s t A (inr q) p = q
@@ -107,7 +111,7 @@ paired_closed T sc M G s t A (inr p) =
     let q : Prim T M G (plain (is_type A)) × Prim T M G (plain (has_type s A)) × Prim T M G (plain (has_type t A)) = sides_of T sc M G s t A p in
     (closed_term T M G s A q.1, closed_term T M G t A q.2)
 
--- from a pair to the equation between its heads
+-- from two equal theses to the equation between their heads
 pub reify_claim : (T : List Rule) (M : List (ℕ × Statement)) (G : List (ℕ × Expression)) (c d : Claim) (h k : Expression) → IsObjectGoal c → IsObjectGoal d → EqualClaims T M G (fill_goal c h) (fill_goal d k) → Prim T M G (plain (equate_goal c h k))
 reify_claim T M G type_goal type_goal h k o o' e = e
 reify_claim T M G type_goal (term_goal B) h k o o' e = absurd e
@@ -153,7 +157,7 @@ reify T sc M (suc n) G (abstracted A x) (abstracted B y) h k d d' o o' e =
     (reify T sc M n K (opened t (abstracted A x)) (opened t (abstracted B y)) (Rattle.ft_theory.specs.Expressions.open_at (domain_count x + zero) t h) (Rattle.ft_theory.specs.Expressions.open_at (domain_count x + zero) t k)
     (domain_count-map x (λ l. Rattle.ft_theory.specs.Expressions.open_at l t) zero ∙ dx) (domain_count-map y (λ l. Rattle.ft_theory.specs.Expressions.open_at l t) zero ∙ dy) (object-opened (abstracted A x) t o) (object-opened (abstracted B y) t o') (subst₂ (λ u v. EqualStatements T M K u v) xh yk e')))
 
--- what holds of the left side holds of the right side
+-- where the left one of two equal statements is derivable, the right one is
 pub transport_claim : (T : List Rule) → ScopedTheory T → (M : List (ℕ × Statement)) (G : List (ℕ × Expression)) (c d : Claim) → EqualClaims T M G c d → Prim T M G (plain c) → Prim T M G (plain d)
 transport_claim T sc M G (is_type A) (is_type B) e p = (types_of T sc M G A B e).1
 transport_claim T sc M G (has_type t A) (has_type u B) e p = do_convert_term (sides_of T sc M G t u A e.1).2 e.0

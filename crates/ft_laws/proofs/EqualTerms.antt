@@ -1,4 +1,4 @@
--- Equal terms in one place.
+-- Each derivable statement is equal to itself at equal terms; so equal terms may be put for a variable.
 use Rattle.std.proofs.Common.{◌≡◌, ℕ, zero, suc, ◌+◌, ◌≤◌, Some, None, List, ◌∷◌, inl, inr, refl, sym, ap, ◌∙◌, subst, subst₂, arith}
 use Rattle.ft_theory.specs.Expressions.{Expression, free, meta, Terms, count, body_or, open_at}
 use Rattle.ft_theory.specs.Statements.{Claim, is_type, has_type, equal_types, equal_terms, type_goal, term_goal, type_equation_goal, term_equation_goal, Statement, plain, abstracted, opened, domain_count, at, fill_goal, fill, equate_goal, equate, IsObjectGoal, IsObject}

@@ -1,4 +1,4 @@
--- Finitary theories.
+-- Derivations over more rules; theories whose boundaries are primitively derivable mention only their own premises.
 use Rattle.std.proofs.Common.{◌≡◌, ℕ, zero, Some, List, [], ◌∷◌, ◌⊎◌, inl, inr, sym, ap, ◌∙◌, subst, append_assoc, append-nil}
 use Rattle.ft_theory.specs.Expressions.{Expression, MentionsOnly}
 use Rattle.ft_theory.specs.Statements.{Statement, plain, domain_count, IsObject, IsEquation}

@@ -1,4 +1,4 @@
--- Instances: some metavariables get arguments, the others stay.
+-- What is derivable is derivable at an instance, and equal at two equal instances.
 use Rattle.std.proofs.Common.{◌≡◌, ℕ, zero, ◌+◌, Option, Some, None, List, ◌∷◌, inl, refl, sym, ap, ◌∙◌, subst, subst₂, arith}
 use Rattle.ft_theory.specs.Expressions.{Expression, bound, free, meta, Terms, no_terms, also, count, body_or, act, ClosedAt, ClosedTerms, put, pushes, open_at}
 use Rattle.ft_theory.specs.Statements.{equal_terms, Statement, plain, abstracted, opened, domain_count, at, fill, equate, IsObject, IsEquation}
@@ -121,7 +121,7 @@ instance_maps T sc M G N H i s = record {
         subst₂ (λ h k. Prim T N K (equate (at (statement_at i b) a) h k)) (sym (applied_some i m (domain_count b) a e d q)) (sym (applied_some i m (domain_count b) c e d' q))
         (body_at_equals T sc N K (statement_at i b) e a c (object-map b (λ l. act free i) zero o) (d ∙ sym (dep b)) (d' ∙ sym (dep b)) cl.0 cl.1 (grow T sc N H K (fill (statement_at i b) e) g t) (related_body T N K (statement_at i b) e a c (d ∙ sym d') ts))
 
--- LAW: instances
+-- What is derivable is derivable at an instance. The maps M and N have nothing to do with each other, but for what stays.
 pub instantiate : (T : List Rule) → ScopedTheory T → (M : List (ℕ × Statement)) (G : List (ℕ × Expression)) (N : List (ℕ × Statement)) (H : List (ℕ × Expression)) (i : ℕ → ℕ → Option Expression) (x : Statement) → IsInstance T M G N H i → Prim T M G x → Prim T N H (statement_at i x)
 instantiate T sc M G N H i x s p = traverse T sc (sequent M G x) p N H free i (instance_maps T sc M G N H i s)
 
@@ -167,6 +167,6 @@ equal_pairs T sc M G N H i j s = record {
         (head_flat T N K (at bi a) (at bj c) (put (pushes bound a) f) (put (pushes bound c) k) (domain_count-at a bi di) (object-at a bi oi) (object-at c bj oj) here
         (transitive_flat T N K (at bi a) (put (pushes bound a) f) (put (pushes bound a) k) (put (pushes bound c) k) (domain_count-at a bi di) (object-at a bi oi) one two))
 
--- LAW: equal instances
+-- What is derivable has equal parts at two equal instances.
 pub equal_instances : (T : List Rule) → ScopedTheory T → (M : List (ℕ × Statement)) (G : List (ℕ × Expression)) (N : List (ℕ × Statement)) (H : List (ℕ × Expression)) (i j : ℕ → ℕ → Option Expression) (x : Statement) → AreEqualInstances T M G N H i j → Prim T M G x → EqualStatements T N H (statement_at i x) (statement_at j x)
 equal_instances T sc M G N H i j x s p = relate T sc (sequent M G x) p N H free i free j (equal_pairs T sc M G N H i j s)

@@ -1,4 +1,4 @@
--- How an application or a variable was derived.
+-- Inversion: how a type or a term was derived, and the type that it has by its last rule.
 use Rattle.std.proofs.Common.{◌≡◌, ℕ, zero, Some, List, refl}
 use Rattle.ft_theory.specs.Expressions.{Expression, bound, free, symbol, meta, Arguments, Terms, act}
 use Rattle.ft_theory.specs.Statements.{Claim, is_type, has_type, equal_types, equal_terms, type_goal, term_goal, type_equation_goal, term_equation_goal, Statement, plain, abstracted, at, fill_goal, fill, equate_goal, equate, IsObjectGoal, IsEquationGoal, IsObject, IsEquation}
@@ -13,7 +13,7 @@ use Rattle.ft_laws.proofs.Commute.{ScopedTheory}
 use Rattle.ft_laws.proofs.Substitute.{substitute_all}
 use Rattle.ft_laws.proofs.Sides.{parts}
 
--- what a head at a boundary core comes from
+-- what the last rule of a derivation of a type, or of a term at a type, was
 abbrev pub OfType : List Rule → List (ℕ × Statement) → List (ℕ × Expression) → Expression → Type 0
 OfType T M G (bound i) = Unit {0}
 OfType T M G (free v) = Unit {0}

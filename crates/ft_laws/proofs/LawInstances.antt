@@ -1,4 +1,4 @@
--- The two laws on instances of metavariables, in their stated form.
+-- The two laws on instances of all of some further metavariables, in their stated form.
 use Rattle.std.proofs.Common.{◌≡◌, ◌≢◌, ℕ, zero, Some, None, List, [], ◌∷◌, ◌⊎◌, inl, inr, refl, sym, ap, ◌∙◌, subst, subst₂}
 use Rattle.ft_theory.specs.Expressions.{Expression, free, Arguments, no_arguments, with_body, dummy, act, MentionsOnly}
 use Rattle.ft_theory.specs.Statements.{Statement, domain_count, fill, equate, IsObject, IsEquation}

@@ -1,3 +1,4 @@
+-- Opening and closing: opening is a putting, acting commutes with it, and each undoes the other.
 use Rattle.std.proofs.Common.{◌≡◌, ◌≢◌, ℕ, zero, suc, ◌+◌, ◌<◌, Option, true, false, cond, nat_eq, ◌⊎◌, inl, inr, refl, sym, ap, ap₂, ◌∙◌, subst, arith}
 use Rattle.std.proofs.lemmas.Bool.Decides.{eqb_tells}
 use mathlib.Core.Path.{fun_ext}
@@ -189,7 +190,7 @@ mutual
   Closed-close-terms no_terms k v c = tt
   Closed-close-terms (also e a) k v c = (Closed-close e k v c.0, Closed-close-terms a k v c.1)
 
--- uses
+-- what an opened expression mentions
 mutual
   unfolding open_at
 
@@ -210,7 +211,7 @@ mutual
   MentionsOnly-open-terms no_terms f d k t u h = tt
   MentionsOnly-open-terms (also e a) f d k t u h = (MentionsOnly-open e f d k t u.0 h, MentionsOnly-open-terms a f d k t u.1 h)
 
--- a closed variable isn't used any more
+-- what is closed over a variable does not mention it any more
 mutual
   unfolding close_at
 

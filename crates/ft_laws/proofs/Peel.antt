@@ -1,4 +1,4 @@
--- What stands under a domain is derived by an abstraction.
+-- A derivation of a statement under a domain ends with an abstraction.
 use Rattle.std.proofs.Common.{◌≡◌, ℕ, zero, suc, None, List, ◌∷◌, refl, sym, ap, ◌∙◌, subst, subst₂, arith}
 use Rattle.ft_theory.specs.Expressions.{Expression, bound, free, symbol, meta, Arguments, Terms, count, act}
 use Rattle.ft_theory.specs.Statements.{is_type, has_type, Statement, plain, abstracted, close_statement, opened, domain, domain_count, at, fill, equate}

@@ -1,4 +1,4 @@
--- Two maps at once.
+-- Two maps through one derivation: what they make of a derivable statement is equal, part by part, at equal terms.
 use Rattle.std.proofs.Common.{◌≡◌, ℕ, zero, suc, Option, Some, None, List, [], ◌∷◌, inr, refl, sym, ap, ◌∙◌, subst, subst₂, arith}
 use Rattle.ft_theory.specs.Expressions.{Expression, bound, free, symbol, Arguments, no_arguments, with_body, dummy, Terms, no_terms, also, count, act, act_arguments, act_terms, ClosedAt, ClosedTerms}
 use Rattle.ft_theory.specs.Statements.{Claim, is_type, has_type, equal_types, equal_terms, type_goal, term_goal, type_equation_goal, term_equation_goal, Statement, plain, abstracted, map_claim, map_statement, act_statement, close_statement, opened, domain, domain_count, at, fill_goal, fill, equate_goal, equate, IsObjectGoal, IsEquationGoal, IsObject, IsEquation}
@@ -18,6 +18,8 @@ use Rattle.ft_laws.proofs.ClosedActs.{Closed-act}
 use Rattle.ft_laws.proofs.Traverse.{Grows, Grows_refl, applied, Maps, send, send_closed, send_without, absent_without, Maps_under, abstraction-act, traverse, metavariable-act, metavariable_equation-act, metavariable_pair-act, rule-act, rule_pair-act, fine_all, metavariable_right-act, Fine-term_equations}
 use Rattle.ft_laws.proofs.Equal.{Paired, AllPaired, EqualClaims, EqualHere, EqualStatements, Grows_trans, grow_paired, equal_plain, equal_here, equal_abstracted, equal_flat, paired_equal, sides_of, types_of, paired_closed, reify, transport}
 
+-- Pairs T M G N H g i h j: g and i lead from M, G to N, H, and h and j put closed expressions that are equal to theirs: paired
+-- for each variable, and with equal heads for each object metavariable at equal terms. Nothing else is asked of h and j.
 pub record Pairs (T : List Rule) (M : List (ℕ × Statement)) (G : List (ℕ × Expression)) (N : List (ℕ × Statement)) (H : List (ℕ × Expression)) (g : ℕ → Expression) (i : ℕ → ℕ → Option Expression) (h : ℕ → Expression) (j : ℕ → ℕ → Option Expression) : Type 0 where
   pub left : Maps T M G N H g i
   pub closed : IsClosedMap h j
@@ -26,6 +28,7 @@ pub record Pairs (T : List Rule) (M : List (ℕ × Statement)) (G : List (ℕ ×
       → Prim T N K (statement_at i b) → EqualStatements T N K (statement_at i b) (statement_at j b) → Trees (Step T) (sequents N K (term_typings (statement_at i b) a)) → Trees (Step T) (sequents N K (term_typings (statement_at j b) c)) → Trees (Step T) (sequents N K (term_equations (statement_at i b) a c))
       → EqualHere T N K (fill (at (statement_at i b) a) (applied i m a)) (fill (at (statement_at j b) c) (applied j m c))
 
+-- the statement is equal to itself under all such pairs
 abbrev pub Related : List Rule → Sequent → Type 0
 Related T c = (N : List (ℕ × Statement)) (H : List (ℕ × Expression)) (g : ℕ → Expression) (i : ℕ → ℕ → Option Expression) (h : ℕ → Expression) (j : ℕ → ℕ → Option Expression) → Pairs T c.metavariables c.variables N H g i h j → EqualStatements T N H (act_statement g i c.statement) (act_statement h j c.statement)
 
@@ -155,6 +158,7 @@ under_pair T sc M G N H K g i h j v A s t m n u f gr rl =
       heads = λ k b q gl o L g3. m.heads k b q gl o L (Grows_trans H K L gr g3);
     }
 
+-- The second traversal: what is derivable is equal to itself under all such pairs.
 pub relate : (T : List Rule) → ScopedTheory T → (c : Sequent) → Tree (Step T) c → Related T c
 unfolding act
 relate T sc = induct (Step T) (Related T) step

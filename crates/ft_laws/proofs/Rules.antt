@@ -1,4 +1,4 @@
--- Rules at instances.
+-- Rules at instances: arguments move between equal boundaries, and what an instance has for each premise.
 use Rattle.std.proofs.Common.{◌≡◌, ◌≢◌, ℕ, zero, suc, ◌+◌, Bool, true, false, cond, nat_eq, Option, Some, None, List, [], ◌∷◌, ◌⊎◌, inl, inr, refl, sym, ap, ap₂, ◌∙◌, subst, subst₂, arith, eqb-true, append_assoc}
 use Rattle.ft_theory.specs.Expressions.{Expression, bound, free, Arguments, no_arguments, with_body, dummy, act, ClosedAt, ClosedArguments, open_at}
 use Rattle.ft_theory.specs.Statements.{Claim, is_type, has_type, equal_types, equal_terms, type_goal, term_goal, type_equation_goal, term_equation_goal, Statement, plain, abstracted, opened, domain_count, fill_goal, fill, equate, IsObject, IsEquation}
@@ -60,7 +60,7 @@ pub move_head : (T : List Rule) → ScopedTheory T → (M : List (ℕ × Stateme
 move_head T sc M G b c h d (inl o) e p = transport T sc M (domain_count b) G (fill b h) (fill c h) (domain_count-fill b h) (with_head T sc M (domain_count b) G b c b h h refl d refl o.0 o.1 o.0 e (itself T sc M G (fill b h) p)) p
 move_head T sc M G b c h d (inr o) e p = transport T sc M (domain_count b) G (fill b h) (fill c h) (domain_count-fill b h) (with_equation T sc M (domain_count b) G b c h h refl o.0 o.1 e) p
 
--- pairs the other way round
+-- equal statements the other way round
 symmetric_claims : (T : List Rule) → ScopedTheory T → (M : List (ℕ × Statement)) (G : List (ℕ × Expression)) (c d : Claim) → EqualClaims T M G c d → EqualClaims T M G d c
 symmetric_claims T sc M G (is_type A) (is_type B) e = do_symmetric_types e
 symmetric_claims T sc M G (has_type t A) (has_type u B) e = (do_symmetric_types e.0, do_convert_equation (do_symmetric_terms e.1) e.0)
@@ -219,7 +219,7 @@ whole_pair T sc M N H ps a c w f f' ts es = record {
       both_given s.0 s.1 s.2 s.3 (subst (λ e. Prim T N H (fill (statement_at (instance_of ps a) b) e)) same r.2) s.4;
 }
 
--- LAW: the right arguments stand at their own boundaries
+-- the right arguments of equal instances are derivable at their own boundaries, premise by premise
 pub right_premises : (T : List Rule) → ScopedTheory T → (N : List (ℕ × Statement)) (H : List (ℕ × Expression)) (all : List (ℕ × Statement)) (wa wc : Arguments) → FitsPremises all wa → FitsPremises all wc → Trees (Step T) (sequents N H (filled_premises (instance_of all wa) all wa)) → Trees (Step T) (sequents N H (equated_premises (instance_of all wa) all wa wc))
     → (M ps : List (ℕ × Statement)) (a c : Arguments) → PremisesHold (λ M x. Prim T M [] x) M ps → Extends (M ++ ps) all → FitsPremises ps a → FitsPremises ps c → Trees (Step T) (sequents N H (filled_premises (instance_of all wa) ps a)) → Trees (Step T) (sequents N H (equated_premises (instance_of all wa) ps a c)) → Trees (Step T) (sequents N H (filled_premises (instance_of all wc) ps c))
 right_premises T sc N H all wa wc F F' TS ES M [] a c h w f f' ts es = none

@@ -1,4 +1,4 @@
--- What is derived mentions what its maps have, and is closed.
+-- What is derivable is closed and mentions only what its maps have.
 use Rattle.std.proofs.Common.{◌≡◌, ◌≢◌, ℕ, zero, suc, ◌+◌, Option, Some, List, [], ◌∷◌, sym, ◌∙◌, subst, arith}
 use Rattle.ft_theory.specs.Expressions.{Expression, bound, free, symbol, meta, Arguments, no_arguments, with_body, dummy, Terms, no_terms, also, count, act, ClosedAt, ClosedArguments, ClosedTerms, MentionsOnly, ArgumentsMentionOnly, TermsMentionOnly, open_at, close_at}
 use Rattle.ft_theory.specs.Statements.{Claim, is_type, has_type, equal_types, equal_terms, type_goal, term_goal, type_equation_goal, term_equation_goal, Statement, plain, abstracted, AllOfClaim, AllOfStatement, act_statement, close_statement, opened, domain_count, at, fill_goal, fill, equate_goal, equate, IsObjectGoal, IsEquationGoal, IsObject, IsEquation}
@@ -8,12 +8,16 @@ use Rattle.ft_laws.proofs.Induction.{AllOf, induct}
 use Rattle.ft_laws.proofs.Opens.{other, Closed-open, Closed-close, MentionsOnly-open, MentionsOnly-close}
 use Rattle.ft_laws.proofs.Statements.{AllOfStatement-map, stmt_mono, AllOfStatement_shift, AllOfStatement_unshift, domain_count-map, domain_count-opened}
 
+-- the map has a type for the variable
 abbrev pub InVars : List (ℕ × Expression) → ℕ → Type 0
 InVars G v = (A : Expression) × (look_up G v ≡ Some A)
 
+-- the metavariable has an object boundary with that many domains
 abbrev pub InMets : List (ℕ × Statement) → ℕ → ℕ → Type 0
 InMets M m k = (b : Statement) × (look_up M m ≡ Some b) × IsObject b × (k ≡ domain_count b)
 
+-- The expression is closed but for k bound variables, and mentions only what the maps have. The same for lists of terms and of
+-- arguments, and for statements.
 abbrev pub Fine : List (ℕ × Statement) → List (ℕ × Expression) → ℕ → Expression → Type 0
 Fine M G k e = ClosedAt k e × MentionsOnly (InVars G) (InMets M) e
 
@@ -26,7 +30,7 @@ FineArguments M G a = ClosedArguments zero a × ArgumentsMentionOnly (InVars G) 
 abbrev pub FineStatement : List (ℕ × Statement) → List (ℕ × Expression) → Statement → Type 0
 FineStatement M G x = AllOfStatement (Fine M G) zero x
 
--- heads
+-- What holds of a boundary's expressions and of a head holds of the boundary filled with it, and back.
 pub AllOfClaim-fill : (c : Claim) (P : Expression → Type 0) (h : Expression) → AllOfClaim P c → P h → AllOfClaim P (fill_goal c h)
 AllOfClaim-fill (is_type A) P h a p = a
 AllOfClaim-fill (has_type t A) P h a p = a
@@ -83,7 +87,7 @@ pub AllOfStatement-equation : (x : Statement) (P : ℕ → Expression → Type 0
 AllOfStatement-equation (plain c) P k h o a = AllOfClaim-equation c (P k) h o a
 AllOfStatement-equation (abstracted A x) P k h o a = (a.0, AllOfStatement-equation x P (suc k) h o a.1)
 
--- the maps
+-- under opening, closing and terms at domains
 pub InVars_add : (G : List (ℕ × Expression)) (v u : ℕ) (A : Expression) → u ≢ v → InVars ((v, A) ∷ G) u → InVars G u
 InVars_add G v u A n h = (h.0, sym (other u v (Some A) (look_up G u) n) ∙ h.1)
 
@@ -134,6 +138,7 @@ Fine-filled_premises M G i (p ∷ ps) (with_body n e a) f h =
     ((subst (λ l. ClosedAt (l + zero) e) d q.0, rest.0), (q.1, rest.1))
 Fine-filled_premises M G i (p ∷ ps) (dummy n a) f h = Fine-filled_premises M G i ps a f.2 h.1
 
+-- what is derivable is closed and mentions only what its maps have, over any theory
 pub scope : (T : List Rule) (c : Sequent) → Tree (Step T) c → FineStatement c.metavariables c.variables c.statement
 scope T = induct (Step T) (λ c. FineStatement c.metavariables c.variables c.statement) (λ ps c s ts h. step ps c s h)
   where

@@ -1,4 +1,4 @@
--- Sides, types and boundaries of what is derived.
+-- The boundary of what is derivable is derivable, and so are the sides and the type of a derivable boundary.
 use Rattle.std.proofs.Common.{◌≡◌, ℕ, zero, suc, List, [], ◌∷◌, ◌⊎◌, inl, inr, refl, sym, ap, subst, arith}
 use Rattle.ft_theory.specs.Expressions.{Expression, bound, free, symbol, meta, Arguments, no_arguments, with_body, dummy, Terms, no_terms, also, count, body_or, act, act_arguments, act_terms, ClosedAt, ClosedArguments, ClosedTerms, MentionsOnly, ArgumentsMentionOnly, TermsMentionOnly, Without}
 use Rattle.ft_theory.specs.Statements.{Claim, is_type, has_type, equal_types, equal_terms, type_goal, term_goal, type_equation_goal, term_equation_goal, Statement, plain, abstracted, map_claim, map_statement, domain_count, at, fill_goal, fill, equate_goal, equate, IsObjectGoal, IsEquationGoal, IsObject, IsEquation, boundary_of_claim, boundary_of}

@@ -1,10 +1,11 @@
+-- The laws of expressions, on claims and statements.
 use Rattle.std.proofs.Common.{◌≡◌, ℕ, zero, suc, ◌+◌, Option, refl, sym, ap, ap₂, ◌∙◌, arith}
 use Rattle.ft_theory.specs.Expressions.{Expression, free, act, ClosedAt, MentionsOnly, Without, open_at, close_at}
 use Rattle.ft_theory.specs.Statements.{Claim, is_type, has_type, equal_types, equal_terms, type_goal, term_goal, type_equation_goal, term_equation_goal, Statement, plain, abstracted, map_claim, map_statement, AllOfClaim, AllOfStatement, ClosedStatement, StatementMentionsOnly, act_statement, close_statement, opened, domain, domain_count, fill_goal, fill, equate_goal, equate, IsObjectGoal, IsEquationGoal, IsObject, IsEquation}
 use Rattle.ft_laws.proofs.Acts.{IsClosedMap, act-act, after, act_agree, no_bodies, act_nothing}
 use Rattle.ft_laws.proofs.Opens.{act-open, close-open, open-close}
 
--- maps on cores
+-- maps on claims
 pub map_claim_agree : (c : Claim) (f h : Expression → Expression) (P : Expression → Type 0) → ((e : Expression) → P e → f e ≡ h e) → AllOfClaim P c → map_claim f c ≡ map_claim h c
 map_claim_agree (is_type A) f h P p a = ap is_type (p A a)
 map_claim_agree (has_type t A) f h P p a = ap₂ has_type (p t a.0) (p A a.1)

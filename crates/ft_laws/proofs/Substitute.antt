@@ -1,4 +1,4 @@
--- Weakening and substitution.
+-- Weakening, substitution of one term, and of all terms of a metavariable.
 use Rattle.std.proofs.Common.{◌≡◌, ℕ, zero, suc, Some, List, [], ◌∷◌, refl, sym, ap, ◌∙◌, subst, arith}
 use Rattle.ft_theory.specs.Expressions.{Expression, bound, free, meta, Terms, no_terms, also, count, body_or, act, ClosedAt, Without}
 use Rattle.ft_theory.specs.Statements.{is_type, has_type, Statement, plain, abstracted, AllOfStatement, act_statement, opened, domain_count, at, fill, equate}

@@ -1,4 +1,4 @@
--- One traversal for renaming, substitution and instances.
+-- One traversal of derivations for renaming, weakening, substitution and instances.
 use Rattle.std.proofs.Common.{◌≡◌, ◌≢◌, ℕ, zero, suc, ◌≤◌, max, cond, nat_eq, Option, Some, None, List, [], ◌∷◌, refl, sym, ap, ap₂, ◌∙◌, subst, subst₂, arith}
 use Rattle.ft_theory.specs.Expressions.{Expression, bound, free, symbol, meta, Arguments, Terms, no_terms, also, count, body_or, act, act_arguments, act_terms, ClosedAt, ClosedTerms, Without}
 use Rattle.ft_theory.specs.Statements.{is_type, has_type, Statement, plain, abstracted, map_claim, map_statement, AllOfStatement, ClosedStatement, act_statement, close_statement, opened, domain_count, at, fill_goal, fill, equate_goal, equate, IsObject, IsEquation}
@@ -14,13 +14,17 @@ use Rattle.ft_laws.proofs.Scope.{scope, Fine, FineStatement, FineTerms, InVars, 
 use Rattle.ft_laws.proofs.Statements.{act-opened, act_stmt_agree, opened-closed, closed-opened, stmt_mono, domain_count-map, object-map, object_core-map, equation-map, equation_core-map, fill_goal-map, equate_goal-map, fill_any, map_any, AllOfStatement-map}
 use Rattle.ft_laws.proofs.Commute.{acts, act-fill, act-equate, act-at, term_typings-act, term_equations-act, ScopedTheory, ScopedRule, conclusion-act, filled_premises-act, equated_premises-act, FitsPremises-act, variable_free-act}
 
+-- the second map has all that the first has
 abbrev pub Grows : List (ℕ × Expression) → List (ℕ × Expression) → Type 0
 Grows G H = (v : ℕ) (A : Expression) → look_up G v ≡ Some A → look_up H v ≡ Some A
 
+-- what an instance makes of a metavariable at terms
 abbrev pub applied : (ℕ → ℕ → Option Expression) → ℕ → Terms → Expression
 applied i m a = body_or (i m (count a)) m a
 
--- what maps M and G into N and H by g and i
+-- Maps T M G N H g i: over T, the substitution g and the instance i lead from the maps M, G to the maps N, H. What is put is
+-- closed. What is put for a variable has the variable's type wherever that type is derivable, over each larger map; so types
+-- that are not derivable do no harm. What is put for a metavariable meets its three steps, where its boundary is derivable.
 pub record Maps (T : List Rule) (M : List (ℕ × Statement)) (G : List (ℕ × Expression)) (N : List (ℕ × Statement)) (H : List (ℕ × Expression)) (g : ℕ → Expression) (i : ℕ → ℕ → Option Expression) : Type 0 where
   pub closed : IsClosedMap g i
   pub frees : (v : ℕ) (A : Expression) → look_up G v ≡ Some A → (K : List (ℕ × Expression)) → Grows H K → Prim T N K (plain (is_type (act g i A))) → Prim T N K (plain (has_type (g v) (act g i A)))
@@ -28,7 +32,7 @@ pub record Maps (T : List Rule) (M : List (ℕ × Statement)) (G : List (ℕ × 
   pub equations : (m : ℕ) (b : Statement) → look_up M m ≡ Some b → IsVariableFree b → IsEquation b → (K : List (ℕ × Expression)) → Grows H K → (a : Terms) → count a ≡ domain_count b → Prim T N K (statement_at i b) → Trees (Step T) (sequents N K (term_typings (statement_at i b) a)) → Prim T N K (fill (at (statement_at i b) a) (bound zero))
   pub congruences : (m : ℕ) (b : Statement) → look_up M m ≡ Some b → IsVariableFree b → IsObject b → (K : List (ℕ × Expression)) → Grows H K → (a c : Terms) → count a ≡ domain_count b → count c ≡ domain_count b → Prim T N K (fill (at (statement_at i b) a) (applied i m a)) → Prim T N K (fill (at (statement_at i b) a) (applied i m c)) → Trees (Step T) (sequents N K (term_equations (statement_at i b) a c)) → Prim T N K (equate (at (statement_at i b) a) (applied i m a) (applied i m c))
 
--- g with v sent to t
+-- the substitution g, but with t for v
 abbrev pub send : (ℕ → Expression) → ℕ → Expression → ℕ → Expression
 send g v t u = cond (nat_eq u v) t (g u)
 
@@ -38,7 +42,7 @@ send_without e g i v t w = act_agree e (send g v t) g i i (Uses_mono e (λ u. u 
 pub send_without_statement : (x : Statement) (g : ℕ → Expression) (i : ℕ → ℕ → Option Expression) (v : ℕ) (t : Expression) (k : ℕ) → AllOfStatement (λ l. Without v) k x → map_statement (λ l. act (send g v t) i) k x ≡ map_statement (λ l. act g i) k x
 send_without_statement x g i v t k w = Rattle.ft_laws.proofs.Statements.map_statement_agree x (λ l. act (send g v t) i) (λ l. act g i) (λ l. Without v) k (λ l e h. send_without e g i v t h) w
 
--- what is fine over G doesn't mention what G hasn't
+-- what is scoped over G does not mention what G lacks
 pub absent_without : (M : List (ℕ × Statement)) (G : List (ℕ × Expression)) (v : ℕ) (k : ℕ) (e : Expression) → look_up G v ≡ None → Fine M G k e → Without v e
 absent_without M G v k e n f = Uses_mono e (InVars G) (λ u. u ≢ v) (InMets M) (λ m k. Unit {0}) (λ u h q. clash (sym n ∙ ap (look_up G) (sym q) ∙ h.1)) (λ m k h. tt) f.1
   where
@@ -80,6 +84,7 @@ Maps_under T M G N H K g i v A t m n u f s c h = record {
   congruences = λ k b q gl o L s'. m.congruences k b q gl o L (λ x C r. s' x C (s x C r));
 }
 
+-- the statement is derivable wherever its maps lead
 abbrev pub Carried : List Rule → Sequent → Type 0
 Carried T c = (N : List (ℕ × Statement)) (H : List (ℕ × Expression)) (g : ℕ → Expression) (i : ℕ → ℕ → Option Expression) → Maps T c.metavariables c.variables N H g i → Prim T N H (act_statement g i c.statement)
 
@@ -159,6 +164,7 @@ rule-act R a g i h m f s = fill_goal-map (conclusion_at R a) (act g i) h ∙ ap 
 pub rule_pair-act : (R : Rule) (a : Arguments) (g : ℕ → Expression) (i : ℕ → ℕ → Option Expression) (h j : Expression) → IsClosedMap g i → FitsPremises R.premises a → ScopedRule R → map_claim (act g i) (equate_goal (conclusion_at R a) h j) ≡ equate_goal (conclusion_at R (act_arguments g i a)) (act g i h) (act g i j)
 rule_pair-act R a g i h j m f s = equate_goal-map (conclusion_at R a) (act g i) h j ∙ ap (λ c. equate_goal c (act g i h) (act g i j)) (conclusion-act R a g i m f s)
 
+-- The traversal: what is derivable is derivable wherever its maps lead.
 pub traverse : (T : List Rule) → ScopedTheory T → (c : Sequent) → Tree (Step T) c → Carried T c
 unfolding act
 traverse T sc = induct (Step T) (Carried T) step

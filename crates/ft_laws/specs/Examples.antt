@@ -1,9 +1,9 @@
 -- Worked examples: the natural numbers, dependent products with their beta rule, and sequents that are not derivable.
 -- The rules are those of Haselwarter and Bauer, "Finitary type theories with and without contexts", for Martin-Löf's type theory.
 use Rattle.std.specs.Prelude.{ℕ, Some, None, ◌≡◌, List, [], ◌∷◌}
-use Rattle.ft_theory.specs.Expressions.{Expression, bound, free, symbol, meta, Arguments, no_arguments, with_body, no_terms, also}
+use Rattle.ft_theory.specs.Expressions.{Expression, bound, free, symbol, meta, Arguments, no_arguments, with_body, no_terms, also, put, pushes}
 use Rattle.ft_theory.specs.Statements.{is_type, has_type, equal_types, equal_terms, type_goal, term_goal, term_equation_goal, Statement, plain, abstracted}
-use Rattle.ft_theory.specs.Rules.{look_up, Rule, rule_at}
+use Rattle.ft_theory.specs.Rules.{look_up, Rule, rule_at, instance_of, filled_premises, conclusion_at}
 use Rattle.ft_theory.specs.Steps.{Prim}
 use Rattle.ft_theory.specs.Derivability.{Finitary}
 
@@ -128,3 +128,23 @@ NoughtIsNoType = (M : List (ℕ × Statement)) (G : List (ℕ × Expression)) �
 
 abbrev pub NoughtIsNotInNought : Type 0
 NoughtIsNotInNought = (M : List (ℕ × Statement)) (G : List (ℕ × Expression)) → Prim naturals M G (plain (has_type nought nought)) → ⊥
+
+-- By computation: of two terms put for two bound variables, the last is for the innermost one. What stands under a binder
+-- passes it: `f({x} @0, {x} @1, {x} @2)` with v1 and v2 put is `f({x} @0, {x} v2, {x} v1)`.
+abbrev pub TermsInOrder : Type 0
+TermsInOrder = put (pushes bound (also (free 1) (also (free 2) no_terms))) (symbol 8 (with_body 1 (bound 0) (with_body 1 (bound 1) (with_body 1 (bound 2) no_arguments))))
+    ≡ symbol 8 (with_body 1 (bound 0) (with_body 1 (free 2) (with_body 1 (free 1) no_arguments)))
+
+-- the arguments `Nat, {x} Vec(x), v5, O` of `app`, where `Vec` is the symbol of the rule 9
+abbrev pub application_arguments : Arguments
+application_arguments = with_body 0 natural (with_body 1 (symbol 9 (with_body 0 (bound 0) no_arguments)) (with_body 0 (free 5) (with_body 0 nought no_arguments)))
+
+-- By computation: `app` at them has the conclusion `_ : Vec(O)`.
+abbrev pub ConclusionOfApplication : Type 0
+ConclusionOfApplication = conclusion_at rule_application application_arguments ≡ term_goal (symbol 9 (with_body 0 nought no_arguments))
+
+-- By computation: its premises at them are `Nat type`, `{x : Nat} Vec(x) type`, `v5 : Pi(Nat, {x} Vec(x))` and `O : Nat`.
+abbrev pub PremisesOfApplication : Type 0
+PremisesOfApplication = filled_premises (instance_of rule_application.premises application_arguments) rule_application.premises application_arguments
+    ≡ plain (is_type natural) ∷ abstracted natural (plain (is_type (symbol 9 (with_body 0 (bound 0) no_arguments))))
+    ∷ plain (has_type (free 5) (product natural (symbol 9 (with_body 0 (bound 0) no_arguments)))) ∷ plain (has_type nought natural) ∷ []

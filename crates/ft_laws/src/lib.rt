@@ -5,7 +5,7 @@ ghost use Rattle.ft_laws.specs.Laws.{Law, LawInstantiate, LawEqualInstantiate};
 ghost use Rattle.ft_laws.specs.Syntax.{OpenUndoesClose, CloseUndoesOpen, OpenUndoesCloseInStatement, CloseUndoesOpenInStatement, SubstitutionAfterSubstitution, SubstitutionOfAbsent, OpenIsSubstitution, InstanceOfInstance, InstanceOfRuleInstance};
 ghost use Rattle.ft_laws.specs.Derivations.{DerivableIsPrimitive, FinitaryAtEachLevel, LawScope, LawRenaming, LawSimultaneousSubstitution, LawDomain, LawDomainAtEach, LawLongerTheory, LawLongerTheoryPrimitive};
 ghost use Rattle.ft_laws.specs.Instances.{LawGeneralInstance, LawGeneralEqualInstances, LawRightInstance};
-ghost use Rattle.ft_laws.specs.Examples.{TwoIsNatural, ProductsAreFinitary, BetaIsDerivable, NothingFromIllFormedBoundary, NothingFromIllFormedAnnotation, NothingFromIllFormedEquation, NoAbsentVariable, NoLooseVariable, NoughtIsNoType, NoughtIsNotInNought};
+ghost use Rattle.ft_laws.specs.Examples.{TermsInOrder, ConclusionOfApplication, PremisesOfApplication, TwoIsNatural, ProductsAreFinitary, BetaIsDerivable, NothingFromIllFormedBoundary, NothingFromIllFormedAnnotation, NothingFromIllFormedEquation, NoAbsentVariable, NoLooseVariable, NoughtIsNoType, NoughtIsNotInNought};
 ghost use Rattle.ft_laws.specs.Counterexamples.{LawNeedsFinitary, SidesNeedTheBoundary, NoStrengthening};
 
 /// Weakening: a statement may be taken to larger maps.
@@ -123,6 +123,13 @@ pub fn law_general_instance()
 pub fn law_general_equal_instances()
     ensures heads { LawGeneralEqualInstances }
     ensures right { LawRightInstance }
+{}
+
+/// Instances and substitutions by computation.
+pub fn example_computations()
+    ensures order { TermsInOrder }
+    ensures conclusion { ConclusionOfApplication }
+    ensures premises { PremisesOfApplication }
 {}
 
 /// Over the natural numbers, `S(S(O)) : Nat` is primitively derivable.

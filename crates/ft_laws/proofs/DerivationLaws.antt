@@ -1,29 +1,31 @@
 -- The laws of what is derivable in their stated form: scope, renaming, substitution, domains, longer theories, levels.
 use Rattle.std.proofs.Common.{◌≡◌, ◌≢◌, ℕ, zero, suc, ◌+◌, ◌≤◌, Option, Some, None, List, [], ◌∷◌, ◌⊎◌, inl, inr, refl, sym, ap, ◌∙◌, subst, ◌↔◌}
 use Rattle.std.specs.Prelude.{◌++◌}
-use Rattle.ft_theory.specs.Expressions.{free, act, substitute, ClosedAt, MentionsOnly}
-use Rattle.ft_theory.specs.Statements.{is_type, has_type, plain, abstracted, act_statement, opened, domain_count, fill}
+use Rattle.ft_theory.specs.Expressions.{bound, free, symbol, meta, act, substitute, ClosedAt, MentionsOnly}
+use Rattle.ft_theory.specs.Statements.{is_type, has_type, equal_types, plain, abstracted, act_statement, opened, domain_count, fill}
 use Rattle.ft_theory.specs.Rules.{Rule, rule_at}
 use Rattle.ft_theory.specs.Steps.{Sequent, sequent, abstraction, Tree, Trees, node, none, more, Prim}
 use Rattle.ft_theory.specs.WideSteps.{WideStep, weakening, substitution, its_boundary, a_side, equal_substitution, next_boundary, conclusion_boundary, object_instance, equation_instance, convert_premise, convert_back, metavariable_at_equal_terms, argument_in_type, argument_in_term, term_in_type, term_in_term, natural_variable, natural_symbol, natural_metavariable}
 use Rattle.ft_theory.specs.Derivability.{StepUpTo, Finitary}
 use Rattle.ft_laws.specs.Syntax.{IsObjectPremise}
-use Rattle.ft_laws.specs.Derivations.{DerivableIsPrimitive, FinitaryAtEachLevel, HasVariable, LawScope, LawRenaming, LawSimultaneousSubstitution, LawDomain, LawDomainAtEach, LawLongerTheory, LawLongerTheoryPrimitive}
+use Rattle.ft_laws.specs.Derivations.{DerivableIsPrimitive, FinitaryAtEachLevel, HasVariable, LawScope, LawRenaming, LawSimultaneousSubstitution, LawDomain, LawDomainAtEach, LawLongerTheory, LawLongerTheoryPrimitive, LawUniqueType}
 use Rattle.ft_laws.specs.Instances.{LawGeneralInstance, LawRightInstance, LawGeneralEqualInstances}
 use Rattle.ft_laws.proofs.Induction.{AllOf, induct}
 use Rattle.ft_laws.proofs.Acts.{no_bodies}
 use Rattle.ft_laws.proofs.Scope.{scope, Fine}
 use Rattle.ft_laws.proofs.Statements.{stmt_mono, closed-opened, object-map, domain_count-map}
 use Rattle.ft_laws.proofs.Peel.{peel, Peeled}
-use Rattle.ft_laws.proofs.Steps.{do_variable}
+use Rattle.ft_laws.proofs.Steps.{do_variable, do_symmetric_types, do_transitive_types}
 use Rattle.ft_laws.proofs.Commute.{ScopedTheory, act-fill}
 use Rattle.ft_laws.proofs.Traverse.{traverse}
 use Rattle.ft_laws.proofs.Substitute.{substitution_maps, weaken}
 use Rattle.ft_laws.proofs.Equal.{EqualStatements, reify, transport}
 use Rattle.ft_laws.proofs.EqualTerms.{first_domain, at_absent}
 use Rattle.ft_laws.proofs.Instances.{instantiate, equal_instances}
-use Rattle.ft_laws.proofs.Finitary.{more_rules, scoped, more_rules_step}
-use Rattle.ft_laws.proofs.Admissible.{law, finitary_sound, rule_before, finitary_levels}
+use Rattle.ft_laws.proofs.Inversion.{OfTerm, origin}
+use Rattle.ft_laws.proofs.NotDerivable.{no_loose_variable}
+use Rattle.ft_laws.proofs.Finitary.{Sound, more_rules, scoped, more_rules_step}
+use Rattle.ft_laws.proofs.Admissible.{admissible, law, finitary_sound, rule_before, finitary_levels}
 
 scoped_of : (T : List Rule) → Finitary T → ScopedTheory T
 scoped_of T f = scoped T (finitary_sound 7 T f)
@@ -114,3 +116,19 @@ law_general_equal_instances T f M G N H i j b h s o p =
     reify T (scoped_of T f) N (domain_count b) H (act_statement free i b) (act_statement free j b) (act free i h) (act free j h)
     (domain_count-map b (λ l. act free i) zero) (domain_count-map b (λ l. act free j) zero) (object-map b (λ l. act free i) zero o) (object-map b (λ l. act free j) zero o)
     (Rattle.std.proofs.Common.subst₂ (λ x y. EqualStatements T N H x y) (act-fill b free i h) (act-fill b free j h) (equal_instances T (scoped_of T f) M G N H i j (fill b h) s p))
+
+-- all types of a term are equal to the one in its last rule
+pub law_unique_type : LawUniqueType
+law_unique_type T f M G (bound i) A B p p' = absurd (no_loose_variable T M G i A p)
+law_unique_type T f M G (free v) A B p p' =
+    let so : Sound T = finitary_sound 7 T f in
+    let h : OfTerm T M G (free v) A = origin T (scoped T so) (sequent M G (plain (has_type (free v) A))) p in
+    do_transitive_types (do_symmetric_types h.2) (admissible T so 7 (sequent M G (plain (has_type (free v) B)) ∷ []) (sequent M G (plain (equal_types h.0 B))) (natural_variable v h.0 B h.1) (more p' none))
+law_unique_type T f M G (symbol r a) A B p p' =
+    let so : Sound T = finitary_sound 7 T f in
+    let h : OfTerm T M G (symbol r a) A = origin T (scoped T so) (sequent M G (plain (has_type (symbol r a) A))) p in
+    do_transitive_types (do_symmetric_types h.5) (admissible T so 7 (sequent M G (plain (has_type (symbol r a) B)) ∷ []) (sequent M G (plain (equal_types h.3 B))) (natural_symbol r h.0 a h.3 B h.1 h.4) (more p' none))
+law_unique_type T f M G (meta m a) A B p p' =
+    let so : Sound T = finitary_sound 7 T f in
+    let h : OfTerm T M G (meta m a) A = origin T (scoped T so) (sequent M G (plain (has_type (meta m a) A))) p in
+    do_transitive_types (do_symmetric_types h.5) (admissible T so 7 (sequent M G (plain (has_type (meta m a) B)) ∷ []) (sequent M G (plain (equal_types h.3 B))) (natural_metavariable m h.0 a h.3 B h.1 h.4) (more p' none))

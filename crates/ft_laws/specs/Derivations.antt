@@ -1,8 +1,8 @@
--- Laws of what is derivable: what it may mention, renaming, substitution, statements under a domain, longer theories.
+-- Laws of what is derivable: what it may mention, renaming, substitution, statements under a domain, longer theories, types.
 -- After Haselwarter and Bauer, "Finitary type theories with and without contexts".
 use Rattle.std.specs.Prelude.{ℕ, zero, Some, None, ◌≡◌, List, ◌∷◌, ◌++◌, ◌↔◌}
 use Rattle.ft_theory.specs.Expressions.{Expression, free, substitute, Without}
-use Rattle.ft_theory.specs.Statements.{is_type, has_type, Statement, plain, abstracted, AllOfStatement, ClosedStatement, StatementMentionsOnly, act_statement, opened}
+use Rattle.ft_theory.specs.Statements.{is_type, has_type, equal_types, Statement, plain, abstracted, AllOfStatement, ClosedStatement, StatementMentionsOnly, act_statement, opened}
 use Rattle.ft_theory.specs.Rules.{look_up, Rule}
 use Rattle.ft_theory.specs.Steps.{Unmentioned, Prim}
 use Rattle.ft_theory.specs.Derivability.{Der, DerUpTo, Finitary, FinitaryUpTo}
@@ -65,3 +65,7 @@ LawLongerTheory = (k : ℕ) (T U : List Rule) (M : List (ℕ × Statement)) (G :
 -- The same by primitive steps.
 abbrev pub LawLongerTheoryPrimitive : Type 0
 LawLongerTheoryPrimitive = (T U : List Rule) (M : List (ℕ × Statement)) (G : List (ℕ × Expression)) (x : Statement) → Prim T M G x → Prim (T ++ U) M G x
+
+-- In a finitary theory all types of a term are equal.
+abbrev pub LawUniqueType : Type 0
+LawUniqueType = (T : List Rule) → Finitary T → (M : List (ℕ × Statement)) (G : List (ℕ × Expression)) (t A B : Expression) → Prim T M G (plain (has_type t A)) → Prim T M G (plain (has_type t B)) → Prim T M G (plain (equal_types A B))

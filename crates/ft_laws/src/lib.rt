@@ -3,7 +3,7 @@
 
 ghost use Rattle.ft_laws.specs.Laws.{Law, LawInstantiate, LawEqualInstantiate};
 ghost use Rattle.ft_laws.specs.Syntax.{OpenUndoesClose, CloseUndoesOpen, OpenUndoesCloseInStatement, CloseUndoesOpenInStatement, SubstitutionAfterSubstitution, SubstitutionOfAbsent, OpenIsSubstitution, InstanceOfInstance, InstanceOfRuleInstance};
-ghost use Rattle.ft_laws.specs.Derivations.{DerivableIsPrimitive, FinitaryAtEachLevel, LawScope, LawRenaming, LawSimultaneousSubstitution, LawDomain, LawDomainAtEach, LawLongerTheory, LawLongerTheoryPrimitive};
+ghost use Rattle.ft_laws.specs.Derivations.{DerivableIsPrimitive, FinitaryAtEachLevel, LawScope, LawRenaming, LawSimultaneousSubstitution, LawDomain, LawDomainAtEach, LawLongerTheory, LawLongerTheoryPrimitive, LawUniqueType};
 ghost use Rattle.ft_laws.specs.Instances.{LawGeneralInstance, LawGeneralEqualInstances, LawRightInstance};
 ghost use Rattle.ft_laws.specs.Examples.{TermsInOrder, ConclusionOfApplication, PremisesOfApplication, TwoIsNatural, ProductsAreFinitary, BetaIsDerivable, NothingFromIllFormedBoundary, NothingFromIllFormedAnnotation, NothingFromIllFormedEquation, NoAbsentVariable, NoLooseVariable, NoughtIsNoType, NoughtIsNotInNought};
 ghost use Rattle.ft_laws.specs.Counterexamples.{LawNeedsFinitary, SidesNeedTheBoundary, NoStrengthening};
@@ -112,6 +112,11 @@ pub fn law_domain()
 pub fn law_longer_theory()
     ensures law { LawLongerTheory }
     ensures primitive { LawLongerTheoryPrimitive }
+{}
+
+/// All types of a term are equal.
+pub fn law_unique_type()
+    ensures law { LawUniqueType }
 {}
 
 /// What is derivable is derivable at an instance, where some metavariables are given arguments and the others stay.

@@ -1,6 +1,6 @@
 -- Worked instances of the definitions, by computation.
 use Rattle.std.proofs.Common.{refl}
-use Rattle.ft_theory.specs.Expressions.{bound, put, act, pushes, push, lift, lifts, rename, body_or, count}
+use Rattle.ft_theory.specs.Expressions.{put, act, pushes, push, lift, lifts, rename, body_or, count}
 use Rattle.ft_laws.specs.Examples.{TermsInOrder, ConclusionOfApplication, PremisesOfApplication}
 
 pub terms_in_order : TermsInOrder

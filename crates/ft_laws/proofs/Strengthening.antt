@@ -92,7 +92,7 @@ of_equation : (M : List (ℕ × Statement)) (G : List (ℕ × Expression)) (R : 
 of_equation M G R a e e' f o h (inl q) = subst (λ R. IsEquationGoal R.conclusion) (sym q) o
 of_equation M G R a e e' f o h (inr q) = subst (λ R. FitsPremises R.premises a → AllOf SeparateIn (sequents M G (filled_premises (instance_of R.premises a) R.premises a)) → ⊥) q (no_premise M G a e e') f h
 
-no_argument : (a : Arguments) → FitsPremises [] a → no_arguments ≡ a
+pub no_argument : (a : Arguments) → FitsPremises [] a → no_arguments ≡ a
 no_argument no_arguments f = refl
 no_argument (with_body n e a) f = absurd f
 no_argument (dummy n a) f = absurd f
@@ -103,7 +103,7 @@ of_congruence r R a b f f' o (inl e) =
     (λ f f'. ap (symbol r) (sym (no_argument a f) ∙ no_argument b f')) f f'
 of_congruence r R a b f f' o (inr e) = absurd (subst (λ R. IsObjectGoal R.conclusion) (sym e) o)
 
-no_entry : {A : Type 0} {P : Type 0} (M : List (ℕ × A)) (m : ℕ) (b : A) → M ≡ [] → look_up M m ≡ Some b → P
+pub no_entry : {A : Type 0} {P : Type 0} (M : List (ℕ × A)) (m : ℕ) (b : A) → M ≡ [] → look_up M m ≡ Some b → P
 no_entry M m b e q = nothing (subst (λ M. look_up M m ≡ Some b) e q)
 
 separate : (c : Sequent) → Tree (Step absurd_theory) c → SeparateIn c

@@ -1,7 +1,7 @@
 -- Conditions that carry weight: the laws without a premise of theirs are false, and there is no strengthening.
 use Rattle.std.specs.Prelude.{ℕ, ◌≤◌, Some, ◌≡◌, List, ◌∷◌, ◌⊎◌, ◌↔◌}
 use Rattle.ft_theory.specs.Expressions.{Expression, meta, Terms, count, Without}
-use Rattle.ft_theory.specs.Statements.{is_type, has_type, Statement, plain, AllOfStatement, domain_count, at, fill, IsObject}
+use Rattle.ft_theory.specs.Statements.{is_type, has_type, Statement, plain, abstracted, AllOfStatement, opened, domain_count, at, fill, IsObject}
 use Rattle.ft_theory.specs.Rules.{look_up, Rule, term_typings}
 use Rattle.ft_theory.specs.Steps.{Sequent, sequent, sequents, IsVariableFree, Step, Tree, Prim}
 use Rattle.ft_theory.specs.Derivability.{DerUpTo, Finitary}
@@ -27,6 +27,20 @@ Loose T M G x = Tree (λ ps c. Step T ps c ⊎ LooseMetavariable ps c) (sequent 
 -- With that row the law on sides is false: a derivable term may have a type that is not derivable.
 abbrev pub SidesNeedTheBoundary : Type 0
 SidesNeedTheBoundary = ((T : List Rule) → Finitary T → (M : List (ℕ × Statement)) (G : List (ℕ × Expression)) (t A : Expression) → Loose T M G (plain (has_type t A)) → Loose T M G (plain (is_type A))) → ⊥
+
+-- the metavariable row without the condition that its boundary has no free variables
+pub data OpenMetavariable : List Sequent → Sequent → Type 0 where
+  with_open_boundary : {M : List (ℕ × Statement)} {G : List (ℕ × Expression)} (m : ℕ) (b : Statement) (a : Terms) → look_up M m ≡ Some b → IsObject b → count a ≡ domain_count b
+      → OpenMetavariable (sequent M G b ∷ sequents M G (term_typings b a)) (sequent M G (fill (at b a) (meta m a)))
+
+-- derivable by primitive steps and that row
+abbrev pub WithOpenBoundaries : List Rule → List (ℕ × Statement) → List (ℕ × Expression) → Statement → Type 0
+WithOpenBoundaries T M G x = Tree (λ ps c. Step T ps c ⊎ OpenMetavariable ps c) (sequent M G x)
+
+-- With that row the law on substitution is false.
+abbrev pub SubstitutionNeedsVariableFree : Type 0
+SubstitutionNeedsVariableFree = ((T : List Rule) → Finitary T → (M : List (ℕ × Statement)) (G : List (ℕ × Expression)) (A t : Expression) (x : Statement)
+    → WithOpenBoundaries T M G (abstracted A x) → WithOpenBoundaries T M G (plain (has_type t A)) → WithOpenBoundaries T M G (opened t (abstracted A x))) → ⊥
 
 -- There is no strengthening: a variable that a statement does not mention cannot always be dropped.
 abbrev pub NoStrengthening : Type 0

@@ -6,7 +6,7 @@ ghost use Rattle.ft_laws.specs.Syntax.{OpenUndoesClose, CloseUndoesOpen, OpenUnd
 ghost use Rattle.ft_laws.specs.Derivations.{DerivableIsPrimitive, FinitaryAtEachLevel, LawScope, LawRenaming, LawSimultaneousSubstitution, LawDomain, LawDomainAtEach, LawLongerTheory, LawLongerTheoryPrimitive, LawUniqueType};
 ghost use Rattle.ft_laws.specs.Instances.{LawGeneralInstance, LawGeneralEqualInstances, LawRightInstance};
 ghost use Rattle.ft_laws.specs.Examples.{TermsInOrder, ConclusionOfApplication, PremisesOfApplication, TwoIsNatural, ProductsAreFinitary, BetaIsDerivable, NothingFromIllFormedBoundary, NothingFromIllFormedAnnotation, NothingFromIllFormedEquation, NoAbsentVariable, NoLooseVariable, NoughtIsNoType, NoughtIsNotInNought};
-ghost use Rattle.ft_laws.specs.Counterexamples.{LawNeedsFinitary, SidesNeedTheBoundary, NoStrengthening};
+ghost use Rattle.ft_laws.specs.Counterexamples.{LawNeedsFinitary, SidesNeedTheBoundary, SubstitutionNeedsVariableFree, NoStrengthening};
 
 /// Weakening: a statement may be taken to larger maps.
 /// Derivability by kinds up to 1 is derivability by primitive steps.
@@ -175,6 +175,11 @@ pub fn counterexample_not_finitary()
 /// Without the premise that a metavariable's boundary is derivable, the law on sides is false.
 pub fn counterexample_loose_metavariable()
     ensures law { SidesNeedTheBoundary }
+{}
+
+/// Without the condition that a metavariable's boundary has no free variables, the law on substitution is false.
+pub fn counterexample_free_variable_in_boundary()
+    ensures law { SubstitutionNeedsVariableFree }
 {}
 
 /// A variable that a derivable statement does not mention cannot always be dropped.

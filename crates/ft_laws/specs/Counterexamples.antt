@@ -11,9 +11,9 @@ use Rattle.ft_laws.specs.Derivations.{IsNew}
 abbrev pub LawForAllTheories : ℕ → Type 0
 LawForAllTheories k = (T : List Rule) (M : List (ℕ × Statement)) (G : List (ℕ × Expression)) (x : Statement) → DerUpTo k T M G x ↔ Prim T M G x
 
--- From level five on the law is false for theories that are not finitary.
+-- From level one on the law is false for theories that are not finitary: a rule's boundary may have a free variable.
 abbrev pub LawNeedsFinitary : Type 0
-LawNeedsFinitary = (k : ℕ) → 5 ≤ k → LawForAllTheories k → ⊥
+LawNeedsFinitary = (k : ℕ) → 1 ≤ k → LawForAllTheories k → ⊥
 
 -- the metavariable row without the premise that its boundary is derivable
 pub data LooseMetavariable : List Sequent → Sequent → Type 0 where

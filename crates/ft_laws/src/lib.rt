@@ -167,7 +167,7 @@ pub fn example_ill_typed()
     ensures not_in_itself { NoughtIsNotInNought }
 {}
 
-/// From level five on the law is false for theories that are not finitary.
+/// From level one on the law is false for theories that are not finitary.
 pub fn counterexample_not_finitary()
     ensures law { LawNeedsFinitary }
 {}

@@ -1,4 +1,4 @@
-use Rattle.ft_laws.proofs.Counterexamples.{sides_need_the_boundary}
+use Rattle.ft_laws.proofs.LooseBoundaries.{sides_need_the_boundary}
 use Rattle.ft_laws.proofs.counterexample_loose_metavariable.Goals as goal
 
 pub returns : goal.returns

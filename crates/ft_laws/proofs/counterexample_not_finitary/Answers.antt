@@ -1,4 +1,4 @@
-use Rattle.ft_laws.proofs.Counterexamples.{law_needs_finitary}
+use Rattle.ft_laws.proofs.FreeRules.{law_needs_finitary}
 use Rattle.ft_laws.proofs.counterexample_not_finitary.Goals as goal
 
 pub returns : goal.returns

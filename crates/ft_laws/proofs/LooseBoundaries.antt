@@ -1,37 +1,13 @@
--- Theories and maps over which a law without a premise of its own fails.
-use Rattle.std.proofs.Common.{◌≡◌, ℕ, zero, suc, Some, List, [], ◌∷◌, ◌⊎◌, inl, inr, refl, sym, ap, ◌∙◌, subst}
-use Rattle.ft_theory.specs.Expressions.{bound, symbol, meta, no_arguments, Terms, no_terms, count, act}
+-- A metavariable step without its boundary as a premise: a derivable term has a type that is not derivable.
+use Rattle.std.proofs.Common.{◌≡◌, ℕ, zero, Some, List, [], ◌∷◌, ◌⊎◌, inl, inr, refl, sym, ap, ◌∙◌, subst}
+use Rattle.ft_theory.specs.Expressions.{bound, meta, Terms, no_terms, count}
 use Rattle.ft_theory.specs.Statements.{is_type, has_type, equal_types, equal_terms, type_goal, term_goal, type_equation_goal, term_equation_goal, Statement, plain, abstracted, at, fill, equate}
-use Rattle.ft_theory.specs.Rules.{look_up, Rule}
+use Rattle.ft_theory.specs.Rules.{look_up}
 use Rattle.ft_theory.specs.Steps.{Sequent, sequent, Step, variable, metavariable, metavariable_equation, metavariable_congruence, abstraction, reflexive_type, reflexive_term, symmetric_types, symmetric_terms, transitive_types, transitive_terms, convert_term, convert_equation, for_type, for_term, for_types, for_terms, symbol_rule, equation_rule, congruence, Tree, node, none, Prim}
-use Rattle.ft_theory.specs.WideSteps.{conclusion_boundary}
-use Rattle.ft_laws.specs.Counterexamples.{LawNeedsFinitary, LooseMetavariable, loose, SidesNeedTheBoundary}
-use Rattle.ft_laws.proofs.Fresh.{some_path}
-use Rattle.ft_laws.proofs.Commute.{ScopedTheory, ScopedRule}
-use Rattle.ft_laws.proofs.Sides.{parts}
+use Rattle.ft_laws.specs.Counterexamples.{LooseMetavariable, loose, SidesNeedTheBoundary}
 use Rattle.ft_laws.proofs.Equal.{at_plain}
 use Rattle.ft_laws.proofs.Opens.{by_test}
 use Rattle.ft_laws.proofs.Rules.{nothing, found, past}
-use Rattle.ft_laws.proofs.NotDerivable.{no_rule}
-
--- one rule, `c : s`, where s is the symbol of no rule
-abbrev ill_formed_rule : Rule
-ill_formed_rule = record { premises = []; conclusion = term_goal (symbol 7 no_arguments) }
-
-abbrev ill_formed_theory : List Rule
-ill_formed_theory = ill_formed_rule ∷ []
-
--- it mentions no variables and no metavariables
-ill_formed_scoped : ScopedTheory ill_formed_theory
-ill_formed_scoped zero R q = subst ScopedRule (some_path ill_formed_rule R q) (tt, tt)
-ill_formed_scoped (suc r) R q = nothing q
-
-pub law_needs_finitary : LawNeedsFinitary
-unfolding act
-law_needs_finitary k l h =
-    no_rule ill_formed_theory ill_formed_scoped [] [] 7 no_arguments refl
-    (parts ill_formed_theory (sequent [] [] (plain (term_goal (symbol 7 no_arguments))))
-    ((h ill_formed_theory [] [] (plain (term_goal (symbol 7 no_arguments)))).0 (node [] (inr (5, l, conclusion_boundary 0 ill_formed_rule no_arguments refl tt)) none)))
 
 -- a metavariable m0 with the boundary `_ : m1()`, and no m1
 abbrev loose_map : List (ℕ × Statement)

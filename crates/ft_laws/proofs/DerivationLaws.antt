@@ -1,5 +1,5 @@
 -- The laws of what is derivable in their stated form: scope, renaming, substitution, domains, longer theories, levels.
-use Rattle.std.proofs.Common.{◌≡◌, ◌≢◌, ℕ, zero, suc, ◌+◌, ◌≤◌, Option, Some, None, List, [], ◌∷◌, ◌⊎◌, inl, inr, refl, sym, ap, ◌∙◌, subst, ◌↔◌}
+use Rattle.std.proofs.Common.{◌≡◌, ℕ, zero, Some, List, [], ◌∷◌, inl, inr, refl, subst, subst₂}
 use Rattle.std.specs.Prelude.{◌++◌}
 use Rattle.ft_theory.specs.Expressions.{bound, free, symbol, meta, act, substitute, ClosedAt, MentionsOnly}
 use Rattle.ft_theory.specs.Statements.{is_type, has_type, equal_types, plain, abstracted, act_statement, opened, domain_count, fill}
@@ -115,7 +115,7 @@ pub law_general_equal_instances : LawGeneralEqualInstances
 law_general_equal_instances T f M G N H i j b h s o p =
     reify T (scoped_of T f) N (domain_count b) H (act_statement free i b) (act_statement free j b) (act free i h) (act free j h)
     (domain_count-map b (λ l. act free i) zero) (domain_count-map b (λ l. act free j) zero) (object-map b (λ l. act free i) zero o) (object-map b (λ l. act free j) zero o)
-    (Rattle.std.proofs.Common.subst₂ (λ x y. EqualStatements T N H x y) (act-fill b free i h) (act-fill b free j h) (equal_instances T (scoped_of T f) M G N H i j (fill b h) s p))
+    (subst₂ (λ x y. EqualStatements T N H x y) (act-fill b free i h) (act-fill b free j h) (equal_instances T (scoped_of T f) M G N H i j (fill b h) s p))
 
 -- all types of a term are equal to the one in its last rule
 pub law_unique_type : LawUniqueType

@@ -1,6 +1,6 @@
 -- Statements whose parts are equal at all equal terms, and what follows of the one from the other.
 use Rattle.std.proofs.Common.{◌≡◌, ℕ, zero, suc, ◌+◌, Some, List, ◌∷◌, ◌⊎◌, inl, inr, refl, sym, ap, ◌∙◌, subst, subst₂, arith}
-use Rattle.ft_theory.specs.Expressions.{Expression, bound, free, symbol, meta, Arguments, no_arguments, with_body, dummy, Terms, no_terms, also, count, body_or, act, act_arguments, act_terms, ClosedAt, ClosedArguments, ClosedTerms, MentionsOnly, ArgumentsMentionOnly, TermsMentionOnly, Without}
+use Rattle.ft_theory.specs.Expressions.{Expression, free, Terms, no_terms, also, ClosedAt, open_at}
 use Rattle.ft_theory.specs.Statements.{Claim, is_type, has_type, equal_types, equal_terms, type_goal, term_goal, type_equation_goal, term_equation_goal, Statement, plain, abstracted, opened, domain, domain_count, at, fill_goal, fill, equate_goal, equate, IsObjectGoal, IsObject}
 use Rattle.ft_theory.specs.Rules.{look_up, Rule}
 use Rattle.ft_theory.specs.Steps.{sequent, Prim}
@@ -151,11 +151,11 @@ reify T sc M (suc n) G (abstracted A x) (abstracted B y) h k d d' o o' e =
     let K : List (ℕ × Expression) = (w, A) ∷ G in
     let e' : EqualStatements T M K (opened t (abstracted A (fill x h))) (opened t (abstracted B (fill y k))) =
     equal_opened T sc M G K A B (fill x h) (fill y k) t t e (Grows_add G G w A (Grows_refl G) (fresh_absent G w p)) (inl (w, refl, refl, look_here G w A)) in
-    let xh : opened t (abstracted A (fill x h)) ≡ fill (opened t (abstracted A x)) (Rattle.ft_theory.specs.Expressions.open_at (domain_count x + zero) t h) = fill-map x (λ l. Rattle.ft_theory.specs.Expressions.open_at l t) zero h in
-    let yk : opened t (abstracted B (fill y k)) ≡ fill (opened t (abstracted B y)) (Rattle.ft_theory.specs.Expressions.open_at (domain_count x + zero) t k) = fill-map y (λ l. Rattle.ft_theory.specs.Expressions.open_at l t) zero k ∙ ap (λ l. fill (opened t (abstracted B y)) (Rattle.ft_theory.specs.Expressions.open_at (l + zero) t k)) (dy ∙ sym dx) in
-    subst (λ z. Prim T M K z) (sym (equate-map x (λ l. Rattle.ft_theory.specs.Expressions.open_at l t) zero h k))
-    (reify T sc M n K (opened t (abstracted A x)) (opened t (abstracted B y)) (Rattle.ft_theory.specs.Expressions.open_at (domain_count x + zero) t h) (Rattle.ft_theory.specs.Expressions.open_at (domain_count x + zero) t k)
-    (domain_count-map x (λ l. Rattle.ft_theory.specs.Expressions.open_at l t) zero ∙ dx) (domain_count-map y (λ l. Rattle.ft_theory.specs.Expressions.open_at l t) zero ∙ dy) (object-opened (abstracted A x) t o) (object-opened (abstracted B y) t o') (subst₂ (λ u v. EqualStatements T M K u v) xh yk e')))
+    let xh : opened t (abstracted A (fill x h)) ≡ fill (opened t (abstracted A x)) (open_at (domain_count x + zero) t h) = fill-map x (λ l. open_at l t) zero h in
+    let yk : opened t (abstracted B (fill y k)) ≡ fill (opened t (abstracted B y)) (open_at (domain_count x + zero) t k) = fill-map y (λ l. open_at l t) zero k ∙ ap (λ l. fill (opened t (abstracted B y)) (open_at (l + zero) t k)) (dy ∙ sym dx) in
+    subst (λ z. Prim T M K z) (sym (equate-map x (λ l. open_at l t) zero h k))
+    (reify T sc M n K (opened t (abstracted A x)) (opened t (abstracted B y)) (open_at (domain_count x + zero) t h) (open_at (domain_count x + zero) t k)
+    (domain_count-map x (λ l. open_at l t) zero ∙ dx) (domain_count-map y (λ l. open_at l t) zero ∙ dy) (object-opened (abstracted A x) t o) (object-opened (abstracted B y) t o') (subst₂ (λ u v. EqualStatements T M K u v) xh yk e')))
 
 -- where the left one of two equal statements is derivable, the right one is
 pub transport_claim : (T : List Rule) → ScopedTheory T → (M : List (ℕ × Statement)) (G : List (ℕ × Expression)) (c d : Claim) → EqualClaims T M G c d → Prim T M G (plain c) → Prim T M G (plain d)
@@ -184,6 +184,6 @@ transport T sc M (suc n) G (abstracted A x) (abstracted B y) z e p =
     let K : List (ℕ × Expression) = (w, B) ∷ G in
     let g : Grows G K = Grows_add G G w B (Grows_refl G) (fresh_absent G w q) in
     let wA : Prim T M K (plain (has_type t A)) = do_convert_term (do_variable w (look_here G w B) (grow T sc M G K (plain (is_type B)) g pB)) (do_symmetric_types (grow T sc M G K (plain (equal_types A B)) g AB)) in
-    transport T sc M n K (opened t (abstracted A x)) (opened t (abstracted B y)) (domain_count-map x (λ l. Rattle.ft_theory.specs.Expressions.open_at l t) zero ∙ omega (arith, z))
+    transport T sc M n K (opened t (abstracted A x)) (opened t (abstracted B y)) (domain_count-map x (λ l. open_at l t) zero ∙ omega (arith, z))
     (equal_opened T sc M G K A B x y t t e g (inr (do_reflexive_term wA)))
     (substitute T sc M K A t x (grow T sc M G K (abstracted A x) g p) wA))

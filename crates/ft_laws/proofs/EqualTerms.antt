@@ -1,4 +1,6 @@
 -- Each derivable statement is equal to itself at equal terms; so equal terms may be put for a variable.
+use Rattle.ft_laws.proofs.Peel.Peeled.{first}
+use Rattle.ft_laws.proofs.Peel.{peel}
 use Rattle.std.proofs.Common.{◌≡◌, ℕ, zero, suc, ◌+◌, ◌≤◌, Some, None, List, ◌∷◌, inl, inr, refl, sym, ap, ◌∙◌, subst, subst₂, arith}
 use Rattle.ft_theory.specs.Expressions.{Expression, free, meta, Terms, count, body_or, open_at}
 use Rattle.ft_theory.specs.Statements.{Claim, is_type, has_type, equal_types, equal_terms, type_goal, term_goal, type_equation_goal, term_equation_goal, Statement, plain, abstracted, opened, domain_count, at, fill_goal, fill, equate_goal, equate, IsObjectGoal, IsObject}
@@ -6,7 +8,7 @@ use Rattle.ft_theory.specs.Rules.{look_up, Rule, term_typings, term_equations}
 use Rattle.ft_theory.specs.Steps.{sequent, sequents, IsVariableFree, Step, metavariable, metavariable_congruence, Trees, node, more, Prim}
 use Rattle.ft_laws.specs.Instances.{statement_at}
 use Rattle.ft_laws.proofs.Acts.{no_bodies, act_nothing}
-use Rattle.ft_laws.proofs.Steps.{do_reflexive_type, do_symmetric_types, do_transitive_types, do_transitive_terms, do_convert_term}
+use Rattle.ft_laws.proofs.Steps.{do_transitive_types, do_transitive_terms, do_variable}
 use Rattle.ft_laws.proofs.Scope.{object-at, domain_count-at}
 use Rattle.ft_laws.proofs.Statements.{fill-map, equate-map, domain_count-map, object-opened, act_statement_nothing}
 use Rattle.ft_laws.proofs.Commute.{ScopedTheory}
@@ -92,14 +94,14 @@ right_of_claim T sc M G (term_equation_goal s t A) h k o p = absurd o
 
 -- a property of what stands under the domains, taken in at fresh variables
 pub first_domain : (T : List Rule) (M : List (ℕ × Statement)) (G : List (ℕ × Expression)) (A : Expression) (x : Statement) → Prim T M G (abstracted A x) → Prim T M G (plain (is_type A))
-first_domain T M G A x p = Rattle.ft_laws.proofs.Peel.Peeled.first (Rattle.ft_laws.proofs.Peel.peel T (sequent M G (abstracted A x)) A x p refl)
+first_domain T M G A x p = first (peel T (sequent M G (abstracted A x)) A x p refl)
 
 -- a statement under a domain, opened at a variable that the map lacks
 pub at_absent : (T : List Rule) → ScopedTheory T → (M : List (ℕ × Statement)) (G : List (ℕ × Expression)) (A : Expression) (x : Statement) (w : ℕ) → look_up G w ≡ None → Prim T M G (abstracted A x) → Prim T M ((w, A) ∷ G) (opened (free w) (abstracted A x))
 at_absent T sc M G A x w l p =
     let K : List (ℕ × Expression) = (w, A) ∷ G in
     let g : Grows G K = Grows_add G G w A (Grows_refl G) l in
-    substitute T sc M K A (free w) x (grow T sc M G K (abstracted A x) g p) (Rattle.ft_laws.proofs.Steps.do_variable w (look_here G w A) (grow T sc M G K (plain (is_type A)) g (first_domain T M G A x p)))
+    substitute T sc M K A (free w) x (grow T sc M G K (abstracted A x) g p) (do_variable w (look_here G w A) (grow T sc M G K (plain (is_type A)) g (first_domain T M G A x p)))
 
 pub at_fresh : (T : List Rule) → ScopedTheory T → (M : List (ℕ × Statement)) (G : List (ℕ × Expression)) (A : Expression) (x : Statement) (w : ℕ) → limit_of_variables G ≤ w → Prim T M G (abstracted A x) → Prim T M ((w, A) ∷ G) (opened (free w) (abstracted A x))
 at_fresh T sc M G A x w l p = at_absent T sc M G A x w (fresh_absent G w l) p

@@ -9,11 +9,11 @@ use Rattle.ft_laws.specs.Instances.{StaysOrGiven, stays, given, EquationStaysOrH
 use Rattle.ft_laws.proofs.Acts.{IsClosedMap, ClosedBody}
 use Rattle.ft_laws.proofs.Steps.{do_variable}
 use Rattle.ft_laws.proofs.Scope.{scope, Fine, FineTerms, object-at, domain_count-at, AllOfStatement_head, Fine-term_typings}
-use Rattle.ft_laws.proofs.Statements.{fill-map, equate-map, domain_count-map, object-opened, object-map, equation-map, act_statement_nothing, fill_any}
+use Rattle.ft_laws.proofs.Statements.{fill-map, domain_count-map, object-map, equation-map, fill_any, equation-opened}
 use Rattle.ft_laws.proofs.Bodies.{at-fill, at-equate, term_typings-fill, term_typings-equate}
 use Rattle.ft_laws.proofs.Commute.{ScopedTheory}
 use Rattle.ft_laws.proofs.Traverse.{Grows, Grows_refl, Grows_add, applied, Maps, traverse, fine_all}
-use Rattle.ft_laws.proofs.Peel.{domain_count-fill}
+use Rattle.ft_laws.proofs.Peel.{domain_count-fill, domain_count-equate}
 use Rattle.ft_laws.proofs.Substitute.{substitute_all}
 use Rattle.ft_laws.proofs.Equal.{AllPaired, EqualHere, EqualStatements, grow}
 use Rattle.ft_laws.proofs.Relate.{Pairs, relate, pairs_of_equations}
@@ -58,7 +58,7 @@ at_equation T sc N H x e a o d p ts =
 
     equation_at : (a : Terms) (x : Statement) (e : Expression) → IsEquation x → at (fill x e) a ≡ fill (at x a) e
     equation_at no_terms x e o = refl
-    equation_at (also t a) x e o = ap (λ y. at y a) (opened_equation x t e o) ∙ equation_at a (opened t x) e (Rattle.ft_laws.proofs.Statements.equation-opened x t o)
+    equation_at (also t a) x e o = ap (λ y. at y a) (opened_equation x t e o) ∙ equation_at a (opened t x) e (equation-opened x t o)
 
 -- the argument at equal terms
 pub body_at_equals : (T : List Rule) → ScopedTheory T → (N : List (ℕ × Statement)) (H : List (ℕ × Expression)) (x : Statement) (e : Expression) (a c : Terms) → IsObject x → count a ≡ domain_count x → count c ≡ domain_count x → ClosedTerms zero a → ClosedTerms zero c → Prim T N H (fill x e) → AllPaired T N H (fill x e) a c
@@ -160,7 +160,7 @@ equal_pairs T sc M G N H i j s = record {
         let here : EqualHere T N K (at bi a) (at bj c) = e K (Grows_refl K) a c (pairs_of_equations T N K a c bi (d ∙ sym d') pp) in
         let one : Prim T N K (equate (at bi a) (put (pushes bound a) f) (put (pushes bound a) k)) =
         subst (λ z. Prim T N K z) (at-equate a bi f k di cl.0 cf ck)
-        (substitute_all T sc N K a (equate bi f k) (di ∙ sym (Rattle.ft_laws.proofs.Peel.domain_count-equate bi f k)) u' (subst (λ xs. Trees (Step T) (sequents N K xs)) (sym (term_typings-equate a bi f k)) ta)) in
+        (substitute_all T sc N K a (equate bi f k) (di ∙ sym (domain_count-equate bi f k)) u' (subst (λ xs. Trees (Step T) (sequents N K xs)) (sym (term_typings-equate a bi f k)) ta)) in
         let two : Prim T N K (equate (at bi a) (put (pushes bound a) k) (put (pushes bound c) k)) =
         body_at_equals T sc N K bi k a c oi di di' cl.0 cl.1 w (related_body T N K bi k a c (d ∙ sym d') pp) in
         subst₂ (λ x y. EqualHere T N K (fill (at bi a) x) (fill (at bj c) y)) (sym (applied_some i m (domain_count b) a f d q)) (sym (applied_some j m (domain_count b) c k d' q'))

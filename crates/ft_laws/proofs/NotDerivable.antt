@@ -1,7 +1,8 @@
 -- Sequents that are not derivable: by inversion of a derivation of a term or a type, and by what a derivation may mention.
+use Rattle.ft_laws.proofs.ProductsFinitary.{naturals_are_finitary}
 use Rattle.std.proofs.Common.{◌≡◌, ℕ, None, List, sym, ap, ◌∙◌, subst, arith}
 use Rattle.ft_theory.specs.Expressions.{Expression, bound, free, symbol, meta, Arguments, no_arguments, no_terms}
-use Rattle.ft_theory.specs.Statements.{Claim, is_type, has_type, equal_types, type_goal, term_goal, Statement, plain, at}
+use Rattle.ft_theory.specs.Statements.{Claim, is_type, has_type, equal_types, type_goal, term_goal, Statement, plain, at, abstracted, equal_terms, term_equation_goal, type_equation_goal}
 use Rattle.ft_theory.specs.Rules.{Rule, rule_at, conclusion_at}
 use Rattle.ft_theory.specs.Steps.{sequent, Prim}
 use Rattle.ft_laws.specs.Examples.{nought, rule_nought, naturals, NothingFromIllFormedBoundary, NothingFromIllFormedEquation, NothingFromIllFormedAnnotation, NoAbsentVariable, NoLooseVariable, NoughtIsNoType, NoughtIsNotInNought}
@@ -34,13 +35,13 @@ nothing_from_boundary T f M G m s a A n q p =
     the_type (is_type A) = A
     the_type (has_type t A) = A
     the_type (equal_types A B) = A
-    the_type (Rattle.ft_theory.specs.Statements.equal_terms s t A) = A
-    the_type (Rattle.ft_theory.specs.Statements.type_equation_goal A B) = A
-    the_type (Rattle.ft_theory.specs.Statements.term_equation_goal s t A) = A
+    the_type (equal_terms s t A) = A
+    the_type (type_equation_goal A B) = A
+    the_type (term_equation_goal s t A) = A
 
     below : Statement → Expression
     below (plain c) = the_type c
-    below (Rattle.ft_theory.specs.Statements.abstracted A x) = A
+    below (abstracted A x) = A
 
     goal_type : (A B : Expression) → plain (term_goal A) ≡ plain (term_goal B) → A ≡ B
     goal_type A B e = ap below e
@@ -67,7 +68,7 @@ no_loose_variable T M G i A p = no_less i (scope T (sequent M G (plain (has_type
 
 -- the natural numbers are scoped, since no boundary of theirs mentions anything
 naturals_scoped : ScopedTheory naturals
-naturals_scoped = scoped naturals (finitary_sound 7 naturals Rattle.ft_laws.proofs.ProductsFinitary.naturals_are_finitary)
+naturals_scoped = scoped naturals (finitary_sound 7 naturals naturals_are_finitary)
 
 pub nought_is_no_type : NoughtIsNoType
 nought_is_no_type M G p =
@@ -80,9 +81,9 @@ nought_is_no_type M G p =
     is_term (is_type A) = ⊥
     is_term (has_type t A) = ⊥
     is_term (equal_types A B) = ⊥
-    is_term (Rattle.ft_theory.specs.Statements.equal_terms s t A) = ⊥
-    is_term (Rattle.ft_theory.specs.Statements.type_equation_goal A B) = ⊥
-    is_term (Rattle.ft_theory.specs.Statements.term_equation_goal s t A) = ⊥
+    is_term (equal_terms s t A) = ⊥
+    is_term (type_equation_goal A B) = ⊥
+    is_term (term_equation_goal s t A) = ⊥
 
     clash : conclusion_at rule_nought no_arguments ≡ type_goal → ⊥
     clash e = subst is_term e tt

@@ -1,7 +1,7 @@
 -- The natural numbers and dependent products: worked derivations, by primitive and wide steps.
 use Rattle.std.proofs.Common.{◌≡◌, ℕ, Some, List, [], ◌∷◌, inl, inr, refl, arith}
 use Rattle.ft_theory.specs.Expressions.{Expression, bound, free, symbol, Arguments, no_arguments, with_body, no_terms, also, count, lifts, put, push, pushes, body_or, act, open_at, close_at}
-use Rattle.ft_theory.specs.Statements.{is_type, has_type, equal_terms, type_goal, term_goal, term_equation_goal, Statement, plain, abstracted, domain_count, at, fill_goal, fill, opened, IsObjectGoal, IsObject, IsEquationGoal}
+use Rattle.ft_theory.specs.Statements.{is_type, has_type, type_goal, term_goal, Statement, plain, abstracted, fill_goal, IsObjectGoal, close_statement}
 use Rattle.ft_theory.specs.Rules.{look_up, Rule, rule_at, instance_of, FitsPremises, filled_premises, conclusion_at}
 use Rattle.ft_theory.specs.Steps.{Sequent, sequent, sequents, Step, variable, metavariable, abstraction, for_type, for_term, symbol_rule, Tree, Trees, node, none, more, Prim}
 use Rattle.ft_theory.specs.WideSteps.{weakening, object_instance}
@@ -44,9 +44,9 @@ unfolding count
 base_is_type T M G q = by_step T (sequent M G (plain type_goal) ∷ []) (sequent M G (plain (is_type base))) (metavariable 0 (plain type_goal) no_terms q tt tt refl) (more (by_step T [] (sequent M G (plain type_goal)) for_type none) none)
 
 -- what is derivable at a variable of type `A` is so under that variable
-under_base : (T : List Rule) (M : List (ℕ × Statement)) (x : Statement) → look_up M 0 ≡ Some (plain type_goal) → Der T M ((0, base) ∷ []) x → Der T M [] (abstracted base (Rattle.ft_theory.specs.Statements.close_statement 0 x))
+under_base : (T : List Rule) (M : List (ℕ × Statement)) (x : Statement) → look_up M 0 ≡ Some (plain type_goal) → Der T M ((0, base) ∷ []) x → Der T M [] (abstracted base (close_statement 0 x))
 under_base T M x q p =
-    by_step T (sequent M [] (plain (is_type base)) ∷ sequent M ((0, base) ∷ []) x ∷ []) (sequent M [] (abstracted base (Rattle.ft_theory.specs.Statements.close_statement 0 x)))
+    by_step T (sequent M [] (plain (is_type base)) ∷ sequent M ((0, base) ∷ []) x ∷ []) (sequent M [] (abstracted base (close_statement 0 x)))
     (abstraction 0 base x refl (λ u B e. nothing e)) (more (base_is_type T M [] q) (more p none))
 
 variable_in_base : (T : List Rule) (M : List (ℕ × Statement)) → look_up M 0 ≡ Some (plain type_goal) → Der T M ((0, base) ∷ []) (plain (has_type (free 0) base))

@@ -1,7 +1,7 @@
 -- The theory of natural numbers and dependent products is finitary, rule by rule; and an instance of its beta rule.
 use Rattle.std.proofs.Common.{◌≡◌, ℕ, Some, List, [], ◌∷◌, inl, inr, refl, arith}
 use Rattle.ft_theory.specs.Expressions.{Expression, bound, free, Arguments, no_arguments, with_body, count, rename, lift, lifts, put, push, pushes, body_or, act, close_at}
-use Rattle.ft_theory.specs.Statements.{is_type, has_type, equal_terms, type_goal, term_goal, term_equation_goal, Statement, plain, abstracted}
+use Rattle.ft_theory.specs.Statements.{is_type, has_type, equal_terms, type_goal, term_goal, term_equation_goal, Statement, plain, abstracted, close_statement}
 use Rattle.ft_theory.specs.Rules.{Rule, rule_at, instance_of, filled_premises}
 use Rattle.ft_theory.specs.Steps.{sequent, sequents, variable, abstraction, for_type, for_term, for_terms, node, none, more, Prim}
 use Rattle.ft_theory.specs.WideSteps.{equation_instance}
@@ -116,9 +116,9 @@ pub naturals_are_finitary : Finitary naturals
 naturals_are_finitary = (natural_holds [], (nought_holds (rule_natural ∷ []) refl, (successor_holds (rule_natural ∷ rule_nought ∷ []) refl, tt)))
 
 -- `{x : Nat}` before what is derivable at a variable of type `Nat`
-under_natural : (x : Statement) → Der naturals_and_products [] ((0, natural) ∷ []) x → Der naturals_and_products [] [] (abstracted natural (Rattle.ft_theory.specs.Statements.close_statement 0 x))
+under_natural : (x : Statement) → Der naturals_and_products [] ((0, natural) ∷ []) x → Der naturals_and_products [] [] (abstracted natural (close_statement 0 x))
 under_natural x p =
-    by_step naturals_and_products (sequent [] [] (plain (is_type natural)) ∷ sequent [] ((0, natural) ∷ []) x ∷ []) (sequent [] [] (abstracted natural (Rattle.ft_theory.specs.Statements.close_statement 0 x)))
+    by_step naturals_and_products (sequent [] [] (plain (is_type natural)) ∷ sequent [] ((0, natural) ∷ []) x ∷ []) (sequent [] [] (abstracted natural (close_statement 0 x)))
     (abstraction 0 natural x refl (λ u B e. nothing e)) (more (natural_type naturals_and_products [] [] refl) (more p none))
 
 family_premise : Der naturals_and_products [] [] (abstracted natural (plain (is_type natural)))

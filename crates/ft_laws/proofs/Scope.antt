@@ -6,7 +6,7 @@ use Rattle.ft_theory.specs.Rules.{look_up, Rule, instance_of, FitsPremises, fill
 use Rattle.ft_theory.specs.Steps.{Sequent, sequents, Step, variable, metavariable, metavariable_equation, metavariable_congruence, abstraction, reflexive_type, reflexive_term, symmetric_types, symmetric_terms, transitive_types, transitive_terms, convert_term, convert_equation, for_type, for_term, for_types, for_terms, symbol_rule, equation_rule, congruence, Tree, Prim}
 use Rattle.ft_laws.proofs.Induction.{AllOf, induct}
 use Rattle.ft_laws.proofs.Opens.{other, Closed-open, Closed-close, MentionsOnly-open, MentionsOnly-close}
-use Rattle.ft_laws.proofs.Statements.{AllOfStatement-map, stmt_mono, AllOfStatement_shift, AllOfStatement_unshift, domain_count-map, domain_count-opened}
+use Rattle.ft_laws.proofs.Statements.{AllOfStatement-map, AllOfStatement_shift, AllOfStatement_unshift, domain_count-map, domain_count-opened, equation-opened, equation_core-map, object-map, object-opened, object_core-map}
 
 -- the map has a type for the variable
 abbrev pub InVars : List (ℕ × Expression) → ℕ → Type 0
@@ -120,11 +120,11 @@ domain_count-at (also t a) x e = domain_count-at a (opened t x) (sym (domain_cou
 
 pub object-at : (a : Terms) (x : Statement) → IsObject x → IsObject (at x a)
 object-at no_terms x o = o
-object-at (also t a) x o = object-at a (opened t x) (Rattle.ft_laws.proofs.Statements.object-opened x t o)
+object-at (also t a) x o = object-at a (opened t x) (object-opened x t o)
 
 pub equation-at : (a : Terms) (x : Statement) → IsEquation x → IsEquation (at x a)
 equation-at no_terms x o = o
-equation-at (also t a) x o = equation-at a (opened t x) (Rattle.ft_laws.proofs.Statements.equation-opened x t o)
+equation-at (also t a) x o = equation-at a (opened t x) (equation-opened x t o)
 
 pub Fine-filled_premises : (M : List (ℕ × Statement)) (G : List (ℕ × Expression)) (i : ℕ → ℕ → Option Expression) (ps : List (ℕ × Statement)) (a : Arguments) → FitsPremises ps a → AllOf (λ c. FineStatement c.metavariables c.variables c.statement) (sequents M G (filled_premises i ps a)) → FineArguments M G a
 Fine-filled_premises M G i [] no_arguments f h = (tt, tt)
@@ -133,7 +133,7 @@ Fine-filled_premises M G i [] (dummy n a) f h = absurd f
 Fine-filled_premises M G i (p ∷ ps) no_arguments f h = absurd f
 Fine-filled_premises M G i (p ∷ ps) (with_body n e a) f h =
     let rest : FineArguments M G a = Fine-filled_premises M G i ps a f.2 h.1 in
-    let q : Fine M G (domain_count (act_statement free i p.1) + zero) e = AllOfStatement_head (act_statement free i p.1) (Fine M G) zero e (Rattle.ft_laws.proofs.Statements.object-map p.1 (λ l. act free i) zero f.1) h.0 in
+    let q : Fine M G (domain_count (act_statement free i p.1) + zero) e = AllOfStatement_head (act_statement free i p.1) (Fine M G) zero e (object-map p.1 (λ l. act free i) zero f.1) h.0 in
     let d : domain_count (act_statement free i p.1) ≡ n = domain_count-map p.1 (λ l. act free i) zero ∙ sym f.0 in
     ((subst (λ l. ClosedAt (l + zero) e) d q.0, rest.0), (q.1, rest.1))
 Fine-filled_premises M G i (p ∷ ps) (dummy n a) f h = Fine-filled_premises M G i ps a f.2 h.1
@@ -167,5 +167,5 @@ scope T = induct (Step T) (λ c. FineStatement c.metavariables c.variables c.sta
     step ps c (symbol_rule {M} {G} r R a q f o) h =
         AllOfClaim-fill (conclusion_at R a) (Fine M G zero) (symbol r a) h.0 (Fine-filled_premises M G (instance_of R.premises a) R.premises a f h.1)
     step ps c (equation_rule {M} {G} r R a q f o) h =
-        AllOfClaim-equation (conclusion_at R a) (Fine M G zero) (bound zero) (Rattle.ft_laws.proofs.Statements.equation_core-map R.conclusion (act free (instance_of R.premises a)) o) h.0
-    step ps c (congruence {M} {G} r R a b q f f' o) h = AllOfClaim-equate (conclusion_at R a) (Fine M G zero) (symbol r a) (symbol r b) (Rattle.ft_laws.proofs.Statements.object_core-map R.conclusion (act free (instance_of R.premises a)) o) h.0 h.1.0
+        AllOfClaim-equation (conclusion_at R a) (Fine M G zero) (bound zero) (equation_core-map R.conclusion (act free (instance_of R.premises a)) o) h.0
+    step ps c (congruence {M} {G} r R a b q f f' o) h = AllOfClaim-equate (conclusion_at R a) (Fine M G zero) (symbol r a) (symbol r b) (object_core-map R.conclusion (act free (instance_of R.premises a)) o) h.0 h.1.0

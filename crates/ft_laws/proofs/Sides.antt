@@ -1,6 +1,6 @@
 -- The boundary of what is derivable is derivable, and so are the sides and the type of a derivable boundary.
 use Rattle.std.proofs.Common.{◌≡◌, ℕ, zero, suc, List, [], ◌∷◌, ◌⊎◌, inl, inr, refl, sym, ap, subst, arith}
-use Rattle.ft_theory.specs.Expressions.{Expression, bound, free, symbol, meta, Arguments, no_arguments, with_body, dummy, Terms, no_terms, also, count, body_or, act, act_arguments, act_terms, ClosedAt, ClosedArguments, ClosedTerms, MentionsOnly, ArgumentsMentionOnly, TermsMentionOnly, Without}
+use Rattle.ft_theory.specs.Expressions.{Expression, bound, free, symbol, meta, act, close_at}
 use Rattle.ft_theory.specs.Statements.{Claim, is_type, has_type, equal_types, equal_terms, type_goal, term_goal, type_equation_goal, term_equation_goal, Statement, plain, abstracted, map_claim, map_statement, domain_count, at, fill_goal, fill, equate_goal, equate, IsObjectGoal, IsEquationGoal, IsObject, IsEquation, boundary_of_claim, boundary_of}
 use Rattle.ft_theory.specs.Rules.{Rule, instance_of, conclusion_at}
 use Rattle.ft_theory.specs.Steps.{Sequent, sequent, Step, variable, metavariable, metavariable_equation, metavariable_congruence, abstraction, reflexive_type, reflexive_term, symmetric_types, symmetric_terms, transitive_types, transitive_terms, convert_term, convert_equation, for_type, for_term, for_types, for_terms, symbol_rule, equation_rule, congruence, Tree, Trees, node, none, more, Prim}
@@ -138,7 +138,7 @@ boundary T sc = induct (Step T) (λ c. Prim T c.metavariables c.variables (bound
     step ps c (metavariable_congruence {M} {G} m b a k q g o d d') (more t (more t' ts)) h =
         both_sides_statement T M G (at b a) (meta m a) (meta m k) (domain_count-at a b d) (object-at a b o) t t' h.0
     step ps c (abstraction {M} {G} v A x n u) (more t (more t' none)) h =
-        subst (λ z. Prim T M G (abstracted A z)) (sym (boundary-map x (λ l. Rattle.ft_theory.specs.Expressions.close_at l v) zero))
+        subst (λ z. Prim T M G (abstracted A z)) (sym (boundary-map x (λ l. close_at l v) zero))
         (node (sequent M G (plain (is_type A)) ∷ sequent M ((v, A) ∷ G) (boundary_of x) ∷ []) (abstraction v A (boundary_of x) n u) (more t (more h.1.0 none)))
     step ps c (reflexive_type A) (more t none) h = do_for_types t t
     step ps c (reflexive_term {M} {G} t A) (more p none) h = do_for_terms (parts T (sequent M G (plain (term_goal A))) h.0) p p

@@ -11,7 +11,7 @@ use Rattle.ft_laws.proofs.Opens.{same, other, by_test}
 use Rattle.ft_laws.proofs.Steps.{do_reflexive_type, do_reflexive_term, do_symmetric_types, do_symmetric_terms, do_transitive_types, do_transitive_terms, do_convert_term, do_convert_equation, do_for_type, do_for_term, do_for_types, do_for_terms, do_variable}
 use Rattle.ft_laws.proofs.Fresh.{limit_of_statement, limit_of_variables, above_statement, fresh_absent, fresh_unmentioned, some_path}
 use Rattle.ft_laws.proofs.Scope.{scope, Fine, FineStatement, FineTerms, InVars, InMets, Fine-term_typings, Fine-close}
-use Rattle.ft_laws.proofs.Statements.{act-opened, act_stmt_agree, opened-closed, closed-opened, stmt_mono, domain_count-map, object-map, object_core-map, equation-map, equation_core-map, fill_goal-map, equate_goal-map, fill_any, map_any, AllOfStatement-map}
+use Rattle.ft_laws.proofs.Statements.{act-opened, opened-closed, closed-opened, stmt_mono, fill_goal-map, equate_goal-map, map_statement_agree}
 use Rattle.ft_laws.proofs.Commute.{acts, act-fill, act-equate, act-at, term_typings-act, term_equations-act, ScopedTheory, ScopedRule, conclusion-act, filled_premises-act, equated_premises-act, FitsPremises-act, variable_free-act}
 
 -- the second map has all that the first has
@@ -40,7 +40,7 @@ pub send_without : (e : Expression) (g : ℕ → Expression) (i : ℕ → ℕ �
 send_without e g i v t w = act_agree e (send g v t) g i i (Uses_mono e (λ u. u ≢ v) (λ u. send g v t u ≡ g u) (λ m k. Unit {0}) (λ m k. i m k ≡ i m k) (λ u n. other u v t (g u) n) (λ m k h. refl) w)
 
 pub send_without_statement : (x : Statement) (g : ℕ → Expression) (i : ℕ → ℕ → Option Expression) (v : ℕ) (t : Expression) (k : ℕ) → AllOfStatement (λ l. Without v) k x → map_statement (λ l. act (send g v t) i) k x ≡ map_statement (λ l. act g i) k x
-send_without_statement x g i v t k w = Rattle.ft_laws.proofs.Statements.map_statement_agree x (λ l. act (send g v t) i) (λ l. act g i) (λ l. Without v) k (λ l e h. send_without e g i v t h) w
+send_without_statement x g i v t k w = map_statement_agree x (λ l. act (send g v t) i) (λ l. act g i) (λ l. Without v) k (λ l e h. send_without e g i v t h) w
 
 -- what is scoped over G does not mention what G lacks
 pub absent_without : (M : List (ℕ × Statement)) (G : List (ℕ × Expression)) (v : ℕ) (k : ℕ) (e : Expression) → look_up G v ≡ None → Fine M G k e → Without v e

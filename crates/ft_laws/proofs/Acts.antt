@@ -1,8 +1,9 @@
+-- What is put for free variables and metavariables (`act`), after renaming, putting and acting; it depends only on what is mentioned.
 use Rattle.std.proofs.Common.{◌≡◌, ℕ, zero, suc, ◌+◌, ◌<◌, Option, Some, None, refl, sym, ap, ap₂, ◌∙◌, subst, arith}
 use mathlib.Core.Path.{fun_ext}
 use Rattle.ft_theory.specs.Expressions.{Expression, bound, free, symbol, meta, Arguments, no_arguments, with_body, dummy, Terms, no_terms, also, count, under_binders, rename, rename_arguments, rename_terms, lift, lifts, put, put_arguments, put_terms, push, pushes, body_or, act, act_arguments, act_terms, ClosedAt, MentionsOnly, ArgumentsMentionOnly, TermsMentionOnly}
 use Rattle.ft_laws.proofs.Raw.{put-put}
-use Rattle.ft_laws.proofs.Closed.{rename_put, put_agree, put_closed, rename_closed}
+use Rattle.ft_laws.proofs.Closed.{rename_is_put, put_agree, put_closed, rename_closed}
 
 -- counts stay
 pub count-put : (a : Terms) (s : ℕ → Expression) → count (put_terms s a) ≡ count a
@@ -78,10 +79,10 @@ lifts-act zero g i s h j = refl
 lifts-act (suc n) g i s h zero = refl
 lifts-act (suc n) g i s h (suc j) = h (lifts n s j) ∙ ap (rename suc) (lifts-act n g i s h j)
 
-rename_terms_put : (a : Terms) (r : ℕ → ℕ) → rename_terms r a ≡ put_terms (λ j. bound (r j)) a
+rename_terms_is_put : (a : Terms) (r : ℕ → ℕ) → rename_terms r a ≡ put_terms (λ j. bound (r j)) a
 unfolding rename put
-rename_terms_put no_terms r = refl
-rename_terms_put (also t a) r = ap₂ also (rename_put t r) (rename_terms_put a r)
+rename_terms_is_put no_terms r = refl
+rename_terms_is_put (also t a) r = ap₂ also (rename_is_put t r) (rename_terms_is_put a r)
 
 mutual
   unfolding act rename
@@ -89,19 +90,19 @@ mutual
   pub act-rename : (e : Expression) (g : ℕ → Expression) (i : ℕ → ℕ → Option Expression) (r : ℕ → ℕ) → IsClosedMap g i → act g i (rename r e) ≡ rename r (act g i e)
   act-rename (bound j) g i r c = refl
   act-rename (free v) g i r c = sym (rename_closed (g v) r (c.frees v))
-  act-rename (symbol f a) g i r c = ap (symbol f) (args a g i r c)
+  act-rename (symbol f a) g i r c = ap (symbol f) (act-rename-arguments a g i r c)
   act-rename (meta m a) g i r c =
-      ap₂ (λ k b. body_or (i m k) m b) (ap count (rename_terms_put a r) ∙ count-put a (λ j. bound (r j))) (terms a g i r c ∙ rename_terms_put (act_terms g i a) r)
-      ∙ sym (rename_put (body_or (i m (count a)) m (act_terms g i a)) r ∙ put-body_or (i m (count a)) m (act_terms g i a) (λ j. bound (r j)) (subst (ClosedBody (i m (count a))) (sym (count-act a g i)) (c.bodies m (count a))))
+      ap₂ (λ k b. body_or (i m k) m b) (ap count (rename_terms_is_put a r) ∙ count-put a (λ j. bound (r j))) (act-rename-terms a g i r c ∙ rename_terms_is_put (act_terms g i a) r)
+      ∙ sym (rename_is_put (body_or (i m (count a)) m (act_terms g i a)) r ∙ put-body_or (i m (count a)) m (act_terms g i a) (λ j. bound (r j)) (subst (ClosedBody (i m (count a))) (sym (count-act a g i)) (c.bodies m (count a))))
 
-  args : (a : Arguments) (g : ℕ → Expression) (i : ℕ → ℕ → Option Expression) (r : ℕ → ℕ) → IsClosedMap g i → act_arguments g i (rename_arguments r a) ≡ rename_arguments r (act_arguments g i a)
-  args no_arguments g i r c = refl
-  args (with_body n e a) g i r c = ap₂ (with_body n) (act-rename e g i (under_binders n r) c) (args a g i r c)
-  args (dummy n a) g i r c = ap (dummy n) (args a g i r c)
+  act-rename-arguments : (a : Arguments) (g : ℕ → Expression) (i : ℕ → ℕ → Option Expression) (r : ℕ → ℕ) → IsClosedMap g i → act_arguments g i (rename_arguments r a) ≡ rename_arguments r (act_arguments g i a)
+  act-rename-arguments no_arguments g i r c = refl
+  act-rename-arguments (with_body n e a) g i r c = ap₂ (with_body n) (act-rename e g i (under_binders n r) c) (act-rename-arguments a g i r c)
+  act-rename-arguments (dummy n a) g i r c = ap (dummy n) (act-rename-arguments a g i r c)
 
-  terms : (a : Terms) (g : ℕ → Expression) (i : ℕ → ℕ → Option Expression) (r : ℕ → ℕ) → IsClosedMap g i → act_terms g i (rename_terms r a) ≡ rename_terms r (act_terms g i a)
-  terms no_terms g i r c = refl
-  terms (also e a) g i r c = ap₂ also (act-rename e g i r c) (terms a g i r c)
+  act-rename-terms : (a : Terms) (g : ℕ → Expression) (i : ℕ → ℕ → Option Expression) (r : ℕ → ℕ) → IsClosedMap g i → act_terms g i (rename_terms r a) ≡ rename_terms r (act_terms g i a)
+  act-rename-terms no_terms g i r c = refl
+  act-rename-terms (also e a) g i r c = ap₂ also (act-rename e g i r c) (act-rename-terms a g i r c)
 
 mutual
   unfolding act put
@@ -109,19 +110,19 @@ mutual
   pub act-put : (e : Expression) (g : ℕ → Expression) (i : ℕ → ℕ → Option Expression) (s : ℕ → Expression) → IsClosedMap g i → act g i (put s e) ≡ put (λ j. act g i (s j)) (act g i e)
   act-put (bound j) g i s c = refl
   act-put (free v) g i s c = sym (put_closed (g v) (λ j. act g i (s j)) (c.frees v))
-  act-put (symbol f a) g i s c = ap (symbol f) (args1 a g i s c)
+  act-put (symbol f a) g i s c = ap (symbol f) (act-put-arguments a g i s c)
   act-put (meta m a) g i s c =
-      ap₂ (λ k b. body_or (i m k) m b) (count-put a s) (terms1 a g i s c)
+      ap₂ (λ k b. body_or (i m k) m b) (count-put a s) (act-put-terms a g i s c)
       ∙ sym (put-body_or (i m (count a)) m (act_terms g i a) (λ j. act g i (s j)) (subst (ClosedBody (i m (count a))) (sym (count-act a g i)) (c.bodies m (count a))))
 
-  args1 : (a : Arguments) (g : ℕ → Expression) (i : ℕ → ℕ → Option Expression) (s : ℕ → Expression) → IsClosedMap g i → act_arguments g i (put_arguments s a) ≡ put_arguments (λ j. act g i (s j)) (act_arguments g i a)
-  args1 no_arguments g i s c = refl
-  args1 (with_body n e a) g i s c = ap₂ (with_body n) (act-put e g i (lifts n s) c ∙ ap (λ u. put u (act g i e)) (fun_ext (lifts-act n g i s (λ e. act-rename e g i suc c)))) (args1 a g i s c)
-  args1 (dummy n a) g i s c = ap (dummy n) (args1 a g i s c)
+  act-put-arguments : (a : Arguments) (g : ℕ → Expression) (i : ℕ → ℕ → Option Expression) (s : ℕ → Expression) → IsClosedMap g i → act_arguments g i (put_arguments s a) ≡ put_arguments (λ j. act g i (s j)) (act_arguments g i a)
+  act-put-arguments no_arguments g i s c = refl
+  act-put-arguments (with_body n e a) g i s c = ap₂ (with_body n) (act-put e g i (lifts n s) c ∙ ap (λ u. put u (act g i e)) (fun_ext (lifts-act n g i s (λ e. act-rename e g i suc c)))) (act-put-arguments a g i s c)
+  act-put-arguments (dummy n a) g i s c = ap (dummy n) (act-put-arguments a g i s c)
 
-  terms1 : (a : Terms) (g : ℕ → Expression) (i : ℕ → ℕ → Option Expression) (s : ℕ → Expression) → IsClosedMap g i → act_terms g i (put_terms s a) ≡ put_terms (λ j. act g i (s j)) (act_terms g i a)
-  terms1 no_terms g i s c = refl
-  terms1 (also e a) g i s c = ap₂ also (act-put e g i s c) (terms1 a g i s c)
+  act-put-terms : (a : Terms) (g : ℕ → Expression) (i : ℕ → ℕ → Option Expression) (s : ℕ → Expression) → IsClosedMap g i → act_terms g i (put_terms s a) ≡ put_terms (λ j. act g i (s j)) (act_terms g i a)
+  act-put-terms no_terms g i s c = refl
+  act-put-terms (also e a) g i s c = ap₂ also (act-put e g i s c) (act-put-terms a g i s c)
 
 -- act after act
 abbrev pub after_at : (ℕ → Expression) → (ℕ → ℕ → Option Expression) → Option Expression → ℕ → ℕ → Option Expression
@@ -142,38 +143,38 @@ mutual
   pub act-act : (e : Expression) (g h : ℕ → Expression) (i j : ℕ → ℕ → Option Expression) → IsClosedMap g i → act g i (act h j e) ≡ act (λ v. act g i (h v)) (after g i j) e
   act-act (bound k) g h i j c = refl
   act-act (free v) g h i j c = refl
-  act-act (symbol f a) g h i j c = ap (symbol f) (args2 a g h i j c)
-  act-act (meta m a) g h i j c = act-body_or (j m (count a)) m (count a) (act_terms h j a) g i c (count-act a h j) ∙ ap (body_or (after g i j m (count a)) m) (terms2 a g h i j c)
+  act-act (symbol f a) g h i j c = ap (symbol f) (act-act-arguments a g h i j c)
+  act-act (meta m a) g h i j c = act-body_or (j m (count a)) m (count a) (act_terms h j a) g i c (count-act a h j) ∙ ap (body_or (after g i j m (count a)) m) (act-act-terms a g h i j c)
 
-  args2 : (a : Arguments) (g h : ℕ → Expression) (i j : ℕ → ℕ → Option Expression) → IsClosedMap g i → act_arguments g i (act_arguments h j a) ≡ act_arguments (λ v. act g i (h v)) (after g i j) a
-  args2 no_arguments g h i j c = refl
-  args2 (with_body n e a) g h i j c = ap₂ (with_body n) (act-act e g h i j c) (args2 a g h i j c)
-  args2 (dummy n a) g h i j c = ap (dummy n) (args2 a g h i j c)
+  act-act-arguments : (a : Arguments) (g h : ℕ → Expression) (i j : ℕ → ℕ → Option Expression) → IsClosedMap g i → act_arguments g i (act_arguments h j a) ≡ act_arguments (λ v. act g i (h v)) (after g i j) a
+  act-act-arguments no_arguments g h i j c = refl
+  act-act-arguments (with_body n e a) g h i j c = ap₂ (with_body n) (act-act e g h i j c) (act-act-arguments a g h i j c)
+  act-act-arguments (dummy n a) g h i j c = ap (dummy n) (act-act-arguments a g h i j c)
 
-  terms2 : (a : Terms) (g h : ℕ → Expression) (i j : ℕ → ℕ → Option Expression) → IsClosedMap g i → act_terms g i (act_terms h j a) ≡ act_terms (λ v. act g i (h v)) (after g i j) a
-  terms2 no_terms g h i j c = refl
-  terms2 (also e a) g h i j c = ap₂ also (act-act e g h i j c) (terms2 a g h i j c)
+  act-act-terms : (a : Terms) (g h : ℕ → Expression) (i j : ℕ → ℕ → Option Expression) → IsClosedMap g i → act_terms g i (act_terms h j a) ≡ act_terms (λ v. act g i (h v)) (after g i j) a
+  act-act-terms no_terms g h i j c = refl
+  act-act-terms (also e a) g h i j c = ap₂ also (act-act e g h i j c) (act-act-terms a g h i j c)
 
--- maps that agree where they are used
+-- maps that agree on what an expression mentions
 mutual
   unfolding act
 
   pub act_agree : (e : Expression) (g h : ℕ → Expression) (i j : ℕ → ℕ → Option Expression) → MentionsOnly (λ v. g v ≡ h v) (λ m k. i m k ≡ j m k) e → act g i e ≡ act h j e
   act_agree (bound k) g h i j u = refl
   act_agree (free v) g h i j u = u
-  act_agree (symbol f a) g h i j u = ap (symbol f) (args3 a g h i j u)
-  act_agree (meta m a) g h i j u = ap₂ (λ o b. body_or o m b) u.0 (terms3 a g h i j u.1)
+  act_agree (symbol f a) g h i j u = ap (symbol f) (act_agree-arguments a g h i j u)
+  act_agree (meta m a) g h i j u = ap₂ (λ o b. body_or o m b) u.0 (act_agree-terms a g h i j u.1)
 
-  args3 : (a : Arguments) (g h : ℕ → Expression) (i j : ℕ → ℕ → Option Expression) → ArgumentsMentionOnly (λ v. g v ≡ h v) (λ m k. i m k ≡ j m k) a → act_arguments g i a ≡ act_arguments h j a
-  args3 no_arguments g h i j u = refl
-  args3 (with_body n e a) g h i j u = ap₂ (with_body n) (act_agree e g h i j u.0) (args3 a g h i j u.1)
-  args3 (dummy n a) g h i j u = ap (dummy n) (args3 a g h i j u)
+  act_agree-arguments : (a : Arguments) (g h : ℕ → Expression) (i j : ℕ → ℕ → Option Expression) → ArgumentsMentionOnly (λ v. g v ≡ h v) (λ m k. i m k ≡ j m k) a → act_arguments g i a ≡ act_arguments h j a
+  act_agree-arguments no_arguments g h i j u = refl
+  act_agree-arguments (with_body n e a) g h i j u = ap₂ (with_body n) (act_agree e g h i j u.0) (act_agree-arguments a g h i j u.1)
+  act_agree-arguments (dummy n a) g h i j u = ap (dummy n) (act_agree-arguments a g h i j u)
 
-  terms3 : (a : Terms) (g h : ℕ → Expression) (i j : ℕ → ℕ → Option Expression) → TermsMentionOnly (λ v. g v ≡ h v) (λ m k. i m k ≡ j m k) a → act_terms g i a ≡ act_terms h j a
-  terms3 no_terms g h i j u = refl
-  terms3 (also e a) g h i j u = ap₂ also (act_agree e g h i j u.0) (terms3 a g h i j u.1)
+  act_agree-terms : (a : Terms) (g h : ℕ → Expression) (i j : ℕ → ℕ → Option Expression) → TermsMentionOnly (λ v. g v ≡ h v) (λ m k. i m k ≡ j m k) a → act_terms g i a ≡ act_terms h j a
+  act_agree-terms no_terms g h i j u = refl
+  act_agree-terms (also e a) g h i j u = ap₂ also (act_agree e g h i j u.0) (act_agree-terms a g h i j u.1)
 
--- nothing acts
+-- what puts nothing
 abbrev pub no_bodies : ℕ → ℕ → Option Expression
 no_bodies m k = None
 
@@ -183,31 +184,31 @@ mutual
   pub act_nothing : (e : Expression) → act free no_bodies e ≡ e
   act_nothing (bound k) = refl
   act_nothing (free v) = refl
-  act_nothing (symbol f a) = ap (symbol f) (args4 a)
-  act_nothing (meta m a) = ap (meta m) (terms4 a)
+  act_nothing (symbol f a) = ap (symbol f) (act_nothing-arguments a)
+  act_nothing (meta m a) = ap (meta m) (act_nothing-terms a)
 
-  args4 : (a : Arguments) → act_arguments free no_bodies a ≡ a
-  args4 no_arguments = refl
-  args4 (with_body n e a) = ap₂ (with_body n) (act_nothing e) (args4 a)
-  args4 (dummy n a) = ap (dummy n) (args4 a)
+  act_nothing-arguments : (a : Arguments) → act_arguments free no_bodies a ≡ a
+  act_nothing-arguments no_arguments = refl
+  act_nothing-arguments (with_body n e a) = ap₂ (with_body n) (act_nothing e) (act_nothing-arguments a)
+  act_nothing-arguments (dummy n a) = ap (dummy n) (act_nothing-arguments a)
 
-  terms4 : (a : Terms) → act_terms free no_bodies a ≡ a
-  terms4 no_terms = refl
-  terms4 (also e a) = ap₂ also (act_nothing e) (terms4 a)
+  act_nothing-terms : (a : Terms) → act_terms free no_bodies a ≡ a
+  act_nothing-terms no_terms = refl
+  act_nothing-terms (also e a) = ap₂ also (act_nothing e) (act_nothing-terms a)
 
--- a weaker use
+-- what is mentioned, by a weaker condition
 mutual
   pub Uses_mono : (e : Expression) (f f' : ℕ → Type 0) (d d' : ℕ → ℕ → Type 0) → ((v : ℕ) → f v → f' v) → ((m k : ℕ) → d m k → d' m k) → MentionsOnly f d e → MentionsOnly f' d' e
   Uses_mono (bound k) f f' d d' p q u = tt
   Uses_mono (free v) f f' d d' p q u = p v u
-  Uses_mono (symbol s a) f f' d d' p q u = args5 a f f' d d' p q u
-  Uses_mono (meta m a) f f' d d' p q u = (q m (count a) u.0, terms5 a f f' d d' p q u.1)
+  Uses_mono (symbol s a) f f' d d' p q u = Uses_mono-arguments a f f' d d' p q u
+  Uses_mono (meta m a) f f' d d' p q u = (q m (count a) u.0, Uses_mono-terms a f f' d d' p q u.1)
 
-  args5 : (a : Arguments) (f f' : ℕ → Type 0) (d d' : ℕ → ℕ → Type 0) → ((v : ℕ) → f v → f' v) → ((m k : ℕ) → d m k → d' m k) → ArgumentsMentionOnly f d a → ArgumentsMentionOnly f' d' a
-  args5 no_arguments f f' d d' p q u = tt
-  args5 (with_body n e a) f f' d d' p q u = (Uses_mono e f f' d d' p q u.0, args5 a f f' d d' p q u.1)
-  args5 (dummy n a) f f' d d' p q u = args5 a f f' d d' p q u
+  Uses_mono-arguments : (a : Arguments) (f f' : ℕ → Type 0) (d d' : ℕ → ℕ → Type 0) → ((v : ℕ) → f v → f' v) → ((m k : ℕ) → d m k → d' m k) → ArgumentsMentionOnly f d a → ArgumentsMentionOnly f' d' a
+  Uses_mono-arguments no_arguments f f' d d' p q u = tt
+  Uses_mono-arguments (with_body n e a) f f' d d' p q u = (Uses_mono e f f' d d' p q u.0, Uses_mono-arguments a f f' d d' p q u.1)
+  Uses_mono-arguments (dummy n a) f f' d d' p q u = Uses_mono-arguments a f f' d d' p q u
 
-  terms5 : (a : Terms) (f f' : ℕ → Type 0) (d d' : ℕ → ℕ → Type 0) → ((v : ℕ) → f v → f' v) → ((m k : ℕ) → d m k → d' m k) → TermsMentionOnly f d a → TermsMentionOnly f' d' a
-  terms5 no_terms f f' d d' p q u = tt
-  terms5 (also e a) f f' d d' p q u = (Uses_mono e f f' d d' p q u.0, terms5 a f f' d d' p q u.1)
+  Uses_mono-terms : (a : Terms) (f f' : ℕ → Type 0) (d d' : ℕ → ℕ → Type 0) → ((v : ℕ) → f v → f' v) → ((m k : ℕ) → d m k → d' m k) → TermsMentionOnly f d a → TermsMentionOnly f' d' a
+  Uses_mono-terms no_terms f f' d d' p q u = tt
+  Uses_mono-terms (also e a) f f' d d' p q u = (Uses_mono e f f' d d' p q u.0, Uses_mono-terms a f f' d d' p q u.1)

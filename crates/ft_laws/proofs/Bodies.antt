@@ -1,4 +1,4 @@
--- A body at its terms, all at once and one by one.
+-- A boundary filled with a body, opened at terms one by one, is the opened boundary filled with the body at all terms at once.
 use Rattle.std.proofs.Common.{◌≡◌, ◌≢◌, ℕ, zero, suc, ◌+◌, ◌<◌, ◌∷◌, refl, sym, ap, ap₂, ◌∙◌, subst, arith}
 use Rattle.ft_theory.specs.Expressions.{Expression, bound, Terms, no_terms, also, count, put, push, pushes, ClosedAt, ClosedTerms, open_at}
 use Rattle.ft_theory.specs.Statements.{has_type, Statement, plain, abstracted, opened, domain, domain_count, at, fill, equate}
@@ -6,7 +6,7 @@ use Rattle.ft_theory.specs.Rules.{term_typings}
 use Rattle.ft_laws.proofs.Raw.{put-put}
 use Rattle.ft_laws.proofs.Closed.{put_agree, put_closed, put-bound}
 use Rattle.ft_laws.proofs.Acts.{pushes_below}
-use Rattle.ft_laws.proofs.Opens.{same, other, by_test, single, open_put, Closed-open}
+use Rattle.ft_laws.proofs.Opens.{same, other, by_test, single, open_is_put, Closed-open}
 use Rattle.ft_laws.proofs.Statements.{fill-map, equate-map, domain_count-map}
 
 pushes_at : (a : Terms) (s : ℕ → Expression) (k : ℕ) → pushes s a (count a + k) ≡ s k
@@ -30,7 +30,7 @@ push_at a t c j l = by_test (put (pushes bound a) (single (count a) t j) ≡ pus
 
 pub one_by_one : (a : Terms) (t e : Expression) → ClosedAt zero t → ClosedAt (suc (count a)) e → put (pushes bound a) (open_at (count a) t e) ≡ put (pushes (push bound t) a) e
 one_by_one a t e c h =
-    ap (put (pushes bound a)) (open_put e (count a) t c)
+    ap (put (pushes bound a)) (open_is_put e (count a) t c)
     ∙ put-put e (pushes bound a) (single (count a) t)
     ∙ put_agree e (suc (count a)) (λ j. put (pushes bound a) (single (count a) t j)) (pushes (push bound t) a) h (push_at a t c)
 

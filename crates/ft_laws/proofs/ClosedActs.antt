@@ -1,13 +1,14 @@
+-- Renaming, putting and acting keep expressions closed.
 use Rattle.std.proofs.Common.{ℕ, zero, suc, ◌+◌, ◌<◌, Option, Some, None, sym, subst, arith}
 use Rattle.ft_theory.specs.Expressions.{Expression, bound, free, symbol, meta, Arguments, no_arguments, with_body, dummy, Terms, no_terms, also, count, under_binder, under_binders, rename, rename_arguments, rename_terms, lift, lifts, put, put_arguments, put_terms, push, pushes, body_or, act, act_arguments, act_terms, ClosedAt, ClosedArguments, ClosedTerms}
 use Rattle.ft_laws.proofs.Acts.{count-act, IsClosedMap, ClosedBody}
 use Rattle.ft_laws.proofs.Opens.{Closed_mono}
 
-unders_lt : (n k l : ℕ) (r : ℕ → ℕ) → ((i : ℕ) → i < k → r i < l) → (i : ℕ) → i < n + k → under_binders n r i < n + l
+under_binders_below : (n k l : ℕ) (r : ℕ → ℕ) → ((i : ℕ) → i < k → r i < l) → (i : ℕ) → i < n + k → under_binders n r i < n + l
 unfolding under_binders under_binder
-unders_lt zero k l r h i c = let d : r i < l = h i (omega arith) in omega arith
-unders_lt (suc n) k l r h zero c = omega arith
-unders_lt (suc n) k l r h (suc i) c = let d : under_binders n r i < n + l = unders_lt n k l r h i (omega arith) in omega arith
+under_binders_below zero k l r h i c = let d : r i < l = h i (omega arith) in omega arith
+under_binders_below (suc n) k l r h zero c = omega arith
+under_binders_below (suc n) k l r h (suc i) c = let d : under_binders n r i < n + l = under_binders_below n k l r h i (omega arith) in omega arith
 
 mutual
   unfolding rename
@@ -15,17 +16,17 @@ mutual
   pub Closed-rename : (e : Expression) (k l : ℕ) (r : ℕ → ℕ) → ((i : ℕ) → i < k → r i < l) → ClosedAt k e → ClosedAt l (rename r e)
   Closed-rename (bound i) k l r h c = h i c
   Closed-rename (free v) k l r h c = tt
-  Closed-rename (symbol f a) k l r h c = args a k l r h c
-  Closed-rename (meta m a) k l r h c = terms a k l r h c
+  Closed-rename (symbol f a) k l r h c = Closed-rename-arguments a k l r h c
+  Closed-rename (meta m a) k l r h c = Closed-rename-terms a k l r h c
 
-  args : (a : Arguments) (k l : ℕ) (r : ℕ → ℕ) → ((i : ℕ) → i < k → r i < l) → ClosedArguments k a → ClosedArguments l (rename_arguments r a)
-  args no_arguments k l r h c = tt
-  args (with_body n e a) k l r h c = (Closed-rename e (n + k) (n + l) (under_binders n r) (unders_lt n k l r h) c.0, args a k l r h c.1)
-  args (dummy n a) k l r h c = args a k l r h c
+  Closed-rename-arguments : (a : Arguments) (k l : ℕ) (r : ℕ → ℕ) → ((i : ℕ) → i < k → r i < l) → ClosedArguments k a → ClosedArguments l (rename_arguments r a)
+  Closed-rename-arguments no_arguments k l r h c = tt
+  Closed-rename-arguments (with_body n e a) k l r h c = (Closed-rename e (n + k) (n + l) (under_binders n r) (under_binders_below n k l r h) c.0, Closed-rename-arguments a k l r h c.1)
+  Closed-rename-arguments (dummy n a) k l r h c = Closed-rename-arguments a k l r h c
 
-  terms : (a : Terms) (k l : ℕ) (r : ℕ → ℕ) → ((i : ℕ) → i < k → r i < l) → ClosedTerms k a → ClosedTerms l (rename_terms r a)
-  terms no_terms k l r h c = tt
-  terms (also e a) k l r h c = (Closed-rename e k l r h c.0, terms a k l r h c.1)
+  Closed-rename-terms : (a : Terms) (k l : ℕ) (r : ℕ → ℕ) → ((i : ℕ) → i < k → r i < l) → ClosedTerms k a → ClosedTerms l (rename_terms r a)
+  Closed-rename-terms no_terms k l r h c = tt
+  Closed-rename-terms (also e a) k l r h c = (Closed-rename e k l r h c.0, Closed-rename-terms a k l r h c.1)
 
 lifts_closed : (n k l : ℕ) (s : ℕ → Expression) → ((i : ℕ) → i < k → ClosedAt l (s i)) → (i : ℕ) → i < n + k → ClosedAt (n + l) (lifts n s i)
 unfolding lifts lift
@@ -41,17 +42,17 @@ mutual
   pub Closed-put : (e : Expression) (k l : ℕ) (s : ℕ → Expression) → ((i : ℕ) → i < k → ClosedAt l (s i)) → ClosedAt k e → ClosedAt l (put s e)
   Closed-put (bound i) k l s h c = h i c
   Closed-put (free v) k l s h c = tt
-  Closed-put (symbol f a) k l s h c = args1 a k l s h c
-  Closed-put (meta m a) k l s h c = terms1 a k l s h c
+  Closed-put (symbol f a) k l s h c = Closed-put-arguments a k l s h c
+  Closed-put (meta m a) k l s h c = Closed-put-terms a k l s h c
 
-  args1 : (a : Arguments) (k l : ℕ) (s : ℕ → Expression) → ((i : ℕ) → i < k → ClosedAt l (s i)) → ClosedArguments k a → ClosedArguments l (put_arguments s a)
-  args1 no_arguments k l s h c = tt
-  args1 (with_body n e a) k l s h c = (Closed-put e (n + k) (n + l) (lifts n s) (lifts_closed n k l s h) c.0, args1 a k l s h c.1)
-  args1 (dummy n a) k l s h c = args1 a k l s h c
+  Closed-put-arguments : (a : Arguments) (k l : ℕ) (s : ℕ → Expression) → ((i : ℕ) → i < k → ClosedAt l (s i)) → ClosedArguments k a → ClosedArguments l (put_arguments s a)
+  Closed-put-arguments no_arguments k l s h c = tt
+  Closed-put-arguments (with_body n e a) k l s h c = (Closed-put e (n + k) (n + l) (lifts n s) (lifts_closed n k l s h) c.0, Closed-put-arguments a k l s h c.1)
+  Closed-put-arguments (dummy n a) k l s h c = Closed-put-arguments a k l s h c
 
-  terms1 : (a : Terms) (k l : ℕ) (s : ℕ → Expression) → ((i : ℕ) → i < k → ClosedAt l (s i)) → ClosedTerms k a → ClosedTerms l (put_terms s a)
-  terms1 no_terms k l s h c = tt
-  terms1 (also e a) k l s h c = (Closed-put e k l s h c.0, terms1 a k l s h c.1)
+  Closed-put-terms : (a : Terms) (k l : ℕ) (s : ℕ → Expression) → ((i : ℕ) → i < k → ClosedAt l (s i)) → ClosedTerms k a → ClosedTerms l (put_terms s a)
+  Closed-put-terms no_terms k l s h c = tt
+  Closed-put-terms (also e a) k l s h c = (Closed-put e k l s h c.0, Closed-put-terms a k l s h c.1)
 
 push_closed : (k l : ℕ) (s : ℕ → Expression) (t : Expression) → ((i : ℕ) → i < k → ClosedAt l (s i)) → ClosedAt l t → (i : ℕ) → i < suc k → ClosedAt l (push s t i)
 unfolding push
@@ -80,14 +81,14 @@ mutual
   pub Closed-act : (e : Expression) (g : ℕ → Expression) (i : ℕ → ℕ → Option Expression) (k : ℕ) → IsClosedMap g i → ClosedAt k e → ClosedAt k (act g i e)
   Closed-act (bound j) g i k m c = c
   Closed-act (free v) g i k m c = Closed_mono (g v) zero k (omega arith) (m.frees v)
-  Closed-act (symbol f a) g i k m c = args2 a g i k m c
+  Closed-act (symbol f a) g i k m c = Closed-act-arguments a g i k m c
   Closed-act (meta n a) g i k m c =
       Closed_body (i n (count a)) n k (act_terms g i a) (subst (ClosedBody (i n (count a))) (sym (count-act a g i)) (m.bodies n (count a))) (Closed-act_terms a g i k m c)
 
-  args2 : (a : Arguments) (g : ℕ → Expression) (i : ℕ → ℕ → Option Expression) (k : ℕ) → IsClosedMap g i → ClosedArguments k a → ClosedArguments k (act_arguments g i a)
-  args2 no_arguments g i k m c = tt
-  args2 (with_body n e a) g i k m c = (Closed-act e g i (n + k) m c.0, args2 a g i k m c.1)
-  args2 (dummy n a) g i k m c = args2 a g i k m c
+  Closed-act-arguments : (a : Arguments) (g : ℕ → Expression) (i : ℕ → ℕ → Option Expression) (k : ℕ) → IsClosedMap g i → ClosedArguments k a → ClosedArguments k (act_arguments g i a)
+  Closed-act-arguments no_arguments g i k m c = tt
+  Closed-act-arguments (with_body n e a) g i k m c = (Closed-act e g i (n + k) m c.0, Closed-act-arguments a g i k m c.1)
+  Closed-act-arguments (dummy n a) g i k m c = Closed-act-arguments a g i k m c
 
   pub Closed-act_terms : (a : Terms) (g : ℕ → Expression) (i : ℕ → ℕ → Option Expression) (k : ℕ) → IsClosedMap g i → ClosedTerms k a → ClosedTerms k (act_terms g i a)
   Closed-act_terms no_terms g i k m c = tt

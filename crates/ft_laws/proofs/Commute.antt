@@ -1,12 +1,12 @@
--- What acts, on the parts of the steps.
-use Rattle.std.proofs.Common.{◌≡◌, ◌≢◌, ℕ, zero, ◌&&◌, Bool, true, false, cond, nat_eq, Option, Some, List, [], ◌∷◌, ◌⊎◌, inl, inr, refl, sym, ap, ap₂, ◌∙◌}
+-- Acting commutes with what the steps are made of: filling, equations, terms at domains, instances of rules.
+use Rattle.std.proofs.Common.{◌≡◌, ℕ, zero, ◌&&◌, Bool, true, false, cond, nat_eq, Option, Some, List, [], ◌∷◌, ◌⊎◌, inl, inr, refl, sym, ap, ap₂, ◌∙◌}
 use Rattle.ft_theory.specs.Expressions.{Expression, bound, free, Arguments, no_arguments, with_body, dummy, Terms, no_terms, also, act, act_arguments, act_terms, ClosedTerms, MentionsOnly}
 use Rattle.ft_theory.specs.Statements.{Claim, is_type, has_type, equal_types, equal_terms, type_goal, term_goal, type_equation_goal, term_equation_goal, Statement, plain, abstracted, map_claim, AllOfClaim, StatementMentionsOnly, act_statement, opened, domain_count, at, fill, equate, IsObjectGoal, IsEquationGoal, IsObject, IsEquation}
 use Rattle.ft_theory.specs.Rules.{Rule, rule_at, instance_of, FitsPremises, filled_premises, equated_premises, term_typings, term_equations, conclusion_at}
 use Rattle.ft_theory.specs.Steps.{IsVariableFree}
 use Rattle.ft_laws.proofs.Acts.{IsClosedMap, after, after_at, Uses_mono}
 use Rattle.ft_laws.proofs.ClosedActs.{Closed-act}
-use Rattle.std.proofs.lemmas.Bool.Decides.{eqb_tells}
+use Rattle.ft_laws.proofs.Opens.{test_true}
 use Rattle.ft_laws.proofs.Statements.{act-opened, domain-act, act-act_statement, act_stmt_agree, fill-map, equate-map, stmt_mono}
 
 abbrev pub acts : (ℕ → Expression) → (ℕ → ℕ → Option Expression) → List Statement → List Statement
@@ -39,7 +39,8 @@ term_equations-act (also s a) (also t b) x g i m c =
     ap₂ (λ D r. plain (equal_terms (act g i s) (act g i t) D) ∷ r) (domain-act x g i)
     (term_equations-act a b (opened s x) g i m c.1 ∙ ap (λ y. term_equations y (act_terms g i a) (act_terms g i b)) (act-opened x g i s m c.0 (Closed-act s g i zero m c.0)))
 
--- the metavariables of object premises, with their numbers of domains
+-- The metavariables of object premises, each with its boundary's number of domains. A theory is scoped where its rules' boundaries
+-- mention no free variable and only those of the rule itself. That is all that most laws ask of a theory.
 abbrev pub Covered : List (ℕ × Statement) → ℕ → ℕ → Type 0
 Covered [] m k = ⊥
 Covered (p ∷ ps) m k = ((m ≡ p.0) × IsObject p.1 × (k ≡ domain_count p.1)) ⊎ Covered ps m k
@@ -60,28 +61,21 @@ both true false = inr refl
 both false true = inr refl
 both false false = inr refl
 
-test_true : (i j : ℕ) → i ≡ j → nat_eq i j ≡ true
-test_true i j e = go (eqb_tells i j)
-  where
-    go : ((nat_eq i j ≡ true) × (i ≡ j)) ⊎ ((nat_eq i j ≡ false) × (i ≢ j)) → nat_eq i j ≡ true
-    go (inl h) = h.0
-    go (inr h) = absurd (h.1 e)
-
 and_same : (i j k l : ℕ) → i ≡ j → k ≡ l → (nat_eq i j && nat_eq k l) ≡ true
 and_same i j k l e f = ap₂ ◌&&◌ (test_true i j e) (test_true k l f)
 
-pub not_both_core : (c : Claim) → IsObjectGoal c → IsEquationGoal c → ⊥
-not_both_core (is_type A) o e = o
-not_both_core (has_type t A) o e = o
-not_both_core (equal_types A B) o e = o
-not_both_core (equal_terms s t A) o e = o
-not_both_core type_goal o e = e
-not_both_core (term_goal A) o e = e
-not_both_core (type_equation_goal A B) o e = o
-not_both_core (term_equation_goal s t A) o e = o
+pub not_both_goal : (c : Claim) → IsObjectGoal c → IsEquationGoal c → ⊥
+not_both_goal (is_type A) o e = o
+not_both_goal (has_type t A) o e = o
+not_both_goal (equal_types A B) o e = o
+not_both_goal (equal_terms s t A) o e = o
+not_both_goal type_goal o e = e
+not_both_goal (term_goal A) o e = e
+not_both_goal (type_equation_goal A B) o e = o
+not_both_goal (term_equation_goal s t A) o e = o
 
 pub not_both : (x : Statement) → IsObject x → IsEquation x → ⊥
-not_both (plain c) o e = not_both_core c o e
+not_both (plain c) o e = not_both_goal c o e
 not_both (abstracted A x) o e = not_both x o e
 
 true_or_false : true ≡ false → ⊥
@@ -92,12 +86,12 @@ pub instance_of-act : (ps : List (ℕ × Statement)) (a : Arguments) (g : ℕ �
 unfolding act
 instance_of-act [] a g i m k f c = absurd c
 instance_of-act (p ∷ ps) no_arguments g i m k f c = absurd f
-instance_of-act (p ∷ ps) (with_body n e a) g i m k f c = go (λ c. instance_of-act ps a g i m k f.2 c) (nat_eq m p.0 && nat_eq k n) refl c
+instance_of-act (p ∷ ps) (with_body n e a) g i m k f c = by_body (λ c. instance_of-act ps a g i m k f.2 c) (nat_eq m p.0 && nat_eq k n) refl c
   where
-    go : (Covered ps m k → after g i (instance_of ps a) m k ≡ instance_of ps (act_arguments g i a) m k) → (b : Bool) → (nat_eq m p.0 && nat_eq k n) ≡ b → ((m ≡ p.0) × IsObject p.1 × (k ≡ domain_count p.1)) ⊎ Covered ps m k → after_at g i (cond (nat_eq m p.0 && nat_eq k n) (Some e) (instance_of ps a m k)) m k ≡ cond (nat_eq m p.0 && nat_eq k n) (Some (act g i e)) (instance_of ps (act_arguments g i a) m k)
-    go rec true q c = ap (λ b. after_at g i (cond b (Some e) (instance_of ps a m k)) m k) q ∙ ap (λ b. cond b (Some (act g i e)) (instance_of ps (act_arguments g i a) m k)) (sym q)
-    go rec false q (inl c) = absurd (true_or_false (sym (and_same m p.0 k n c.0 (c.2 ∙ sym f.0)) ∙ q))
-    go rec false q (inr c) = ap (λ b. after_at g i (cond b (Some e) (instance_of ps a m k)) m k) q ∙ rec c ∙ ap (λ b. cond b (Some (act g i e)) (instance_of ps (act_arguments g i a) m k)) (sym q)
+    by_body : (Covered ps m k → after g i (instance_of ps a) m k ≡ instance_of ps (act_arguments g i a) m k) → (b : Bool) → (nat_eq m p.0 && nat_eq k n) ≡ b → ((m ≡ p.0) × IsObject p.1 × (k ≡ domain_count p.1)) ⊎ Covered ps m k → after_at g i (cond (nat_eq m p.0 && nat_eq k n) (Some e) (instance_of ps a m k)) m k ≡ cond (nat_eq m p.0 && nat_eq k n) (Some (act g i e)) (instance_of ps (act_arguments g i a) m k)
+    by_body rec true q c = ap (λ b. after_at g i (cond b (Some e) (instance_of ps a m k)) m k) q ∙ ap (λ b. cond b (Some (act g i e)) (instance_of ps (act_arguments g i a) m k)) (sym q)
+    by_body rec false q (inl c) = absurd (true_or_false (sym (and_same m p.0 k n c.0 (c.2 ∙ sym f.0)) ∙ q))
+    by_body rec false q (inr c) = ap (λ b. after_at g i (cond b (Some e) (instance_of ps a m k)) m k) q ∙ rec c ∙ ap (λ b. cond b (Some (act g i e)) (instance_of ps (act_arguments g i a) m k)) (sym q)
 instance_of-act (p ∷ ps) (dummy n a) g i m k f (inl c) = absurd (not_both p.1 c.1 f.1)
 instance_of-act (p ∷ ps) (dummy n a) g i m k f (inr c) = instance_of-act ps a g i m k f.2 c
 
@@ -120,11 +114,11 @@ boundary-act all b a g i m f u =
     (λ l e. Uses_mono e (λ v. ⊥) (λ v. g v ≡ free v) (Covered all) (λ m k. after g i (instance_of all a) m k ≡ instance_of all (act_arguments g i a) m k) (λ v h. absurd h) (λ m k c. instance_of-act all a g i m k f c)) u)
 
 pub conclusion-act : (R : Rule) (a : Arguments) (g : ℕ → Expression) (i : ℕ → ℕ → Option Expression) → IsClosedMap g i → FitsPremises R.premises a → ScopedRule R → map_claim (act g i) (conclusion_at R a) ≡ conclusion_at R (act_arguments g i a)
-conclusion-act R a g i m f s = ap (λ x. core_of x) (boundary-act R.premises (plain R.conclusion) a g i m f s.1)
+conclusion-act R a g i m f s = ap (λ x. claim_of x) (boundary-act R.premises (plain R.conclusion) a g i m f s.1)
   where
-    core_of : Statement → Claim
-    core_of (plain c) = c
-    core_of (abstracted A x) = type_goal
+    claim_of : Statement → Claim
+    claim_of (plain c) = c
+    claim_of (abstracted A x) = type_goal
 
 -- with parts `ps` of the premises `all`, and parts `a` of the arguments
 pub filled_premises-act : (all ps : List (ℕ × Statement)) (whole a : Arguments) (g : ℕ → Expression) (i : ℕ → ℕ → Option Expression) → IsClosedMap g i → FitsPremises all whole → ScopedPremises all ps → FitsPremises ps a → acts g i (filled_premises (instance_of all whole) ps a) ≡ filled_premises (instance_of all (act_arguments g i whole)) ps (act_arguments g i a)
@@ -149,7 +143,7 @@ equated_premises-act all (p ∷ ps) whole (dummy n a) (with_body l h b) g i m f 
 equated_premises-act all (p ∷ ps) whole (dummy n a) (dummy l b) g i m f s f' f'' = equated_premises-act all ps whole a b g i m f s.1 f'.2 f''.2
 
 -- a boundary without free variables
-pub global-act : (b : Statement) (g : ℕ → Expression) (i : ℕ → ℕ → Option Expression) → IsVariableFree b → act_statement g i b ≡ act_statement free i b
-global-act b g i u = act_stmt_agree b g free i i
+pub variable_free-act : (b : Statement) (g : ℕ → Expression) (i : ℕ → ℕ → Option Expression) → IsVariableFree b → act_statement g i b ≡ act_statement free i b
+variable_free-act b g i u = act_stmt_agree b g free i i
     (stmt_mono b (λ l. MentionsOnly (λ v. ⊥) (λ m k. Unit {0})) (λ l. MentionsOnly (λ v. g v ≡ free v) (λ m k. i m k ≡ i m k)) zero
     (λ l e. Uses_mono e (λ v. ⊥) (λ v. g v ≡ free v) (λ m k. Unit {0}) (λ m k. i m k ≡ i m k) (λ v h. absurd h) (λ m k h. refl)) u)

@@ -1,4 +1,5 @@
--- The two laws on instances of metavariables, in their stated form.
+-- The two laws on instances of all of some further metavariables, in their stated form.
+use Rattle.ft_laws.proofs.Fresh.{some_path}
 use Rattle.std.proofs.Common.{◌≡◌, ◌≢◌, ℕ, zero, Some, None, List, [], ◌∷◌, ◌⊎◌, inl, inr, refl, sym, ap, ◌∙◌, subst, subst₂}
 use Rattle.ft_theory.specs.Expressions.{Expression, free, Arguments, no_arguments, with_body, dummy, act, MentionsOnly}
 use Rattle.ft_theory.specs.Statements.{Statement, domain_count, fill, equate, IsObject, IsEquation}
@@ -9,31 +10,31 @@ use Rattle.ft_laws.specs.Laws.{Avoids, StatementAvoids, Each, LawInstantiate, La
 use Rattle.std.specs.Prelude.{◌++◌}
 use Rattle.ft_laws.proofs.Acts.{act_agree, Uses_mono, no_bodies, act_nothing}
 use Rattle.ft_laws.proofs.Opens.{same, other, by_test}
-use Rattle.ft_laws.proofs.Statements.{stmt_mono, act_stmt_agree, act_stmt_nothing, object-map, domain_count-map}
+use Rattle.ft_laws.proofs.Statements.{stmt_mono, act_stmt_agree, act_statement_nothing, object-map, domain_count-map}
 use Rattle.ft_laws.proofs.Commute.{ScopedTheory, act-fill}
-use Rattle.ft_laws.proofs.Traverse.{inst_of}
-use Rattle.ft_laws.proofs.Equal.{Eq, reify}
-use Rattle.ft_laws.proofs.Instances.{Place, stays, given, EquationPlace, stays_equation, given_equation, IsInstance, TwoPlaces, both_stay, both_given, AreEqual, instantiate, equal_instances}
-use Rattle.ft_laws.proofs.Rules.{given_object, given_eq, given_two, closed_instance, closed_bodies, right_closed, past, found, nothing}
+use Rattle.ft_laws.proofs.Equal.{EqualStatements, reify}
+use Rattle.ft_laws.specs.Instances.{StaysOrGiven, stays, given, EquationStaysOrHolds, stays_equation, given_equation, IsInstance, StaysOrGivenInBoth, both_stay, both_given, AreEqualInstances, statement_at}
+use Rattle.ft_laws.proofs.Instances.{instantiate, equal_instances}
+use Rattle.ft_laws.proofs.Rules.{given_object_premise, given_equation_premise, given_two_premises, closed_instance, has_closed_bodies, right_closed, nothing, inst_past}
 use Rattle.ft_laws.proofs.Finitary.{scoped}
 use Rattle.ft_laws.proofs.Admissible.{law, finitary_sound}
 
 -- an instance of ms has nothing for another metavariable
-inst_none : (ms : List (ℕ × Statement)) (a : Arguments) (m k : ℕ) → look_up ms m ≡ None → instance_of ms a m k ≡ None
-inst_none [] a m k q = refl
-inst_none (p ∷ ms) no_arguments m k q = refl
-inst_none (p ∷ ms) (dummy n a) m k q = by_test (instance_of (p ∷ ms) (dummy n a) m k ≡ None) m p.0
+instance_none : (ms : List (ℕ × Statement)) (a : Arguments) (m k : ℕ) → look_up ms m ≡ None → instance_of ms a m k ≡ None
+instance_none [] a m k q = refl
+instance_none (p ∷ ms) no_arguments m k q = refl
+instance_none (p ∷ ms) (dummy n a) m k q = by_test (instance_of (p ∷ ms) (dummy n a) m k ≡ None) m p.0
     (λ e. nothing (sym q ∙ same m p.0 (Some p.1) (look_up ms m) e))
-    (λ n. inst_none ms a m k (sym (other m p.0 (Some p.1) (look_up ms m) n) ∙ q))
-inst_none (p ∷ ms) (with_body n e a) m k q = by_test (instance_of (p ∷ ms) (with_body n e a) m k ≡ None) m p.0
+    (λ n. instance_none ms a m k (sym (other m p.0 (Some p.1) (look_up ms m) n) ∙ q))
+instance_none (p ∷ ms) (with_body n e a) m k q = by_test (instance_of (p ∷ ms) (with_body n e a) m k ≡ None) m p.0
     (λ d. nothing (sym q ∙ same m p.0 (Some p.1) (look_up ms m) d))
-    (λ d. Rattle.ft_laws.proofs.Rules.inst_past m n k p ms e a d ∙ inst_none ms a m k (sym (other m p.0 (Some p.1) (look_up ms m) d) ∙ q))
+    (λ d. inst_past m n k p ms e a d ∙ instance_none ms a m k (sym (other m p.0 (Some p.1) (look_up ms m) d) ∙ q))
 
 avoid : (ms : List (ℕ × Statement)) (a : Arguments) (e : Expression) → Avoids ms e → act free (instance_of ms a) e ≡ e
-avoid ms a e u = act_agree e free free (instance_of ms a) no_bodies (Uses_mono e (λ v. Unit {0}) (λ v. free v ≡ free v) (λ m k. look_up ms m ≡ None) (λ m k. instance_of ms a m k ≡ None) (λ v h. refl) (λ m k h. inst_none ms a m k h) u) ∙ act_nothing e
+avoid ms a e u = act_agree e free free (instance_of ms a) no_bodies (Uses_mono e (λ v. Unit {0}) (λ v. free v ≡ free v) (λ m k. look_up ms m ≡ None) (λ m k. instance_of ms a m k ≡ None) (λ v h. refl) (λ m k h. instance_none ms a m k h) u) ∙ act_nothing e
 
-avoid_stmt : (ms : List (ℕ × Statement)) (a : Arguments) (x : Statement) → StatementAvoids ms x → inst_of (instance_of ms a) x ≡ x
-avoid_stmt ms a x u = act_stmt_agree x free free (instance_of ms a) no_bodies (stmt_mono x (λ l. MentionsOnly (λ v. Unit {0}) (λ m k. look_up ms m ≡ None)) (λ l. MentionsOnly (λ v. free v ≡ free v) (λ m k. instance_of ms a m k ≡ None)) zero (λ l e. Uses_mono e (λ v. Unit {0}) (λ v. free v ≡ free v) (λ m k. look_up ms m ≡ None) (λ m k. instance_of ms a m k ≡ None) (λ v h. refl) (λ m k h. inst_none ms a m k h)) u) ∙ act_stmt_nothing x
+avoid_statement : (ms : List (ℕ × Statement)) (a : Arguments) (x : Statement) → StatementAvoids ms x → statement_at (instance_of ms a) x ≡ x
+avoid_statement ms a x u = act_stmt_agree x free free (instance_of ms a) no_bodies (stmt_mono x (λ l. MentionsOnly (λ v. Unit {0}) (λ m k. look_up ms m ≡ None)) (λ l. MentionsOnly (λ v. free v ≡ free v) (λ m k. instance_of ms a m k ≡ None)) zero (λ l e. Uses_mono e (λ v. Unit {0}) (λ v. free v ≡ free v) (λ m k. look_up ms m ≡ None) (λ m k. instance_of ms a m k ≡ None) (λ v h. refl) (λ m k h. instance_none ms a m k h)) u) ∙ act_statement_nothing x
 
 -- a name is among ms, or among the others
 cases : {A : Type 0} (ms M : List (ℕ × A)) (m : ℕ) (b : A) → look_up (ms ++ M) m ≡ Some b → (look_up ms m ≡ Some b) ⊎ ((look_up ms m ≡ None) × (look_up M m ≡ Some b))
@@ -50,41 +51,41 @@ instance_derivable : (T : List Rule) (ms M : List (ℕ × Statement)) (G : List 
     → FitsPremises ms a → Trees (Step T) (sequents M G (filled_premises (instance_of ms a) ms a)) → IsInstance T (ms ++ M) G M G (instance_of ms a)
 instance_derivable T ms M G a av am f ts = record {
   closed = closed_instance T M G (instance_of ms a) ms a f ts;
-  frees = λ v A q. q ∙ ap Some (sym (avoid ms a A (av v A q)));
+  variables = λ v A q. q ∙ ap Some (sym (avoid ms a A (av v A q)));
   objects = λ m b q gl o. object m b gl o (cases ms M m b q);
-  equated_premises = λ m b q gl o. equation m b gl o (cases ms M m b q);
+  equations = λ m b q gl o. equation m b gl o (cases ms M m b q);
 }
   where
-    object : (m : ℕ) (b : Statement) → IsVariableFree b → IsObject b → (look_up ms m ≡ Some b) ⊎ ((look_up ms m ≡ None) × (look_up M m ≡ Some b)) → Place T M G (instance_of ms a) m b
+    object : (m : ℕ) (b : Statement) → IsVariableFree b → IsObject b → (look_up ms m ≡ Some b) ⊎ ((look_up ms m ≡ None) × (look_up M m ≡ Some b)) → StaysOrGiven T M G (instance_of ms a) m b
     object m b gl o (inl q) =
-        let r : (e : Expression) × (instance_of ms a m (domain_count b) ≡ Some e) × Prim T M G (fill (inst_of (instance_of ms a) b) e) = given_object T M G (instance_of ms a) ms a m b f ts q o in
+        let r : (e : Expression) × (instance_of ms a m (domain_count b) ≡ Some e) × Prim T M G (fill (statement_at (instance_of ms a) b) e) = given_object_premise T M G (instance_of ms a) ms a m b f ts q o in
         given r.0 r.1 r.2
     object m b gl o (inr q) =
-        let E : inst_of (instance_of ms a) b ≡ b = avoid_stmt ms a b (am m b q.1) in
-        stays (inst_none ms a m (domain_count b) q.0) (q.1 ∙ ap Some (sym E)) (subst IsVariableFree (sym E) gl)
+        let E : statement_at (instance_of ms a) b ≡ b = avoid_statement ms a b (am m b q.1) in
+        stays (instance_none ms a m (domain_count b) q.0) (q.1 ∙ ap Some (sym E)) (subst IsVariableFree (sym E) gl)
 
-    equation : (m : ℕ) (b : Statement) → IsVariableFree b → IsEquation b → (look_up ms m ≡ Some b) ⊎ ((look_up ms m ≡ None) × (look_up M m ≡ Some b)) → EquationPlace T M G (instance_of ms a) m b
-    equation m b gl o (inl q) = given_equation (given_eq T M G (instance_of ms a) ms a m b f ts q o)
+    equation : (m : ℕ) (b : Statement) → IsVariableFree b → IsEquation b → (look_up ms m ≡ Some b) ⊎ ((look_up ms m ≡ None) × (look_up M m ≡ Some b)) → EquationStaysOrHolds T M G (instance_of ms a) m b
+    equation m b gl o (inl q) = given_equation (given_equation_premise T M G (instance_of ms a) ms a m b f ts q o)
     equation m b gl o (inr q) =
-        let E : inst_of (instance_of ms a) b ≡ b = avoid_stmt ms a b (am m b q.1) in
+        let E : statement_at (instance_of ms a) b ≡ b = avoid_statement ms a b (am m b q.1) in
         stays_equation (q.1 ∙ ap Some (sym E)) (subst IsVariableFree (sym E) gl)
 
-equal_of : (T : List Rule) → ScopedTheory T → (ms M : List (ℕ × Statement)) (G : List (ℕ × Expression)) (a c : Arguments) → ((v : ℕ) (A : Expression) → look_up G v ≡ Some A → Avoids ms A) → ((m : ℕ) (b : Statement) → look_up M m ≡ Some b → StatementAvoids ms b)
-    → FitsPremises ms a → FitsPremises ms c → Trees (Step T) (sequents M G (filled_premises (instance_of ms a) ms a)) → Trees (Step T) (sequents M G (equated_premises (instance_of ms a) ms a c)) → AreEqual T (ms ++ M) G M G (instance_of ms a) (instance_of ms c)
-equal_of T sc ms M G a c av am f f' ts es = record {
+equal_derivable : (T : List Rule) → ScopedTheory T → (ms M : List (ℕ × Statement)) (G : List (ℕ × Expression)) (a c : Arguments) → ((v : ℕ) (A : Expression) → look_up G v ≡ Some A → Avoids ms A) → ((m : ℕ) (b : Statement) → look_up M m ≡ Some b → StatementAvoids ms b)
+    → FitsPremises ms a → FitsPremises ms c → Trees (Step T) (sequents M G (filled_premises (instance_of ms a) ms a)) → Trees (Step T) (sequents M G (equated_premises (instance_of ms a) ms a c)) → AreEqualInstances T (ms ++ M) G M G (instance_of ms a) (instance_of ms c)
+equal_derivable T sc ms M G a c av am f f' ts es = record {
   left = instance_derivable T ms M G a av am f ts;
-  closed = record { frees = λ v. tt; bodies = λ m k. closed_bodies ms c m k (right_closed T sc M G (instance_of ms a) ms a c f f' es) };
-  places = λ m b q gl o. place m b gl o (cases ms M m b q);
+  closed = has_closed_bodies ms c (right_closed T sc M G (instance_of ms a) ms a c f f' es);
+  objects = λ m b q gl o. place m b gl o (cases ms M m b q);
 }
   where
-    place : (m : ℕ) (b : Statement) → IsVariableFree b → IsObject b → (look_up ms m ≡ Some b) ⊎ ((look_up ms m ≡ None) × (look_up M m ≡ Some b)) → TwoPlaces T M G (instance_of ms a) (instance_of ms c) m b
+    place : (m : ℕ) (b : Statement) → IsVariableFree b → IsObject b → (look_up ms m ≡ Some b) ⊎ ((look_up ms m ≡ None) × (look_up M m ≡ Some b)) → StaysOrGivenInBoth T M G (instance_of ms a) (instance_of ms c) m b
     place m b gl o (inl q) =
-        let r : (e : Expression) × (instance_of ms a m (domain_count b) ≡ Some e) × Prim T M G (fill (inst_of (instance_of ms a) b) e) = given_object T M G (instance_of ms a) ms a m b f ts q o in
-        let s : (x y : Expression) × (instance_of ms a m (domain_count b) ≡ Some x) × (instance_of ms c m (domain_count b) ≡ Some y) × Prim T M G (equate (inst_of (instance_of ms a) b) x y) = given_two T M G (instance_of ms a) ms a c m b f f' es q o in
-        both_given s.0 s.1 s.2 s.3 (subst (λ e. Prim T M G (fill (inst_of (instance_of ms a) b) e)) (Rattle.ft_laws.proofs.Fresh.some_path r.0 s.0 (sym r.1 ∙ s.2)) r.2) s.4
+        let r : (e : Expression) × (instance_of ms a m (domain_count b) ≡ Some e) × Prim T M G (fill (statement_at (instance_of ms a) b) e) = given_object_premise T M G (instance_of ms a) ms a m b f ts q o in
+        let s : (x y : Expression) × (instance_of ms a m (domain_count b) ≡ Some x) × (instance_of ms c m (domain_count b) ≡ Some y) × Prim T M G (equate (statement_at (instance_of ms a) b) x y) = given_two_premises T M G (instance_of ms a) ms a c m b f f' es q o in
+        both_given s.0 s.1 s.2 s.3 (subst (λ e. Prim T M G (fill (statement_at (instance_of ms a) b) e)) (some_path r.0 s.0 (sym r.1 ∙ s.2)) r.2) s.4
     place m b gl o (inr q) =
-        let E : inst_of (instance_of ms a) b ≡ b = avoid_stmt ms a b (am m b q.1) in
-        both_stay (inst_none ms a m (domain_count b) q.0) (inst_none ms c m (domain_count b) q.0) (q.1 ∙ ap Some (sym E)) (subst IsVariableFree (sym E) gl) (avoid_stmt ms c b (am m b q.1) ∙ sym E)
+        let E : statement_at (instance_of ms a) b ≡ b = avoid_statement ms a b (am m b q.1) in
+        both_stay (instance_none ms a m (domain_count b) q.0) (instance_none ms c m (domain_count b) q.0) (q.1 ∙ ap Some (sym E)) (subst IsVariableFree (sym E) gl) (avoid_statement ms c b (am m b q.1) ∙ sym E)
 
 each_prim : (k : ℕ) (T : List Rule) → FinitaryUpTo k T → (M : List (ℕ × Statement)) (G : List (ℕ × Expression)) (xs : List Statement) → Each (λ y. DerUpTo k T M G y) xs → Trees (Step T) (sequents M G xs)
 each_prim k T fin M G [] h = none
@@ -92,14 +93,14 @@ each_prim k T fin M G (x ∷ xs) h = more ((law k T fin M G x).0 h.0) (each_prim
 
 pub law_instantiate : (k : ℕ) → LawInstantiate k
 law_instantiate k T fin ms M G a x ap' av am f ts p =
-    (law k T fin M G (inst_of (instance_of ms a) x)).1
+    (law k T fin M G (statement_at (instance_of ms a) x)).1
     (instantiate T (scoped T (finitary_sound k T fin)) (ms ++ M) G M G (instance_of ms a) x (instance_derivable T ms M G a av am f (each_prim k T fin M G (filled_premises (instance_of ms a) ms a) ts)) ((law k T fin (ms ++ M) G x).0 p))
 
 pub law_equal_instantiate : (k : ℕ) → LawEqualInstantiate k
 law_equal_instantiate k T fin ms M G a c b h ap' av am f f' ts es o p =
     let sc : ScopedTheory T = scoped T (finitary_sound k T fin) in
-    let e : Eq T M G (inst_of (instance_of ms a) (fill b h)) (inst_of (instance_of ms c) (fill b h)) =
-    equal_instances T sc (ms ++ M) G M G (instance_of ms a) (instance_of ms c) (fill b h) (equal_of T sc ms M G a c av am f f' (each_prim k T fin M G (filled_premises (instance_of ms a) ms a) ts) (each_prim k T fin M G (equated_premises (instance_of ms a) ms a c) es)) ((law k T fin (ms ++ M) G (fill b h)).0 p) in
-    (law k T fin M G (equate (inst_of (instance_of ms a) b) (act free (instance_of ms a) h) (act free (instance_of ms c) h))).1
-    (reify T sc M (domain_count b) G (inst_of (instance_of ms a) b) (inst_of (instance_of ms c) b) (act free (instance_of ms a) h) (act free (instance_of ms c) h) (domain_count-map b (λ l. act free (instance_of ms a)) zero) (domain_count-map b (λ l. act free (instance_of ms c)) zero) (object-map b (λ l. act free (instance_of ms a)) zero o) (object-map b (λ l. act free (instance_of ms c)) zero o)
-    (subst₂ (λ x y. Eq T M G x y) (act-fill b free (instance_of ms a) h) (act-fill b free (instance_of ms c) h) e))
+    let e : EqualStatements T M G (statement_at (instance_of ms a) (fill b h)) (statement_at (instance_of ms c) (fill b h)) =
+    equal_instances T sc (ms ++ M) G M G (instance_of ms a) (instance_of ms c) (fill b h) (equal_derivable T sc ms M G a c av am f f' (each_prim k T fin M G (filled_premises (instance_of ms a) ms a) ts) (each_prim k T fin M G (equated_premises (instance_of ms a) ms a c) es)) ((law k T fin (ms ++ M) G (fill b h)).0 p) in
+    (law k T fin M G (equate (statement_at (instance_of ms a) b) (act free (instance_of ms a) h) (act free (instance_of ms c) h))).1
+    (reify T sc M (domain_count b) G (statement_at (instance_of ms a) b) (statement_at (instance_of ms c) b) (act free (instance_of ms a) h) (act free (instance_of ms c) h) (domain_count-map b (λ l. act free (instance_of ms a)) zero) (domain_count-map b (λ l. act free (instance_of ms c)) zero) (object-map b (λ l. act free (instance_of ms a)) zero o) (object-map b (λ l. act free (instance_of ms c)) zero o)
+    (subst₂ (λ x y. EqualStatements T M G x y) (act-fill b free (instance_of ms a) h) (act-fill b free (instance_of ms c) h) e))

@@ -1,3 +1,4 @@
+-- Opening and closing: opening is a putting, acting commutes with it, and each undoes the other.
 use Rattle.std.proofs.Common.{◌≡◌, ◌≢◌, ℕ, zero, suc, ◌+◌, ◌<◌, Option, true, false, cond, nat_eq, ◌⊎◌, inl, inr, refl, sym, ap, ap₂, ◌∙◌, subst, arith}
 use Rattle.std.proofs.lemmas.Bool.Decides.{eqb_tells}
 use mathlib.Core.Path.{fun_ext}
@@ -6,26 +7,32 @@ use Rattle.ft_laws.proofs.Closed.{rename_closed}
 use Rattle.ft_laws.proofs.Acts.{IsClosedMap, act-put}
 
 -- a test of numbers, by cases
-pub same : {A : Type 0} (i j : ℕ) (x y : A) → i ≡ j → cond (nat_eq i j) x y ≡ x
-same i j x y e = go (eqb_tells i j)
+pub test_true : (i j : ℕ) → i ≡ j → nat_eq i j ≡ true
+test_true i j e = by_decision (eqb_tells i j)
   where
-    go : ((nat_eq i j ≡ true) × (i ≡ j)) ⊎ ((nat_eq i j ≡ false) × (i ≢ j)) → cond (nat_eq i j) x y ≡ x
-    go (inl h) = ap (λ b. cond b x y) h.0
-    go (inr h) = absurd (h.1 e)
+    by_decision : ((nat_eq i j ≡ true) × (i ≡ j)) ⊎ ((nat_eq i j ≡ false) × (i ≢ j)) → nat_eq i j ≡ true
+    by_decision (inl h) = h.0
+    by_decision (inr h) = absurd (h.1 e)
+
+pub test_false : (i j : ℕ) → i ≢ j → nat_eq i j ≡ false
+test_false i j n = by_decision (eqb_tells i j)
+  where
+    by_decision : ((nat_eq i j ≡ true) × (i ≡ j)) ⊎ ((nat_eq i j ≡ false) × (i ≢ j)) → nat_eq i j ≡ false
+    by_decision (inl h) = absurd (n h.1)
+    by_decision (inr h) = h.0
+
+pub same : {A : Type 0} (i j : ℕ) (x y : A) → i ≡ j → cond (nat_eq i j) x y ≡ x
+same i j x y e = ap (λ b. cond b x y) (test_true i j e)
 
 pub other : {A : Type 0} (i j : ℕ) (x y : A) → i ≢ j → cond (nat_eq i j) x y ≡ y
-other i j x y n = go (eqb_tells i j)
-  where
-    go : ((nat_eq i j ≡ true) × (i ≡ j)) ⊎ ((nat_eq i j ≡ false) × (i ≢ j)) → cond (nat_eq i j) x y ≡ y
-    go (inl h) = absurd (n h.1)
-    go (inr h) = ap (λ b. cond b x y) h.0
+other i j x y n = ap (λ b. cond b x y) (test_false i j n)
 
 pub by_test : (P : Type 0) (i j : ℕ) → (i ≡ j → P) → (i ≢ j → P) → P
-by_test P i j h1 h2 = go (eqb_tells i j)
+by_test P i j h h' = by_decision (eqb_tells i j)
   where
-    go : ((nat_eq i j ≡ true) × (i ≡ j)) ⊎ ((nat_eq i j ≡ false) × (i ≢ j)) → P
-    go (inl h) = h1 h.1
-    go (inr h) = h2 h.1
+    by_decision : ((nat_eq i j ≡ true) × (i ≡ j)) ⊎ ((nat_eq i j ≡ false) × (i ≢ j)) → P
+    by_decision (inl d) = h d.1
+    by_decision (inr d) = h' d.1
 
 -- opening is a put
 abbrev pub single : ℕ → Expression → ℕ → Expression
@@ -46,20 +53,20 @@ lifts-single (suc n) k t c i = ap (λ s. lift s i) (fun_ext (lifts-single n k t 
 mutual
   unfolding put open_at
 
-  pub open_put : (e : Expression) (k : ℕ) (t : Expression) → ClosedAt zero t → open_at k t e ≡ put (single k t) e
-  open_put (bound i) k t c = refl
-  open_put (free v) k t c = refl
-  open_put (symbol f a) k t c = ap (symbol f) (args a k t c)
-  open_put (meta m a) k t c = ap (meta m) (terms a k t c)
+  pub open_is_put : (e : Expression) (k : ℕ) (t : Expression) → ClosedAt zero t → open_at k t e ≡ put (single k t) e
+  open_is_put (bound i) k t c = refl
+  open_is_put (free v) k t c = refl
+  open_is_put (symbol f a) k t c = ap (symbol f) (open_put-arguments a k t c)
+  open_is_put (meta m a) k t c = ap (meta m) (open_put-terms a k t c)
 
-  args : (a : Arguments) (k : ℕ) (t : Expression) → ClosedAt zero t → open_arguments k t a ≡ put_arguments (single k t) a
-  args no_arguments k t c = refl
-  args (with_body n e a) k t c = ap₂ (with_body n) (open_put e (n + k) t c ∙ ap (λ s. put s e) (sym (fun_ext (lifts-single n k t c)))) (args a k t c)
-  args (dummy n a) k t c = ap (dummy n) (args a k t c)
+  open_put-arguments : (a : Arguments) (k : ℕ) (t : Expression) → ClosedAt zero t → open_arguments k t a ≡ put_arguments (single k t) a
+  open_put-arguments no_arguments k t c = refl
+  open_put-arguments (with_body n e a) k t c = ap₂ (with_body n) (open_is_put e (n + k) t c ∙ ap (λ s. put s e) (sym (fun_ext (lifts-single n k t c)))) (open_put-arguments a k t c)
+  open_put-arguments (dummy n a) k t c = ap (dummy n) (open_put-arguments a k t c)
 
-  terms : (a : Terms) (k : ℕ) (t : Expression) → ClosedAt zero t → open_terms k t a ≡ put_terms (single k t) a
-  terms no_terms k t c = refl
-  terms (also e a) k t c = ap₂ also (open_put e k t c) (terms a k t c)
+  open_put-terms : (a : Terms) (k : ℕ) (t : Expression) → ClosedAt zero t → open_terms k t a ≡ put_terms (single k t) a
+  open_put-terms no_terms k t c = refl
+  open_put-terms (also e a) k t c = ap₂ also (open_is_put e k t c) (open_put-terms a k t c)
 
 -- what acts, under an opening
 act-single : (g : ℕ → Expression) (i : ℕ → ℕ → Option Expression) (k : ℕ) (t : Expression) (j : ℕ) → act g i (single k t j) ≡ single k (act g i t) j
@@ -70,9 +77,9 @@ act-single g i k t j = by_test (act g i (single k t j) ≡ single k (act g i t) 
 
 pub act-open : (e : Expression) (g : ℕ → Expression) (i : ℕ → ℕ → Option Expression) (k : ℕ) (t : Expression) → IsClosedMap g i → ClosedAt zero t → ClosedAt zero (act g i t) → act g i (open_at k t e) ≡ open_at k (act g i t) (act g i e)
 act-open e g i k t c h h' =
-    ap (act g i) (open_put e k t h) ∙ act-put e g i (single k t) c
+    ap (act g i) (open_is_put e k t h) ∙ act-put e g i (single k t) c
     ∙ ap (λ s. put s (act g i e)) (fun_ext (act-single g i k t))
-    ∙ sym (open_put (act g i e) k (act g i t) h')
+    ∙ sym (open_is_put (act g i e) k (act g i t) h')
 
 -- closing and opening
 mutual
@@ -83,17 +90,17 @@ mutual
       (λ e. ap (close_at k v) (same i k (free v) (bound i) e) ∙ same v v (bound k) (free v) refl ∙ ap bound (sym e))
       (λ n. ap (close_at k v) (other i k (free v) (bound i) n))
   close-open (free u) k v w = other u v (bound k) (free u) w
-  close-open (symbol f a) k v w = ap (symbol f) (args1 a k v w)
-  close-open (meta m a) k v w = ap (meta m) (terms1 a k v w.1)
+  close-open (symbol f a) k v w = ap (symbol f) (close-open-arguments a k v w)
+  close-open (meta m a) k v w = ap (meta m) (close-open-terms a k v w.1)
 
-  args1 : (a : Arguments) (k v : ℕ) → ArgumentsMentionOnly (λ u. u ≢ v) (λ m k. Unit {0}) a → close_arguments k v (open_arguments k (free v) a) ≡ a
-  args1 no_arguments k v w = refl
-  args1 (with_body n e a) k v w = ap₂ (with_body n) (close-open e (n + k) v w.0) (args1 a k v w.1)
-  args1 (dummy n a) k v w = ap (dummy n) (args1 a k v w)
+  close-open-arguments : (a : Arguments) (k v : ℕ) → ArgumentsMentionOnly (λ u. u ≢ v) (λ m k. Unit {0}) a → close_arguments k v (open_arguments k (free v) a) ≡ a
+  close-open-arguments no_arguments k v w = refl
+  close-open-arguments (with_body n e a) k v w = ap₂ (with_body n) (close-open e (n + k) v w.0) (close-open-arguments a k v w.1)
+  close-open-arguments (dummy n a) k v w = ap (dummy n) (close-open-arguments a k v w)
 
-  terms1 : (a : Terms) (k v : ℕ) → TermsMentionOnly (λ u. u ≢ v) (λ m k. Unit {0}) a → close_terms k v (open_terms k (free v) a) ≡ a
-  terms1 no_terms k v w = refl
-  terms1 (also e a) k v w = ap₂ also (close-open e k v w.0) (terms1 a k v w.1)
+  close-open-terms : (a : Terms) (k v : ℕ) → TermsMentionOnly (λ u. u ≢ v) (λ m k. Unit {0}) a → close_terms k v (open_terms k (free v) a) ≡ a
+  close-open-terms no_terms k v w = refl
+  close-open-terms (also e a) k v w = ap₂ also (close-open e k v w.0) (close-open-terms a k v w.1)
 
 mutual
   unfolding open_at close_at
@@ -103,17 +110,17 @@ mutual
   open-close (free u) k v c = by_test (open_at k (free v) (close_at k v (free u)) ≡ free u) u v
       (λ e. ap (open_at k (free v)) (same u v (bound k) (free u) e) ∙ same k k (free v) (bound k) refl ∙ ap free (sym e))
       (λ n. ap (open_at k (free v)) (other u v (bound k) (free u) n))
-  open-close (symbol f a) k v c = ap (symbol f) (args2 a k v c)
-  open-close (meta m a) k v c = ap (meta m) (terms2 a k v c)
+  open-close (symbol f a) k v c = ap (symbol f) (open-close-arguments a k v c)
+  open-close (meta m a) k v c = ap (meta m) (open-close-terms a k v c)
 
-  args2 : (a : Arguments) (k v : ℕ) → ClosedArguments k a → open_arguments k (free v) (close_arguments k v a) ≡ a
-  args2 no_arguments k v c = refl
-  args2 (with_body n e a) k v c = ap₂ (with_body n) (open-close e (n + k) v c.0) (args2 a k v c.1)
-  args2 (dummy n a) k v c = ap (dummy n) (args2 a k v c)
+  open-close-arguments : (a : Arguments) (k v : ℕ) → ClosedArguments k a → open_arguments k (free v) (close_arguments k v a) ≡ a
+  open-close-arguments no_arguments k v c = refl
+  open-close-arguments (with_body n e a) k v c = ap₂ (with_body n) (open-close e (n + k) v c.0) (open-close-arguments a k v c.1)
+  open-close-arguments (dummy n a) k v c = ap (dummy n) (open-close-arguments a k v c)
 
-  terms2 : (a : Terms) (k v : ℕ) → ClosedTerms k a → open_terms k (free v) (close_terms k v a) ≡ a
-  terms2 no_terms k v c = refl
-  terms2 (also e a) k v c = ap₂ also (open-close e k v c.0) (terms2 a k v c.1)
+  open-close-terms : (a : Terms) (k v : ℕ) → ClosedTerms k a → open_terms k (free v) (close_terms k v a) ≡ a
+  open-close-terms no_terms k v c = refl
+  open-close-terms (also e a) k v c = ap₂ also (open-close e k v c.0) (open-close-terms a k v c.1)
 
 count-open : (a : Terms) (k : ℕ) (t : Expression) → count (open_terms k t a) ≡ count a
 unfolding count open_at
@@ -130,17 +137,17 @@ mutual
   pub Closed_mono : (e : Expression) (k l : ℕ) → k < suc l → ClosedAt k e → ClosedAt l e
   Closed_mono (bound i) k l h c = omega arith
   Closed_mono (free u) k l h c = tt
-  Closed_mono (symbol f a) k l h c = args0 a k l h c
-  Closed_mono (meta m a) k l h c = terms0 a k l h c
+  Closed_mono (symbol f a) k l h c = Closed_mono-arguments a k l h c
+  Closed_mono (meta m a) k l h c = Closed_mono-terms a k l h c
 
-  args0 : (a : Arguments) (k l : ℕ) → k < suc l → ClosedArguments k a → ClosedArguments l a
-  args0 no_arguments k l h c = tt
-  args0 (with_body n e a) k l h c = (Closed_mono e (n + k) (n + l) (omega arith) c.0, args0 a k l h c.1)
-  args0 (dummy n a) k l h c = args0 a k l h c
+  Closed_mono-arguments : (a : Arguments) (k l : ℕ) → k < suc l → ClosedArguments k a → ClosedArguments l a
+  Closed_mono-arguments no_arguments k l h c = tt
+  Closed_mono-arguments (with_body n e a) k l h c = (Closed_mono e (n + k) (n + l) (omega arith) c.0, Closed_mono-arguments a k l h c.1)
+  Closed_mono-arguments (dummy n a) k l h c = Closed_mono-arguments a k l h c
 
-  terms0 : (a : Terms) (k l : ℕ) → k < suc l → ClosedTerms k a → ClosedTerms l a
-  terms0 no_terms k l h c = tt
-  terms0 (also e a) k l h c = (Closed_mono e k l h c.0, terms0 a k l h c.1)
+  Closed_mono-terms : (a : Terms) (k l : ℕ) → k < suc l → ClosedTerms k a → ClosedTerms l a
+  Closed_mono-terms no_terms k l h c = tt
+  Closed_mono-terms (also e a) k l h c = (Closed_mono e k l h c.0, Closed_mono-terms a k l h c.1)
 
 -- closedness
 mutual
@@ -151,17 +158,17 @@ mutual
       (λ e. subst (ClosedAt k) (sym (same i k t (bound i) e)) (Closed_mono t zero k (omega arith) h))
       (λ n. subst (ClosedAt k) (sym (other i k t (bound i) n)) (grind (arith, n, c)))
   Closed-open (free u) k t c h = tt
-  Closed-open (symbol f a) k t c h = args3 a k t c h
-  Closed-open (meta m a) k t c h = terms3 a k t c h
+  Closed-open (symbol f a) k t c h = Closed-open-arguments a k t c h
+  Closed-open (meta m a) k t c h = Closed-open-terms a k t c h
 
-  args3 : (a : Arguments) (k : ℕ) (t : Expression) → ClosedArguments (suc k) a → ClosedAt zero t → ClosedArguments k (open_arguments k t a)
-  args3 no_arguments k t c h = tt
-  args3 (with_body n e a) k t c h = (Closed-open e (n + k) t (subst (λ l. ClosedAt l e) (omega arith) c.0) h, args3 a k t c.1 h)
-  args3 (dummy n a) k t c h = args3 a k t c h
+  Closed-open-arguments : (a : Arguments) (k : ℕ) (t : Expression) → ClosedArguments (suc k) a → ClosedAt zero t → ClosedArguments k (open_arguments k t a)
+  Closed-open-arguments no_arguments k t c h = tt
+  Closed-open-arguments (with_body n e a) k t c h = (Closed-open e (n + k) t (subst (λ l. ClosedAt l e) (omega arith) c.0) h, Closed-open-arguments a k t c.1 h)
+  Closed-open-arguments (dummy n a) k t c h = Closed-open-arguments a k t c h
 
-  terms3 : (a : Terms) (k : ℕ) (t : Expression) → ClosedTerms (suc k) a → ClosedAt zero t → ClosedTerms k (open_terms k t a)
-  terms3 no_terms k t c h = tt
-  terms3 (also e a) k t c h = (Closed-open e k t c.0 h, terms3 a k t c.1 h)
+  Closed-open-terms : (a : Terms) (k : ℕ) (t : Expression) → ClosedTerms (suc k) a → ClosedAt zero t → ClosedTerms k (open_terms k t a)
+  Closed-open-terms no_terms k t c h = tt
+  Closed-open-terms (also e a) k t c h = (Closed-open e k t c.0 h, Closed-open-terms a k t c.1 h)
 
 mutual
   unfolding close_at
@@ -171,19 +178,19 @@ mutual
   Closed-close (free u) k v c = by_test (ClosedAt (suc k) (close_at k v (free u))) u v
       (λ e. subst (ClosedAt (suc k)) (sym (same u v (bound k) (free u) e)) (omega arith))
       (λ n. subst (ClosedAt (suc k)) (sym (other u v (bound k) (free u) n)) tt)
-  Closed-close (symbol f a) k v c = args4 a k v c
-  Closed-close (meta m a) k v c = terms4 a k v c
+  Closed-close (symbol f a) k v c = Closed-close-arguments a k v c
+  Closed-close (meta m a) k v c = Closed-close-terms a k v c
 
-  args4 : (a : Arguments) (k v : ℕ) → ClosedArguments k a → ClosedArguments (suc k) (close_arguments k v a)
-  args4 no_arguments k v c = tt
-  args4 (with_body n e a) k v c = (subst (λ l. ClosedAt l (close_at (n + k) v e)) (omega arith) (Closed-close e (n + k) v c.0), args4 a k v c.1)
-  args4 (dummy n a) k v c = args4 a k v c
+  Closed-close-arguments : (a : Arguments) (k v : ℕ) → ClosedArguments k a → ClosedArguments (suc k) (close_arguments k v a)
+  Closed-close-arguments no_arguments k v c = tt
+  Closed-close-arguments (with_body n e a) k v c = (subst (λ l. ClosedAt l (close_at (n + k) v e)) (omega arith) (Closed-close e (n + k) v c.0), Closed-close-arguments a k v c.1)
+  Closed-close-arguments (dummy n a) k v c = Closed-close-arguments a k v c
 
-  terms4 : (a : Terms) (k v : ℕ) → ClosedTerms k a → ClosedTerms (suc k) (close_terms k v a)
-  terms4 no_terms k v c = tt
-  terms4 (also e a) k v c = (Closed-close e k v c.0, terms4 a k v c.1)
+  Closed-close-terms : (a : Terms) (k v : ℕ) → ClosedTerms k a → ClosedTerms (suc k) (close_terms k v a)
+  Closed-close-terms no_terms k v c = tt
+  Closed-close-terms (also e a) k v c = (Closed-close e k v c.0, Closed-close-terms a k v c.1)
 
--- uses
+-- what an opened expression mentions
 mutual
   unfolding open_at
 
@@ -192,19 +199,19 @@ mutual
       (λ e. subst (MentionsOnly f d) (sym (same i k t (bound i) e)) h)
       (λ n. subst (MentionsOnly f d) (sym (other i k t (bound i) n)) tt)
   MentionsOnly-open (free v) f d k t u h = u
-  MentionsOnly-open (symbol s a) f d k t u h = args5 a f d k t u h
-  MentionsOnly-open (meta m a) f d k t u h = (subst (d m) (sym (count-open a k t)) u.0, terms5 a f d k t u.1 h)
+  MentionsOnly-open (symbol s a) f d k t u h = MentionsOnly-open-arguments a f d k t u h
+  MentionsOnly-open (meta m a) f d k t u h = (subst (d m) (sym (count-open a k t)) u.0, MentionsOnly-open-terms a f d k t u.1 h)
 
-  args5 : (a : Arguments) (f : ℕ → Type 0) (d : ℕ → ℕ → Type 0) (k : ℕ) (t : Expression) → ArgumentsMentionOnly f d a → MentionsOnly f d t → ArgumentsMentionOnly f d (open_arguments k t a)
-  args5 no_arguments f d k t u h = tt
-  args5 (with_body n e a) f d k t u h = (MentionsOnly-open e f d (n + k) t u.0 h, args5 a f d k t u.1 h)
-  args5 (dummy n a) f d k t u h = args5 a f d k t u h
+  MentionsOnly-open-arguments : (a : Arguments) (f : ℕ → Type 0) (d : ℕ → ℕ → Type 0) (k : ℕ) (t : Expression) → ArgumentsMentionOnly f d a → MentionsOnly f d t → ArgumentsMentionOnly f d (open_arguments k t a)
+  MentionsOnly-open-arguments no_arguments f d k t u h = tt
+  MentionsOnly-open-arguments (with_body n e a) f d k t u h = (MentionsOnly-open e f d (n + k) t u.0 h, MentionsOnly-open-arguments a f d k t u.1 h)
+  MentionsOnly-open-arguments (dummy n a) f d k t u h = MentionsOnly-open-arguments a f d k t u h
 
-  terms5 : (a : Terms) (f : ℕ → Type 0) (d : ℕ → ℕ → Type 0) (k : ℕ) (t : Expression) → TermsMentionOnly f d a → MentionsOnly f d t → TermsMentionOnly f d (open_terms k t a)
-  terms5 no_terms f d k t u h = tt
-  terms5 (also e a) f d k t u h = (MentionsOnly-open e f d k t u.0 h, terms5 a f d k t u.1 h)
+  MentionsOnly-open-terms : (a : Terms) (f : ℕ → Type 0) (d : ℕ → ℕ → Type 0) (k : ℕ) (t : Expression) → TermsMentionOnly f d a → MentionsOnly f d t → TermsMentionOnly f d (open_terms k t a)
+  MentionsOnly-open-terms no_terms f d k t u h = tt
+  MentionsOnly-open-terms (also e a) f d k t u h = (MentionsOnly-open e f d k t u.0 h, MentionsOnly-open-terms a f d k t u.1 h)
 
--- a closed variable isn't used any more
+-- what is closed over a variable does not mention it any more
 mutual
   unfolding close_at
 
@@ -213,14 +220,14 @@ mutual
   MentionsOnly-close (free w) f f' d k v p u = by_test (MentionsOnly f' d (close_at k v (free w))) w v
       (λ e. subst (MentionsOnly f' d) (sym (same w v (bound k) (free w) e)) tt)
       (λ n. subst (MentionsOnly f' d) (sym (other w v (bound k) (free w) n)) (p w n u))
-  MentionsOnly-close (symbol s a) f f' d k v p u = args6 a f f' d k v p u
-  MentionsOnly-close (meta m a) f f' d k v p u = (subst (d m) (sym (count-close a k v)) u.0, terms6 a f f' d k v p u.1)
+  MentionsOnly-close (symbol s a) f f' d k v p u = MentionsOnly-close-arguments a f f' d k v p u
+  MentionsOnly-close (meta m a) f f' d k v p u = (subst (d m) (sym (count-close a k v)) u.0, MentionsOnly-close-terms a f f' d k v p u.1)
 
-  args6 : (a : Arguments) (f f' : ℕ → Type 0) (d : ℕ → ℕ → Type 0) (k v : ℕ) → ((u : ℕ) → u ≢ v → f u → f' u) → ArgumentsMentionOnly f d a → ArgumentsMentionOnly f' d (close_arguments k v a)
-  args6 no_arguments f f' d k v p u = tt
-  args6 (with_body n e a) f f' d k v p u = (MentionsOnly-close e f f' d (n + k) v p u.0, args6 a f f' d k v p u.1)
-  args6 (dummy n a) f f' d k v p u = args6 a f f' d k v p u
+  MentionsOnly-close-arguments : (a : Arguments) (f f' : ℕ → Type 0) (d : ℕ → ℕ → Type 0) (k v : ℕ) → ((u : ℕ) → u ≢ v → f u → f' u) → ArgumentsMentionOnly f d a → ArgumentsMentionOnly f' d (close_arguments k v a)
+  MentionsOnly-close-arguments no_arguments f f' d k v p u = tt
+  MentionsOnly-close-arguments (with_body n e a) f f' d k v p u = (MentionsOnly-close e f f' d (n + k) v p u.0, MentionsOnly-close-arguments a f f' d k v p u.1)
+  MentionsOnly-close-arguments (dummy n a) f f' d k v p u = MentionsOnly-close-arguments a f f' d k v p u
 
-  terms6 : (a : Terms) (f f' : ℕ → Type 0) (d : ℕ → ℕ → Type 0) (k v : ℕ) → ((u : ℕ) → u ≢ v → f u → f' u) → TermsMentionOnly f d a → TermsMentionOnly f' d (close_terms k v a)
-  terms6 no_terms f f' d k v p u = tt
-  terms6 (also e a) f f' d k v p u = (MentionsOnly-close e f f' d k v p u.0, terms6 a f f' d k v p u.1)
+  MentionsOnly-close-terms : (a : Terms) (f f' : ℕ → Type 0) (d : ℕ → ℕ → Type 0) (k v : ℕ) → ((u : ℕ) → u ≢ v → f u → f' u) → TermsMentionOnly f d a → TermsMentionOnly f' d (close_terms k v a)
+  MentionsOnly-close-terms no_terms f f' d k v p u = tt
+  MentionsOnly-close-terms (also e a) f f' d k v p u = (MentionsOnly-close e f f' d k v p u.0, MentionsOnly-close-terms a f f' d k v p u.1)

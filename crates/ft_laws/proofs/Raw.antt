@@ -1,3 +1,4 @@
+-- Renaming and putting expressions for bound variables, one after the other: each composition is one renaming or putting.
 use Rattle.std.proofs.Common.{◌≡◌, ℕ, zero, suc, refl, sym, ap, ap₂, ◌∙◌}
 use mathlib.Core.Path.{fun_ext}
 use Rattle.ft_theory.specs.Expressions.{Expression, bound, free, symbol, meta, Arguments, no_arguments, with_body, dummy, Terms, no_terms, also, under_binder, under_binders, rename, rename_arguments, rename_terms, lift, lifts, put, put_arguments, put_terms}
@@ -15,17 +16,17 @@ mutual
   pub put-rename : (e : Expression) (s : ℕ → Expression) (r : ℕ → ℕ) → put s (rename r e) ≡ put (λ j. s (r j)) e
   put-rename (bound i) s r = refl
   put-rename (free v) s r = refl
-  put-rename (symbol f a) s r = ap (symbol f) (args a s r)
-  put-rename (meta m a) s r = ap (meta m) (terms a s r)
+  put-rename (symbol f a) s r = ap (symbol f) (put-rename-arguments a s r)
+  put-rename (meta m a) s r = ap (meta m) (put-rename-terms a s r)
 
-  args : (a : Arguments) (s : ℕ → Expression) (r : ℕ → ℕ) → put_arguments s (rename_arguments r a) ≡ put_arguments (λ j. s (r j)) a
-  args no_arguments s r = refl
-  args (with_body n e a) s r = ap₂ (with_body n) (put-rename e (lifts n s) (under_binders n r) ∙ ap (λ t. put t e) (fun_ext (lifts-under_binders n s r))) (args a s r)
-  args (dummy n a) s r = ap (dummy n) (args a s r)
+  put-rename-arguments : (a : Arguments) (s : ℕ → Expression) (r : ℕ → ℕ) → put_arguments s (rename_arguments r a) ≡ put_arguments (λ j. s (r j)) a
+  put-rename-arguments no_arguments s r = refl
+  put-rename-arguments (with_body n e a) s r = ap₂ (with_body n) (put-rename e (lifts n s) (under_binders n r) ∙ ap (λ t. put t e) (fun_ext (lifts-under_binders n s r))) (put-rename-arguments a s r)
+  put-rename-arguments (dummy n a) s r = ap (dummy n) (put-rename-arguments a s r)
 
-  terms : (a : Terms) (s : ℕ → Expression) (r : ℕ → ℕ) → put_terms s (rename_terms r a) ≡ put_terms (λ j. s (r j)) a
-  terms no_terms s r = refl
-  terms (also e a) s r = ap₂ also (put-rename e s r) (terms a s r)
+  put-rename-terms : (a : Terms) (s : ℕ → Expression) (r : ℕ → ℕ) → put_terms s (rename_terms r a) ≡ put_terms (λ j. s (r j)) a
+  put-rename-terms no_terms s r = refl
+  put-rename-terms (also e a) s r = ap₂ also (put-rename e s r) (put-rename-terms a s r)
 
 -- rename after rename
 under_binders-under_binders : (n : ℕ) (q r : ℕ → ℕ) (i : ℕ) → under_binders n q (under_binders n r i) ≡ under_binders n (λ j. q (r j)) i
@@ -40,17 +41,17 @@ mutual
   pub rename-rename : (e : Expression) (q r : ℕ → ℕ) → rename q (rename r e) ≡ rename (λ j. q (r j)) e
   rename-rename (bound i) q r = refl
   rename-rename (free v) q r = refl
-  rename-rename (symbol f a) q r = ap (symbol f) (args2 a q r)
-  rename-rename (meta m a) q r = ap (meta m) (terms2 a q r)
+  rename-rename (symbol f a) q r = ap (symbol f) (rename-rename-arguments a q r)
+  rename-rename (meta m a) q r = ap (meta m) (rename-rename-terms a q r)
 
-  args2 : (a : Arguments) (q r : ℕ → ℕ) → rename_arguments q (rename_arguments r a) ≡ rename_arguments (λ j. q (r j)) a
-  args2 no_arguments q r = refl
-  args2 (with_body n e a) q r = ap₂ (with_body n) (rename-rename e (under_binders n q) (under_binders n r) ∙ ap (λ t. rename t e) (fun_ext (under_binders-under_binders n q r))) (args2 a q r)
-  args2 (dummy n a) q r = ap (dummy n) (args2 a q r)
+  rename-rename-arguments : (a : Arguments) (q r : ℕ → ℕ) → rename_arguments q (rename_arguments r a) ≡ rename_arguments (λ j. q (r j)) a
+  rename-rename-arguments no_arguments q r = refl
+  rename-rename-arguments (with_body n e a) q r = ap₂ (with_body n) (rename-rename e (under_binders n q) (under_binders n r) ∙ ap (λ t. rename t e) (fun_ext (under_binders-under_binders n q r))) (rename-rename-arguments a q r)
+  rename-rename-arguments (dummy n a) q r = ap (dummy n) (rename-rename-arguments a q r)
 
-  terms2 : (a : Terms) (q r : ℕ → ℕ) → rename_terms q (rename_terms r a) ≡ rename_terms (λ j. q (r j)) a
-  terms2 no_terms q r = refl
-  terms2 (also e a) q r = ap₂ also (rename-rename e q r) (terms2 a q r)
+  rename-rename-terms : (a : Terms) (q r : ℕ → ℕ) → rename_terms q (rename_terms r a) ≡ rename_terms (λ j. q (r j)) a
+  rename-rename-terms no_terms q r = refl
+  rename-rename-terms (also e a) q r = ap₂ also (rename-rename e q r) (rename-rename-terms a q r)
 
 -- rename after put
 under_binders-lifts : (n : ℕ) (r : ℕ → ℕ) (s : ℕ → Expression) (i : ℕ) → rename (under_binders n r) (lifts n s i) ≡ lifts n (λ j. rename r (s j)) i
@@ -65,17 +66,17 @@ mutual
   pub rename-put : (e : Expression) (r : ℕ → ℕ) (s : ℕ → Expression) → rename r (put s e) ≡ put (λ j. rename r (s j)) e
   rename-put (bound i) r s = refl
   rename-put (free v) r s = refl
-  rename-put (symbol f a) r s = ap (symbol f) (args3 a r s)
-  rename-put (meta m a) r s = ap (meta m) (terms3 a r s)
+  rename-put (symbol f a) r s = ap (symbol f) (rename-put-arguments a r s)
+  rename-put (meta m a) r s = ap (meta m) (rename-put-terms a r s)
 
-  args3 : (a : Arguments) (r : ℕ → ℕ) (s : ℕ → Expression) → rename_arguments r (put_arguments s a) ≡ put_arguments (λ j. rename r (s j)) a
-  args3 no_arguments r s = refl
-  args3 (with_body n e a) r s = ap₂ (with_body n) (rename-put e (under_binders n r) (lifts n s) ∙ ap (λ t. put t e) (fun_ext (under_binders-lifts n r s))) (args3 a r s)
-  args3 (dummy n a) r s = ap (dummy n) (args3 a r s)
+  rename-put-arguments : (a : Arguments) (r : ℕ → ℕ) (s : ℕ → Expression) → rename_arguments r (put_arguments s a) ≡ put_arguments (λ j. rename r (s j)) a
+  rename-put-arguments no_arguments r s = refl
+  rename-put-arguments (with_body n e a) r s = ap₂ (with_body n) (rename-put e (under_binders n r) (lifts n s) ∙ ap (λ t. put t e) (fun_ext (under_binders-lifts n r s))) (rename-put-arguments a r s)
+  rename-put-arguments (dummy n a) r s = ap (dummy n) (rename-put-arguments a r s)
 
-  terms3 : (a : Terms) (r : ℕ → ℕ) (s : ℕ → Expression) → rename_terms r (put_terms s a) ≡ put_terms (λ j. rename r (s j)) a
-  terms3 no_terms r s = refl
-  terms3 (also e a) r s = ap₂ also (rename-put e r s) (terms3 a r s)
+  rename-put-terms : (a : Terms) (r : ℕ → ℕ) (s : ℕ → Expression) → rename_terms r (put_terms s a) ≡ put_terms (λ j. rename r (s j)) a
+  rename-put-terms no_terms r s = refl
+  rename-put-terms (also e a) r s = ap₂ also (rename-put e r s) (rename-put-terms a r s)
 
 -- put after put
 lifts-lifts : (n : ℕ) (s t : ℕ → Expression) (i : ℕ) → put (lifts n s) (lifts n t i) ≡ lifts n (λ j. put s (t j)) i
@@ -90,14 +91,14 @@ mutual
   pub put-put : (e : Expression) (s t : ℕ → Expression) → put s (put t e) ≡ put (λ j. put s (t j)) e
   put-put (bound i) s t = refl
   put-put (free v) s t = refl
-  put-put (symbol f a) s t = ap (symbol f) (args4 a s t)
-  put-put (meta m a) s t = ap (meta m) (terms4 a s t)
+  put-put (symbol f a) s t = ap (symbol f) (put-put-arguments a s t)
+  put-put (meta m a) s t = ap (meta m) (put-put-terms a s t)
 
-  args4 : (a : Arguments) (s t : ℕ → Expression) → put_arguments s (put_arguments t a) ≡ put_arguments (λ j. put s (t j)) a
-  args4 no_arguments s t = refl
-  args4 (with_body n e a) s t = ap₂ (with_body n) (put-put e (lifts n s) (lifts n t) ∙ ap (λ u. put u e) (fun_ext (lifts-lifts n s t))) (args4 a s t)
-  args4 (dummy n a) s t = ap (dummy n) (args4 a s t)
+  put-put-arguments : (a : Arguments) (s t : ℕ → Expression) → put_arguments s (put_arguments t a) ≡ put_arguments (λ j. put s (t j)) a
+  put-put-arguments no_arguments s t = refl
+  put-put-arguments (with_body n e a) s t = ap₂ (with_body n) (put-put e (lifts n s) (lifts n t) ∙ ap (λ u. put u e) (fun_ext (lifts-lifts n s t))) (put-put-arguments a s t)
+  put-put-arguments (dummy n a) s t = ap (dummy n) (put-put-arguments a s t)
 
-  terms4 : (a : Terms) (s t : ℕ → Expression) → put_terms s (put_terms t a) ≡ put_terms (λ j. put s (t j)) a
-  terms4 no_terms s t = refl
-  terms4 (also e a) s t = ap₂ also (put-put e s t) (terms4 a s t)
+  put-put-terms : (a : Terms) (s t : ℕ → Expression) → put_terms s (put_terms t a) ≡ put_terms (λ j. put s (t j)) a
+  put-put-terms no_terms s t = refl
+  put-put-terms (also e a) s t = ap₂ also (put-put e s t) (put-put-terms a s t)

@@ -1,19 +1,20 @@
+-- The laws of expressions, on claims and statements.
 use Rattle.std.proofs.Common.{◌≡◌, ℕ, zero, suc, ◌+◌, Option, refl, sym, ap, ap₂, ◌∙◌, arith}
 use Rattle.ft_theory.specs.Expressions.{Expression, free, act, ClosedAt, MentionsOnly, Without, open_at, close_at}
 use Rattle.ft_theory.specs.Statements.{Claim, is_type, has_type, equal_types, equal_terms, type_goal, term_goal, type_equation_goal, term_equation_goal, Statement, plain, abstracted, map_claim, map_statement, AllOfClaim, AllOfStatement, ClosedStatement, StatementMentionsOnly, act_statement, close_statement, opened, domain, domain_count, fill_goal, fill, equate_goal, equate, IsObjectGoal, IsEquationGoal, IsObject, IsEquation}
 use Rattle.ft_laws.proofs.Acts.{IsClosedMap, act-act, after, act_agree, no_bodies, act_nothing}
 use Rattle.ft_laws.proofs.Opens.{act-open, close-open, open-close}
 
--- maps on cores
-pub core_path : (c : Claim) (f h : Expression → Expression) (P : Expression → Type 0) → ((e : Expression) → P e → f e ≡ h e) → AllOfClaim P c → map_claim f c ≡ map_claim h c
-core_path (is_type A) f h P p a = ap is_type (p A a)
-core_path (has_type t A) f h P p a = ap₂ has_type (p t a.0) (p A a.1)
-core_path (equal_types A B) f h P p a = ap₂ equal_types (p A a.0) (p B a.1)
-core_path (equal_terms s t A) f h P p a = ap₂ (λ x y. equal_terms x y (f A)) (p s a.0) (p t a.1) ∙ ap (equal_terms (h s) (h t)) (p A a.2)
-core_path type_goal f h P p a = refl
-core_path (term_goal A) f h P p a = ap term_goal (p A a)
-core_path (type_equation_goal A B) f h P p a = ap₂ type_equation_goal (p A a.0) (p B a.1)
-core_path (term_equation_goal s t A) f h P p a = ap₂ (λ x y. term_equation_goal x y (f A)) (p s a.0) (p t a.1) ∙ ap (term_equation_goal (h s) (h t)) (p A a.2)
+-- maps on claims
+pub map_claim_agree : (c : Claim) (f h : Expression → Expression) (P : Expression → Type 0) → ((e : Expression) → P e → f e ≡ h e) → AllOfClaim P c → map_claim f c ≡ map_claim h c
+map_claim_agree (is_type A) f h P p a = ap is_type (p A a)
+map_claim_agree (has_type t A) f h P p a = ap₂ has_type (p t a.0) (p A a.1)
+map_claim_agree (equal_types A B) f h P p a = ap₂ equal_types (p A a.0) (p B a.1)
+map_claim_agree (equal_terms s t A) f h P p a = ap₂ (λ x y. equal_terms x y (f A)) (p s a.0) (p t a.1) ∙ ap (equal_terms (h s) (h t)) (p A a.2)
+map_claim_agree type_goal f h P p a = refl
+map_claim_agree (term_goal A) f h P p a = ap term_goal (p A a)
+map_claim_agree (type_equation_goal A B) f h P p a = ap₂ type_equation_goal (p A a.0) (p B a.1)
+map_claim_agree (term_equation_goal s t A) f h P p a = ap₂ (λ x y. term_equation_goal x y (f A)) (p s a.0) (p t a.1) ∙ ap (term_equation_goal (h s) (h t)) (p A a.2)
 
 pub map_claim-map : (c : Claim) (f g : Expression → Expression) → map_claim f (map_claim g c) ≡ map_claim (λ e. f (g e)) c
 map_claim-map (is_type A) f g = refl
@@ -35,30 +36,30 @@ map_claim-id (term_goal A) = refl
 map_claim-id (type_equation_goal A B) = refl
 map_claim-id (term_equation_goal s t A) = refl
 
-pub core_map : (c : Claim) (f : Expression → Expression) (P Q : Expression → Type 0) → ((e : Expression) → P e → Q (f e)) → AllOfClaim P c → AllOfClaim Q (map_claim f c)
-core_map (is_type A) f P Q p a = p A a
-core_map (has_type t A) f P Q p a = (p t a.0, p A a.1)
-core_map (equal_types A B) f P Q p a = (p A a.0, p B a.1)
-core_map (equal_terms s t A) f P Q p a = (p s a.0, p t a.1, p A a.2)
-core_map type_goal f P Q p a = tt
-core_map (term_goal A) f P Q p a = p A a
-core_map (type_equation_goal A B) f P Q p a = (p A a.0, p B a.1)
-core_map (term_equation_goal s t A) f P Q p a = (p s a.0, p t a.1, p A a.2)
+pub AllOfClaim-map : (c : Claim) (f : Expression → Expression) (P Q : Expression → Type 0) → ((e : Expression) → P e → Q (f e)) → AllOfClaim P c → AllOfClaim Q (map_claim f c)
+AllOfClaim-map (is_type A) f P Q p a = p A a
+AllOfClaim-map (has_type t A) f P Q p a = (p t a.0, p A a.1)
+AllOfClaim-map (equal_types A B) f P Q p a = (p A a.0, p B a.1)
+AllOfClaim-map (equal_terms s t A) f P Q p a = (p s a.0, p t a.1, p A a.2)
+AllOfClaim-map type_goal f P Q p a = tt
+AllOfClaim-map (term_goal A) f P Q p a = p A a
+AllOfClaim-map (type_equation_goal A B) f P Q p a = (p A a.0, p B a.1)
+AllOfClaim-map (term_equation_goal s t A) f P Q p a = (p s a.0, p t a.1, p A a.2)
 
-pub core_mono : (c : Claim) (P Q : Expression → Type 0) → ((e : Expression) → P e → Q e) → AllOfClaim P c → AllOfClaim Q c
-core_mono (is_type A) P Q p a = p A a
-core_mono (has_type t A) P Q p a = (p t a.0, p A a.1)
-core_mono (equal_types A B) P Q p a = (p A a.0, p B a.1)
-core_mono (equal_terms s t A) P Q p a = (p s a.0, p t a.1, p A a.2)
-core_mono type_goal P Q p a = tt
-core_mono (term_goal A) P Q p a = p A a
-core_mono (type_equation_goal A B) P Q p a = (p A a.0, p B a.1)
-core_mono (term_equation_goal s t A) P Q p a = (p s a.0, p t a.1, p A a.2)
+pub AllOfClaim_mono : (c : Claim) (P Q : Expression → Type 0) → ((e : Expression) → P e → Q e) → AllOfClaim P c → AllOfClaim Q c
+AllOfClaim_mono (is_type A) P Q p a = p A a
+AllOfClaim_mono (has_type t A) P Q p a = (p t a.0, p A a.1)
+AllOfClaim_mono (equal_types A B) P Q p a = (p A a.0, p B a.1)
+AllOfClaim_mono (equal_terms s t A) P Q p a = (p s a.0, p t a.1, p A a.2)
+AllOfClaim_mono type_goal P Q p a = tt
+AllOfClaim_mono (term_goal A) P Q p a = p A a
+AllOfClaim_mono (type_equation_goal A B) P Q p a = (p A a.0, p B a.1)
+AllOfClaim_mono (term_equation_goal s t A) P Q p a = (p s a.0, p t a.1, p A a.2)
 
 -- maps on statements
-pub stmt_path : (x : Statement) (f h : ℕ → Expression → Expression) (P : ℕ → Expression → Type 0) (k : ℕ) → ((l : ℕ) (e : Expression) → P l e → f l e ≡ h l e) → AllOfStatement P k x → map_statement f k x ≡ map_statement h k x
-stmt_path (plain c) f h P k p a = ap plain (core_path c (f k) (h k) (P k) (p k) a)
-stmt_path (abstracted A x) f h P k p a = ap₂ abstracted (p k A a.0) (stmt_path x f h P (suc k) p a.1)
+pub map_statement_agree : (x : Statement) (f h : ℕ → Expression → Expression) (P : ℕ → Expression → Type 0) (k : ℕ) → ((l : ℕ) (e : Expression) → P l e → f l e ≡ h l e) → AllOfStatement P k x → map_statement f k x ≡ map_statement h k x
+map_statement_agree (plain c) f h P k p a = ap plain (map_claim_agree c (f k) (h k) (P k) (p k) a)
+map_statement_agree (abstracted A x) f h P k p a = ap₂ abstracted (p k A a.0) (map_statement_agree x f h P (suc k) p a.1)
 
 pub map_statement-map : (x : Statement) (f g : ℕ → Expression → Expression) (k : ℕ) → map_statement f k (map_statement g k x) ≡ map_statement (λ l e. f l (g l e)) k x
 map_statement-map (plain c) f g k = ap plain (map_claim-map c (f k) (g k))
@@ -68,35 +69,35 @@ pub map_statement-id : (x : Statement) (k : ℕ) → map_statement (λ l e. e) k
 map_statement-id (plain c) k = ap plain (map_claim-id c)
 map_statement-id (abstracted A x) k = ap (abstracted A) (map_statement-id x (suc k))
 
-pub stmt_map : (x : Statement) (f : ℕ → Expression → Expression) (P Q : ℕ → Expression → Type 0) (k : ℕ) → ((l : ℕ) (e : Expression) → P l e → Q l (f l e)) → AllOfStatement P k x → AllOfStatement Q k (map_statement f k x)
-stmt_map (plain c) f P Q k p a = core_map c (f k) (P k) (Q k) (p k) a
-stmt_map (abstracted A x) f P Q k p a = (p k A a.0, stmt_map x f P Q (suc k) p a.1)
+pub AllOfStatement-map : (x : Statement) (f : ℕ → Expression → Expression) (P Q : ℕ → Expression → Type 0) (k : ℕ) → ((l : ℕ) (e : Expression) → P l e → Q l (f l e)) → AllOfStatement P k x → AllOfStatement Q k (map_statement f k x)
+AllOfStatement-map (plain c) f P Q k p a = AllOfClaim-map c (f k) (P k) (Q k) (p k) a
+AllOfStatement-map (abstracted A x) f P Q k p a = (p k A a.0, AllOfStatement-map x f P Q (suc k) p a.1)
 
 pub stmt_mono : (x : Statement) (P Q : ℕ → Expression → Type 0) (k : ℕ) → ((l : ℕ) (e : Expression) → P l e → Q l e) → AllOfStatement P k x → AllOfStatement Q k x
-stmt_mono (plain c) P Q k p a = core_mono c (P k) (Q k) (p k) a
+stmt_mono (plain c) P Q k p a = AllOfClaim_mono c (P k) (Q k) (p k) a
 stmt_mono (abstracted A x) P Q k p a = (p k A a.0, stmt_mono x P Q (suc k) p a.1)
 
-pub stmt_shift : (x : Statement) (P : ℕ → Expression → Type 0) (k : ℕ) → AllOfStatement P (suc k) x → AllOfStatement (λ l. P (suc l)) k x
-stmt_shift (plain c) P k a = a
-stmt_shift (abstracted A x) P k a = (a.0, stmt_shift x P (suc k) a.1)
+pub AllOfStatement_shift : (x : Statement) (P : ℕ → Expression → Type 0) (k : ℕ) → AllOfStatement P (suc k) x → AllOfStatement (λ l. P (suc l)) k x
+AllOfStatement_shift (plain c) P k a = a
+AllOfStatement_shift (abstracted A x) P k a = (a.0, AllOfStatement_shift x P (suc k) a.1)
 
-pub stmt_unshift : (x : Statement) (P : ℕ → Expression → Type 0) (k : ℕ) → AllOfStatement (λ l. P (suc l)) k x → AllOfStatement P (suc k) x
-stmt_unshift (plain c) P k a = a
-stmt_unshift (abstracted A x) P k a = (a.0, stmt_unshift x P (suc k) a.1)
+pub AllOfStatement_unshift : (x : Statement) (P : ℕ → Expression → Type 0) (k : ℕ) → AllOfStatement (λ l. P (suc l)) k x → AllOfStatement P (suc k) x
+AllOfStatement_unshift (plain c) P k a = a
+AllOfStatement_unshift (abstracted A x) P k a = (a.0, AllOfStatement_unshift x P (suc k) a.1)
 
-pub core_true : (c : Claim) → AllOfClaim (λ e. Unit {0}) c
-core_true (is_type A) = tt
-core_true (has_type t A) = (tt, tt)
-core_true (equal_types A B) = (tt, tt)
-core_true (equal_terms s t A) = (tt, tt, tt)
-core_true type_goal = tt
-core_true (term_goal A) = tt
-core_true (type_equation_goal A B) = (tt, tt)
-core_true (term_equation_goal s t A) = (tt, tt, tt)
+pub AllOfClaim_true : (c : Claim) → AllOfClaim (λ e. Unit {0}) c
+AllOfClaim_true (is_type A) = tt
+AllOfClaim_true (has_type t A) = (tt, tt)
+AllOfClaim_true (equal_types A B) = (tt, tt)
+AllOfClaim_true (equal_terms s t A) = (tt, tt, tt)
+AllOfClaim_true type_goal = tt
+AllOfClaim_true (term_goal A) = tt
+AllOfClaim_true (type_equation_goal A B) = (tt, tt)
+AllOfClaim_true (term_equation_goal s t A) = (tt, tt, tt)
 
-pub stmt_true : (x : Statement) (k : ℕ) → AllOfStatement (λ l e. Unit {0}) k x
-stmt_true (plain c) k = core_true c
-stmt_true (abstracted A x) k = (tt, stmt_true x (suc k))
+pub AllOfStatement_true : (x : Statement) (k : ℕ) → AllOfStatement (λ l e. Unit {0}) k x
+AllOfStatement_true (plain c) k = AllOfClaim_true c
+AllOfStatement_true (abstracted A x) k = (tt, AllOfStatement_true x (suc k))
 
 -- a map that doesn't look at the number of domains
 pub map_any : (x : Statement) (f : Expression → Expression) (k l : ℕ) → map_statement (λ j. f) k x ≡ map_statement (λ j. f) l x
@@ -197,7 +198,7 @@ pub act-opened : (x : Statement) (g : ℕ → Expression) (i : ℕ → ℕ → O
 act-opened (plain c) g i t m h h' = refl
 act-opened (abstracted A x) g i t m h h' =
     map_statement-map x (λ l. act g i) (λ l. open_at l t) zero
-    ∙ stmt_path x (λ l e. act g i (open_at l t e)) (λ l e. open_at l (act g i t) (act g i e)) (λ l e. Unit {0}) zero (λ l e u. act-open e g i l t m h h') (stmt_true x zero)
+    ∙ map_statement_agree x (λ l e. act g i (open_at l t e)) (λ l e. open_at l (act g i t) (act g i e)) (λ l e. Unit {0}) zero (λ l e u. act-open e g i l t m h h') (AllOfStatement_true x zero)
     ∙ sym (map_statement-map x (λ l. open_at l (act g i t)) (λ l. act g i) zero)
     ∙ ap (map_statement (λ l. open_at l (act g i t)) zero) (map_any x (act g i) zero (suc zero))
 
@@ -209,30 +210,30 @@ domain-act (abstracted A x) g i = refl
 pub act-act_statement : (x : Statement) (g h : ℕ → Expression) (i j : ℕ → ℕ → Option Expression) → IsClosedMap g i → act_statement g i (act_statement h j x) ≡ act_statement (λ v. act g i (h v)) (after g i j) x
 act-act_statement x g h i j c =
     map_statement-map x (λ l. act g i) (λ l. act h j) zero
-    ∙ stmt_path x (λ l e. act g i (act h j e)) (λ l. act (λ v. act g i (h v)) (after g i j)) (λ l e. Unit {0}) zero (λ l e u. act-act e g h i j c) (stmt_true x zero)
+    ∙ map_statement_agree x (λ l e. act g i (act h j e)) (λ l. act (λ v. act g i (h v)) (after g i j)) (λ l e. Unit {0}) zero (λ l e u. act-act e g h i j c) (AllOfStatement_true x zero)
 
 pub act_stmt_agree : (x : Statement) (g h : ℕ → Expression) (i j : ℕ → ℕ → Option Expression) → StatementMentionsOnly (λ v. g v ≡ h v) (λ m k. i m k ≡ j m k) x → act_statement g i x ≡ act_statement h j x
-act_stmt_agree x g h i j u = stmt_path x (λ l. act g i) (λ l. act h j) (λ l. MentionsOnly (λ v. g v ≡ h v) (λ m k. i m k ≡ j m k)) zero (λ l e p. act_agree e g h i j p) u
+act_stmt_agree x g h i j u = map_statement_agree x (λ l. act g i) (λ l. act h j) (λ l. MentionsOnly (λ v. g v ≡ h v) (λ m k. i m k ≡ j m k)) zero (λ l e p. act_agree e g h i j p) u
 
-pub act_stmt_nothing : (x : Statement) → act_statement free no_bodies x ≡ x
-act_stmt_nothing x =
-    stmt_path x (λ l. act free no_bodies) (λ l e. e) (λ l e. Unit {0}) zero (λ l e u. act_nothing e) (stmt_true x zero)
+pub act_statement_nothing : (x : Statement) → act_statement free no_bodies x ≡ x
+act_statement_nothing x =
+    map_statement_agree x (λ l. act free no_bodies) (λ l e. e) (λ l e. Unit {0}) zero (λ l e u. act_nothing e) (AllOfStatement_true x zero)
     ∙ map_statement-id x zero
 
 -- closing and opening
 pub opened-closed : (x : Statement) (A : Expression) (v : ℕ) → ClosedStatement zero x → opened (free v) (abstracted A (close_statement v x)) ≡ x
 opened-closed x A v c =
     map_statement-map x (λ l. open_at l (free v)) (λ l. close_at l v) zero
-    ∙ stmt_path x (λ l e. open_at l (free v) (close_at l v e)) (λ l e. e) ClosedAt zero (λ l e h. open-close e l v h) c
+    ∙ map_statement_agree x (λ l e. open_at l (free v) (close_at l v e)) (λ l e. e) ClosedAt zero (λ l e h. open-close e l v h) c
     ∙ map_statement-id x zero
 
 pub closed-opened : (y : Statement) (A : Expression) (v : ℕ) → AllOfStatement (λ l. Without v) zero y → close_statement v (opened (free v) (abstracted A y)) ≡ y
 closed-opened y A v w =
     map_statement-map y (λ l. close_at l v) (λ l. open_at l (free v)) zero
-    ∙ stmt_path y (λ l e. close_at l v (open_at l (free v) e)) (λ l e. e) (λ l. Without v) zero (λ l e h. close-open e l v h) w
+    ∙ map_statement_agree y (λ l e. close_at l v (open_at l (free v) e)) (λ l e. e) (λ l. Without v) zero (λ l e h. close-open e l v h) w
     ∙ map_statement-id y zero
 
-pub act_nothing_stmt : (x : Statement) (k : ℕ) → map_statement (λ l. act free no_bodies) k x ≡ x
-act_nothing_stmt x k =
-    stmt_path x (λ l. act free no_bodies) (λ l e. e) (λ l e. Unit {0}) k (λ l e u. act_nothing e) (stmt_true x k)
+pub act_nothing_statement : (x : Statement) (k : ℕ) → map_statement (λ l. act free no_bodies) k x ≡ x
+act_nothing_statement x k =
+    map_statement_agree x (λ l. act free no_bodies) (λ l e. e) (λ l e. Unit {0}) k (λ l e u. act_nothing e) (AllOfStatement_true x k)
     ∙ map_statement-id x k

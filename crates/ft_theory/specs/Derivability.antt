@@ -19,7 +19,8 @@ DerUpTo k T M G x = Tree (StepUpTo k T) (sequent M G x)
 abbrev pub Der : List Rule → List (ℕ × Statement) → List (ℕ × Expression) → Statement → Type 0
 Der T M G x = DerUpTo 7 T M G x
 
--- each premise's metavariable is new and its boundary is derivable, in the sense D, over the premises before it
+-- each premise's metavariable is new, and its boundary, which is one of an object or an equation, is derivable in the sense D over
+-- the premises before it
 abbrev pub PremisesHold : (List (ℕ × Statement) → Statement → Type 0) → List (ℕ × Statement) → List (ℕ × Statement) → Type 0
 PremisesHold D ps [] = Unit {0}
 PremisesHold D ps (q ∷ qs) = (look_up ps q.0 ≡ None) × (IsObject q.1 ⊎ IsEquation q.1) × D ps q.1 × PremisesHold D (ps ++ (q ∷ [])) qs
@@ -33,7 +34,8 @@ abbrev pub FinitaryAfter : (List Rule → List (ℕ × Statement) → Statement 
 FinitaryAfter D T [] = Unit {0}
 FinitaryAfter D T (R ∷ Rs) = RuleHolds (D T) R × FinitaryAfter D (T ++ (R ∷ [])) Rs
 
--- A theory is finitary where each rule is well formed over the rules before it. Here derivable means by kinds up to k.
+-- A theory is finitary where each rule is well formed over the rules before it, without free variables. Here derivable means by
+-- kinds up to k.
 abbrev pub FinitaryUpTo : ℕ → List Rule → Type 0
 FinitaryUpTo k T = FinitaryAfter (λ T M x. DerUpTo k T M [] x) [] T
 

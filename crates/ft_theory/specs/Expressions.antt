@@ -1,5 +1,6 @@
 -- Expressions: finite trees of bound variables, free variables, symbols and metavariables; and what is put in them.
--- After the raw syntax of Haselwarter and Bauer, "Finitary type theories with and without contexts".
+-- After the raw syntax of Haselwarter and Bauer, "Finitary type theories with and without contexts". Bound variables are
+-- numbers, as in de Bruijn, "Lambda calculus notation with nameless dummies"; free variables have numbers of their own.
 use Rattle.std.specs.Prelude.{ℕ, zero, suc, ◌+◌, ◌<◌, Option, Some, None, cond, nat_eq, ◌≢◌}
 
 -- An expression is a bound variable (a number, 0 for the innermost binder around it), a free variable (a number), a symbol
@@ -26,8 +27,8 @@ unfoldable pub count : Terms → ℕ
 count no_terms = zero
 count (also t a) = suc (count a)
 
--- Renamings of bound variables, in the manner of parallel substitution (after de Bruijn, and Schäfer, Tebbi and Smolka,
--- "Autosubst"): a renaming is a function on the numbers of bound variables.
+-- Renamings of bound variables: functions on their numbers. Renaming and putting at once for all bound variables are after
+-- Schäfer, Tebbi and Smolka, "Autosubst: reasoning with de Bruijn terms and parallel substitutions".
 
 -- the renaming below one more binder, whose own variable stays
 unfoldable pub under_binder : (ℕ → ℕ) → ℕ → ℕ
@@ -56,7 +57,7 @@ unfoldable mutual
   rename_terms r no_terms = no_terms
   rename_terms r (also t a) = also (rename r t) (rename_terms r a)
 
--- Parallel substitution for bound variables: a function from their numbers to expressions.
+-- Putting expressions for all bound variables at once: a function from their numbers to expressions.
 
 -- the substitution below one more binder: its own variable stays, and the loose variables of what is put pass it
 unfoldable pub lift : (ℕ → Expression) → ℕ → Expression
@@ -68,7 +69,7 @@ unfoldable pub lifts : ℕ → (ℕ → Expression) → ℕ → Expression
 lifts zero s = s
 lifts (suc n) s = lift (lifts n s)
 
--- the expression with an expression put for each loose bound variable
+-- the expression with s i put for each loose bound variable i, the loose ones being those that point past all binders inside
 unfoldable mutual
   pub put : (ℕ → Expression) → Expression → Expression
   put s (bound i) = s i
@@ -90,20 +91,23 @@ unfoldable pub push : (ℕ → Expression) → Expression → ℕ → Expression
 push s t zero = t
 push s t (suc i) = s i
 
--- the substitution that puts terms for the innermost variables, the last term for the innermost one
+-- The substitution that puts terms for the innermost variables, the last term for the innermost one. So the first term is for
+-- the outermost binder, as the terms of a metavariable are for its boundary's domains in their order.
 unfoldable pub pushes : (ℕ → Expression) → Terms → ℕ → Expression
 pushes s no_terms = s
 pushes s (also t a) = pushes (push s t) a
 
 -- What is put for free variables and metavariables.
 
--- a metavariable at terms where nothing is put for it; else the body that is put, with the terms for its bound variables
+-- what is put for a metavariable at terms: the body, with the terms for its bound variables; or where there is no body, the
+-- metavariable at these terms
 unfoldable pub body_or : Option Expression → ℕ → Terms → Expression
 body_or None m a = meta m a
 body_or (Some b) m a = put (pushes bound a) b
 
 -- The expression with s v put for each free variable v, and for each metavariable m at k terms the body i m k, where there
--- is one, at these terms. All is put at once. What s puts is closed, and a body has no loose variable but those for the terms.
+-- is one, at these terms. All is put at once, and what is put is not looked at again. It is meant for closed s v and for bodies
+-- without loose variables but those for the k terms: nothing is shifted where it passes binders.
 unfoldable mutual
   pub act : (ℕ → Expression) → (ℕ → ℕ → Option Expression) → Expression → Expression
   act s i (bound j) = bound j
@@ -120,7 +124,8 @@ unfoldable mutual
   act_terms s i no_terms = no_terms
   act_terms s i (also t a) = also (act s i t) (act_terms s i a)
 
--- A substitution: a closed term for each free variable, put at all places at once.
+-- The expression with a substitution done to it: for each free variable a closed term, put at all places at once. Where a
+-- substitution is to leave a variable alone it has the variable itself.
 abbrev pub substitute : (ℕ → Expression) → Expression → Expression
 substitute s e = act s (λ m k. None) e
 
@@ -128,11 +133,11 @@ substitute s e = act s (λ m k. None) e
 abbrev pub in_place_of : ℕ → Expression → ℕ → Expression
 in_place_of v t u = cond (nat_eq u v) t (free u)
 
--- An instance: a body for metavariables at so many terms, put at all places at once.
+-- The expression at an instance, which has bodies for some metavariables, put at all places at once. The free variables stay.
 abbrev pub instantiate : (ℕ → ℕ → Option Expression) → Expression → Expression
 instantiate i e = act free i e
 
--- each bound number is below k and the binders around it: closed, where k is 0
+-- each bound number is below k plus the number of binders around it: for k = 0, the expression is closed
 abbrev mutual
   pub ClosedAt : ℕ → Expression → Type 0
   ClosedAt k (bound i) = i < k
@@ -172,7 +177,7 @@ Without v e = MentionsOnly (λ u. u ≢ v) (λ m k. Unit {0}) e
 
 -- Opening and closing, for an expression below k domains that stay around it.
 
--- the closed term t in place of the bound variable that points past the k domains and all binders inside
+-- opening: the closed term t in place of the bound variable that points past the k domains and all binders inside
 unfoldable mutual
   pub open_at : ℕ → Expression → Expression → Expression
   open_at k t (bound i) = cond (nat_eq i k) t (bound i)
@@ -189,7 +194,7 @@ unfoldable mutual
   open_terms k t no_terms = no_terms
   open_terms k t (also e a) = also (open_at k t e) (open_terms k t a)
 
--- the bound variable that points past the k domains and all binders inside, in place of the free variable v
+-- closing: the bound variable that points past the k domains and all binders inside, in place of the free variable v
 unfoldable mutual
   pub close_at : ℕ → ℕ → Expression → Expression
   close_at k v (bound i) = bound i

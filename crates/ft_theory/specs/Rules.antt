@@ -10,13 +10,14 @@ look_up [] v = None
 look_up (p ∷ r) v = cond (nat_eq v p.0) (Some p.1) (look_up r v)
 
 -- A rule has premises, which are metavariables with their boundaries, and a conclusion, which is a goal without domains.
--- With an object goal it is the rule of the symbol that has its number; with an equation goal it is an equation rule.
--- A theory is a list of rules. The names of its rules stand beside it, in the same order; no derivation depends on them.
+-- With an object goal it is the rule of the symbol that has its number, so that each symbol has exactly one rule; with an
+-- equation goal it is an equation rule. A theory is a list of rules, and a rule's number is its place, counted from 0. The names
+-- of the rules stand beside the theory, in the same order; no derivation depends on them.
 pub record Rule : Type 0 where
   pub premises : List (ℕ × Statement)
   pub conclusion : Claim
 
--- the rule of a number
+-- the rule with a number
 abbrev pub rule_at : List Rule → ℕ → Option Rule
 rule_at [] r = None
 rule_at (R ∷ T) zero = Some R
@@ -40,7 +41,7 @@ FitsPremises (p ∷ ps) no_arguments = ⊥
 FitsPremises (p ∷ ps) (with_body n e a) = (n ≡ domain_count p.1) × IsObject p.1 × FitsPremises ps a
 FitsPremises (p ∷ ps) (dummy n a) = (n ≡ domain_count p.1) × IsEquation p.1 × FitsPremises ps a
 
--- the premises' boundaries at an instance, each filled with the argument in its place
+-- the premises' boundaries at an instance, each filled with the argument in its place: what the instance of a rule asks
 abbrev pub filled_premises : (ℕ → ℕ → Option Expression) → List (ℕ × Statement) → Arguments → List Statement
 filled_premises i [] a = []
 filled_premises i (p ∷ ps) no_arguments = []

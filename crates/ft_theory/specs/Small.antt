@@ -1,4 +1,5 @@
--- The depth and the size of an expression, and when it is small: what the program forms is small.
+-- The depth and the size of an expression, and when it is small: what the program forms is small. The limits are this
+-- project's own; what is derivable has none.
 use Rattle.std.specs.Prelude.{ℕ, suc, ◌+◌, ◌^◌, ◌<◌, ◌≤◌, max}
 use Rattle.ft_theory.specs.Expressions.{Expression, bound, free, symbol, meta, Arguments, no_arguments, with_body, dummy, Terms, no_terms, also}
 

@@ -60,7 +60,7 @@ ClosedStatement k x = AllOfStatement ClosedAt k x
 abbrev pub StatementMentionsOnly : (ℕ → Type 0) → (ℕ → ℕ → Type 0) → Statement → Type 0
 StatementMentionsOnly f d x = AllOfStatement (λ k. MentionsOnly f d) zero x
 
--- free variables and metavariables of the statement put by s and i
+-- the statement with g put for its free variables and i for its metavariables
 abbrev pub act_statement : (ℕ → Expression) → (ℕ → ℕ → Option Expression) → Statement → Statement
 act_statement g i x = map_statement (λ k. act g i) zero x
 
@@ -77,7 +77,7 @@ abbrev pub opened : Expression → Statement → Statement
 opened t (plain c) = plain c
 opened t (abstracted A x) = open_statement zero t x
 
--- the type of the first domain
+-- the type of the first domain (a dummy, where there is none)
 abbrev pub domain : Statement → Expression
 domain (plain c) = bound zero
 domain (abstracted A x) = A
@@ -87,12 +87,13 @@ abbrev pub domain_count : Statement → ℕ
 domain_count (plain c) = zero
 domain_count (abstracted A x) = suc (domain_count x)
 
--- the statement with the terms for its first domains' variables, in order, which stand no longer
+-- the statement with terms for the variables of its first domains, in order; these domains are gone
 abbrev pub at : Statement → Terms → Statement
 at x no_terms = x
 at x (also t a) = at (opened t x) a
 
--- the goal filled with a head: a thesis's claim. An equation has no head, and stands as it is.
+-- The goal filled with a head: `_ type` with A is `A type`, `_ : A` with t is `t : A`, and an equation has no head and becomes its
+-- claim. A claim has no place for a head and stays as it is.
 abbrev pub fill_goal : Claim → Expression → Claim
 fill_goal type_goal h = is_type h
 fill_goal (term_goal A) h = has_type h A
@@ -103,12 +104,12 @@ fill_goal (has_type t A) h = has_type t A
 fill_goal (equal_types A B) h = equal_types A B
 fill_goal (equal_terms s t A) h = equal_terms s t A
 
--- the boundary filled with a head, which stands under the boundary's domains
+-- the boundary filled with a head, which stands under the boundary's domains: a thesis
 abbrev pub fill : Statement → Expression → Statement
 fill (plain c) h = plain (fill_goal c h)
 fill (abstracted A x) h = abstracted A (fill x h)
 
--- the equation between two heads of an object goal, at its type where it has one
+-- the equation between two heads of an object goal, at its type where it has one. What is no object goal stays as it is.
 abbrev pub equate_goal : Claim → Expression → Expression → Claim
 equate_goal type_goal h k = equal_types h k
 equate_goal (term_goal A) h k = equal_terms h k A
@@ -156,7 +157,7 @@ abbrev pub IsEquation : Statement → Type 0
 IsEquation (plain c) = IsEquationGoal c
 IsEquation (abstracted A x) = IsEquation x
 
--- the goal of which a claim is the filling; a goal is its own
+-- the goal that a claim fills; a goal is its own
 abbrev pub boundary_of_claim : Claim → Claim
 boundary_of_claim (is_type A) = type_goal
 boundary_of_claim (has_type t A) = term_goal A

@@ -7,7 +7,8 @@ use Rattle.ft_theory.specs.Expressions.{Expression, bound, free, symbol, meta, A
 use Rattle.ft_theory.specs.Statements.{is_type, has_type, equal_types, equal_terms, type_goal, term_goal, type_equation_goal, term_equation_goal, Statement, plain, abstracted, StatementMentionsOnly, close_statement, domain_count, at, fill_goal, fill, equate_goal, equate, IsObjectGoal, IsEquationGoal, IsObject, IsEquation}
 use Rattle.ft_theory.specs.Rules.{look_up, Rule, rule_at, instance_of, FitsPremises, filled_premises, equated_premises, conclusion_at, term_typings, term_equations}
 
--- A sequent: a statement, with the boundaries of metavariables and the types of free variables that it may rest on.
+-- A sequent: a statement, with the boundaries of metavariables and the types of free variables that it may rest on. They are
+-- finite maps, in no order: nothing asks that a context is well formed, since the rows ask for each annotation where it is used.
 pub record Sequent : Type 0 where
   pub metavariables : List (ℕ × Statement)
   pub variables : List (ℕ × Expression)
@@ -31,65 +32,72 @@ abbrev pub Unmentioned : ℕ → List (ℕ × Expression) → Type 0
 Unmentioned v G = (u : ℕ) (B : Expression) → look_up G u ≡ Some B → Without v B
 
 -- Step T premises conclusion: a primitive step over the theory T. Where a row does not say otherwise, its premises and its
--- conclusion are over the same maps.
+-- conclusion are over the same maps. Nothing is said of closed expressions: that all that is derivable is closed, and mentions
+-- only what its sequent has, follows.
 pub data Step (T : List Rule) : List Sequent → Sequent → Type 0 where
-  -- a free variable has its type, which is a type
+  -- Variable: a free variable has the type that the sequent gives it, where that is a type.
   variable : {M : List (ℕ × Statement)} {G : List (ℕ × Expression)} (v : ℕ) (A : Expression) → look_up G v ≡ Some A
       → Step T (sequent M G (plain (is_type A)) ∷ []) (sequent M G (plain (has_type (free v) A)))
-  -- a metavariable at terms, one for each domain of its boundary, whose boundary is derivable
+  -- Metavariable, with a type or a term as its goal: at one term for each domain of its boundary, each of the domain's type with
+  -- the terms before it put in, it is what the goal with the terms put in asks. The boundary itself is derivable, and has no free
+  -- variables.
   metavariable : {M : List (ℕ × Statement)} {G : List (ℕ × Expression)} (m : ℕ) (b : Statement) (a : Terms) → look_up M m ≡ Some b → IsVariableFree b → IsObject b → count a ≡ domain_count b
       → Step T (sequent M G b ∷ sequents M G (term_typings b a)) (sequent M G (fill (at b a) (meta m a)))
-  -- an equation that a metavariable stands for, at terms
+  -- Metavariable, with an equation as its goal: the same gives the equation with the terms put in. Its head is a dummy, written `bound zero`.
   metavariable_equation : {M : List (ℕ × Statement)} {G : List (ℕ × Expression)} (m : ℕ) (b : Statement) (a : Terms) → look_up M m ≡ Some b → IsVariableFree b → IsEquation b → count a ≡ domain_count b
       → Step T (sequent M G b ∷ sequents M G (term_typings b a)) (sequent M G (fill (at b a) (bound zero)))
-  -- a metavariable at equal terms
+  -- Metavariable congruence: at equal terms a metavariable is equal to itself, at the goal with the left terms put in. Both sides
+  -- are premises.
   metavariable_congruence : {M : List (ℕ × Statement)} {G : List (ℕ × Expression)} (m : ℕ) (b : Statement) (a c : Terms) → look_up M m ≡ Some b → IsVariableFree b → IsObject b → count a ≡ domain_count b → count c ≡ domain_count b
       → Step T (sequent M G (fill (at b a) (meta m a)) ∷ sequent M G (fill (at b a) (meta m c)) ∷ sequents M G (term_equations b a c)) (sequent M G (equate (at b a) (meta m a) (meta m c)))
-  -- a statement abstracted over a variable that stands last: no other type mentions it
+  -- Abstraction: a statement over one more variable is bound by that variable's type as its first domain. The variable is new to
+  -- the sequent, and no type there mentions it.
   abstraction : {M : List (ℕ × Statement)} {G : List (ℕ × Expression)} (v : ℕ) (A : Expression) (x : Statement) → look_up G v ≡ None → Unmentioned v G
       → Step T (sequent M G (plain (is_type A)) ∷ sequent M ((v, A) ∷ G) x ∷ []) (sequent M G (abstracted A (close_statement v x)))
-  -- reflexivity
+  -- Reflexivity, of types.
   reflexive_type : {M : List (ℕ × Statement)} {G : List (ℕ × Expression)} (A : Expression)
       → Step T (sequent M G (plain (is_type A)) ∷ []) (sequent M G (plain (equal_types A A)))
-  -- reflexivity
+  -- Reflexivity, of terms.
   reflexive_term : {M : List (ℕ × Statement)} {G : List (ℕ × Expression)} (t A : Expression)
       → Step T (sequent M G (plain (has_type t A)) ∷ []) (sequent M G (plain (equal_terms t t A)))
-  -- symmetry
+  -- Symmetry, of types.
   symmetric_types : {M : List (ℕ × Statement)} {G : List (ℕ × Expression)} (A B : Expression)
       → Step T (sequent M G (plain (equal_types A B)) ∷ []) (sequent M G (plain (equal_types B A)))
-  -- symmetry
+  -- Symmetry, of terms at one type.
   symmetric_terms : {M : List (ℕ × Statement)} {G : List (ℕ × Expression)} (s t A : Expression)
       → Step T (sequent M G (plain (equal_terms s t A)) ∷ []) (sequent M G (plain (equal_terms t s A)))
-  -- transitivity
+  -- Transitivity, of types.
   transitive_types : {M : List (ℕ × Statement)} {G : List (ℕ × Expression)} (A B C : Expression)
       → Step T (sequent M G (plain (equal_types A B)) ∷ sequent M G (plain (equal_types B C)) ∷ []) (sequent M G (plain (equal_types A C)))
-  -- transitivity
+  -- Transitivity, of terms at one type.
   transitive_terms : {M : List (ℕ × Statement)} {G : List (ℕ × Expression)} (s t u A : Expression)
       → Step T (sequent M G (plain (equal_terms s t A)) ∷ sequent M G (plain (equal_terms t u A)) ∷ []) (sequent M G (plain (equal_terms s u A)))
-  -- conversion of a term to an equal type
+  -- Conversion: a term has each type that equals its type.
   convert_term : {M : List (ℕ × Statement)} {G : List (ℕ × Expression)} (t A B : Expression)
       → Step T (sequent M G (plain (has_type t A)) ∷ sequent M G (plain (equal_types A B)) ∷ []) (sequent M G (plain (has_type t B)))
-  -- conversion of an equation to an equal type
+  -- Conversion: an equation of terms holds at each type that equals its type.
   convert_equation : {M : List (ℕ × Statement)} {G : List (ℕ × Expression)} (s t A B : Expression)
       → Step T (sequent M G (plain (equal_terms s t A)) ∷ sequent M G (plain (equal_types A B)) ∷ []) (sequent M G (plain (equal_terms s t B)))
-  -- the boundary of a type
+  -- Boundaries: `_ type` is one.
   for_type : {M : List (ℕ × Statement)} {G : List (ℕ × Expression)} → Step T [] (sequent M G (plain type_goal))
-  -- the boundary of a term
+  -- Boundaries: `_ : A` is one for a type A.
   for_term : {M : List (ℕ × Statement)} {G : List (ℕ × Expression)} (A : Expression)
       → Step T (sequent M G (plain (is_type A)) ∷ []) (sequent M G (plain (term_goal A)))
-  -- the boundary of an equation of types
+  -- Boundaries: `A == B` is one for types A and B.
   for_types : {M : List (ℕ × Statement)} {G : List (ℕ × Expression)} (A B : Expression)
       → Step T (sequent M G (plain (is_type A)) ∷ sequent M G (plain (is_type B)) ∷ []) (sequent M G (plain (type_equation_goal A B)))
-  -- the boundary of an equation of terms
+  -- Boundaries: `s == t : A` is one for terms s and t of a type A.
   for_terms : {M : List (ℕ × Statement)} {G : List (ℕ × Expression)} (s t A : Expression)
       → Step T (sequent M G (plain (is_type A)) ∷ sequent M G (plain (has_type s A)) ∷ sequent M G (plain (has_type t A)) ∷ []) (sequent M G (plain (term_equation_goal s t A)))
-  -- an instance of a symbol rule
+  -- Rule instance, of a symbol rule: with each argument at its premise's boundary at the instance, and the conclusion's boundary
+  -- at the instance, the symbol at the arguments is what that boundary asks.
   symbol_rule : {M : List (ℕ × Statement)} {G : List (ℕ × Expression)} (r : ℕ) (R : Rule) (a : Arguments) → rule_at T r ≡ Some R → FitsPremises R.premises a → IsObjectGoal R.conclusion
       → Step T (sequent M G (plain (conclusion_at R a)) ∷ sequents M G (filled_premises (instance_of R.premises a) R.premises a)) (sequent M G (plain (fill_goal (conclusion_at R a) (symbol r a))))
-  -- an instance of an equation rule
+  -- Rule instance, of an equation rule: the same gives the equation. Its head is a dummy, written `bound zero`.
   equation_rule : {M : List (ℕ × Statement)} {G : List (ℕ × Expression)} (r : ℕ) (R : Rule) (a : Arguments) → rule_at T r ≡ Some R → FitsPremises R.premises a → IsEquationGoal R.conclusion
       → Step T (sequent M G (plain (conclusion_at R a)) ∷ sequents M G (filled_premises (instance_of R.premises a) R.premises a)) (sequent M G (plain (fill_goal (conclusion_at R a) (bound zero))))
-  -- a symbol at equal arguments
+  -- Congruence: a symbol at equal arguments is equal to itself, at the conclusion's boundary at the left ones. Both sides are
+  -- premises. For equation premises there is nothing to compare.
   congruence : {M : List (ℕ × Statement)} {G : List (ℕ × Expression)} (r : ℕ) (R : Rule) (a b : Arguments) → rule_at T r ≡ Some R → FitsPremises R.premises a → FitsPremises R.premises b → IsObjectGoal R.conclusion
       → Step T (sequent M G (plain (fill_goal (conclusion_at R a) (symbol r a))) ∷ sequent M G (plain (fill_goal (conclusion_at R a) (symbol r b))) ∷ sequents M G (equated_premises (instance_of R.premises a) R.premises a b)) (sequent M G (plain (equate_goal (conclusion_at R a) (symbol r a) (symbol r b))))
 

@@ -133,12 +133,12 @@ term_equation_boundary (plain (is_type A)) (plain (has_type s B)) (plain (has_ty
 term_equation_boundary x y z = None
 
 -- the instance that maps premises to arguments
-abbrev pub at_args : List (ℕ × Statement) → Arguments → Statement → Statement
-at_args ps a b = act_statement free (instance_of ps a) b
+abbrev pub at_arguments : List (ℕ × Statement) → Arguments → Statement → Statement
+at_arguments ps a b = act_statement free (instance_of ps a) b
 
 -- the theses are arguments for the premises
 abbrev pub are_arguments : List (ℕ × Statement) → List Statement → Bool
-are_arguments ps xs = fit_all (at_args ps (heads xs)) ps xs
+are_arguments ps xs = fit_all (at_arguments ps (heads xs)) ps xs
 
 -- the rule's conclusion at the arguments
 abbrev pub rule_instance : ℕ → Rule → List Statement → Option Statement
@@ -159,7 +159,7 @@ later_premises R xs = drop (length xs) R.premises
 -- the next premise's boundary, or the conclusion's where all premises are given
 abbrev pub next_boundary : Rule → List (ℕ × Statement) → Arguments → List (ℕ × Statement) → Statement
 next_boundary R ps a [] = plain (conclusion_at R a)
-next_boundary R ps a (q ∷ qs) = at_args ps a q.1
+next_boundary R ps a (q ∷ qs) = at_arguments ps a q.1
 
 -- the boundary after the arguments given
 abbrev pub boundary_instance : Rule → List Statement → Option Statement
@@ -173,7 +173,7 @@ congruence_of r R xs es =
 -- the head moved from one instance of the next premise's boundary to the other
 abbrev pub moved : List (ℕ × Statement) → Arguments → Arguments → List (ℕ × Statement) → Statement → Option Statement
 moved ps a c [] y = None
-moved ps a c (q ∷ qs) y = when (fits y (at_args ps a q.1)) (fill (at_args ps c q.1) (head y))
+moved ps a c (q ∷ qs) y = when (fits y (at_arguments ps a q.1)) (fill (at_arguments ps c q.1) (head y))
 
 -- from the boundary at the arguments to that at the right sides
 abbrev pub premise_conversion : Rule → List Statement → List Statement → Statement → Option Statement
@@ -257,7 +257,7 @@ on_earlier before (d ∷ ds) = is_within d.1.set before && on_earlier (before ++
 
 -- the statement where the metavariables have the theses as arguments
 abbrev pub instantiated : List (ℕ × Declared) → Assertion → List Statement → Option Statement
-instantiated ms p xs = when (differ (atoms ms) && on_earlier [] ms && is_within p.set (atoms ms) && are_arguments (premises_of ms) xs) (at_args (premises_of ms) (heads xs) p.statement)
+instantiated ms p xs = when (differ (atoms ms) && on_earlier [] ms && is_within p.set (atoms ms) && are_arguments (premises_of ms) xs) (at_arguments (premises_of ms) (heads xs) p.statement)
 
 -- what the step concludes; None where a condition fails
 abbrev pub conclusion : Store → Resolved → Option Statement

@@ -44,10 +44,10 @@ with_boundary m None M = M
 with_boundary m (Some d) M = (m, d.boundary) ∷ M
 
 -- the metavariables of the set, with their boundaries
-abbrev pub mets_in : Store → List Atom → List (ℕ × Statement)
-mets_in W [] = []
-mets_in W (met m ∷ S) = with_boundary m (nth W.metavariables m) (mets_in W S)
-mets_in W (var v ∷ S) = mets_in W S
+abbrev pub boundaries_in : Store → List Atom → List (ℕ × Statement)
+boundaries_in W [] = []
+boundaries_in W (met m ∷ S) = with_boundary m (nth W.metavariables m) (boundaries_in W S)
+boundaries_in W (var v ∷ S) = boundaries_in W S
 
 -- the annotations of the variables in a set
 abbrev pub with_annotation : ℕ → Option Annotation → List (ℕ × Expression) → List (ℕ × Expression)
@@ -55,18 +55,18 @@ with_annotation v None G = G
 with_annotation v (Some d) G = (v, d.annotation) ∷ G
 
 -- the variables of the set, with their types
-abbrev pub vars_in : Store → List Atom → List (ℕ × Expression)
-vars_in W [] = []
-vars_in W (met m ∷ S) = vars_in W S
-vars_in W (var v ∷ S) = with_annotation v (look_up W.variables v) (vars_in W S)
+abbrev pub annotations_in : Store → List Atom → List (ℕ × Expression)
+annotations_in W [] = []
+annotations_in W (met m ∷ S) = annotations_in W S
+annotations_in W (var v ∷ S) = with_annotation v (look_up W.variables v) (annotations_in W S)
 
 -- the sequent of a statement and its set
 abbrev pub sequent_in : Store → Statement → List Atom → Sequent
-sequent_in W x S = sequent (mets_in W S) (vars_in W S) x
+sequent_in W x S = sequent (boundaries_in W S) (annotations_in W S) x
 
 -- the sequent is derivable by primitive steps from the rules so far
 abbrev pub Derivable : Store → Statement → List Atom → Type 0
-Derivable W x S = Prim W.rules (mets_in W S) (vars_in W S) x
+Derivable W x S = Prim W.rules (boundaries_in W S) (annotations_in W S) x
 
 -- before any item
 abbrev pub empty_store : Store
@@ -198,51 +198,51 @@ abbrev pub Resolved : Type 0
 Resolved = Justification Assertion (ℕ × Annotation) (ℕ × Declared) (ℕ × Rule)
 
 -- f of what is there
-abbrev pub with_1 : {A B : Type 0} → (A → B) → Option A → Option B
-with_1 f o = option_map f o
+abbrev pub with_one : {A B : Type 0} → (A → B) → Option A → Option B
+with_one f o = option_map f o
 
 -- f of both where both are there
-abbrev pub with_2 : {A B C : Type 0} → (A → B → C) → Option A → Option B → Option C
-with_2 f o p = option_and_then (λ a. with_1 (f a) p) o
+abbrev pub with_two : {A B C : Type 0} → (A → B → C) → Option A → Option B → Option C
+with_two f o p = option_and_then (λ a. with_one (f a) p) o
 
 -- f of the three
-abbrev pub with_3 : {A B C D : Type 0} → (A → B → C → D) → Option A → Option B → Option C → Option D
-with_3 f o p q = option_and_then (λ a. with_2 (f a) p q) o
+abbrev pub with_three : {A B C D : Type 0} → (A → B → C → D) → Option A → Option B → Option C → Option D
+with_three f o p q = option_and_then (λ a. with_two (f a) p q) o
 
 -- f of the four
-abbrev pub with_4 : {A B C D E : Type 0} → (A → B → C → D → E) → Option A → Option B → Option C → Option D → Option E
-with_4 f o p q r = option_and_then (λ a. with_3 (f a) p q r) o
+abbrev pub with_four : {A B C D E : Type 0} → (A → B → C → D → E) → Option A → Option B → Option C → Option D → Option E
+with_four f o p q r = option_and_then (λ a. with_three (f a) p q r) o
 
 -- the step with its entries, variables, metavariables and rules; None where one is not there
 abbrev pub resolve : Store → Stated → Option Resolved
-resolve W (by_var v) = with_1 by_var (variable_named W v)
-resolve W (by_generic m) = with_1 by_generic (metavariable_named W m)
-resolve W (by_meta m ps) = with_2 by_meta (metavariable_named W m) (each (entry_named W) ps)
-resolve W (by_metacong m es) = with_2 by_metacong (metavariable_named W m) (each (entry_named W) es)
-resolve W (by_abs v p) = with_2 by_abs (variable_named W v) (entry_named W p)
-resolve W (by_subst p t) = with_2 by_subst (entry_named W p) (entry_named W t)
-resolve W (by_substeq p e) = with_2 by_substeq (entry_named W p) (entry_named W e)
-resolve W (by_refl p) = with_1 by_refl (entry_named W p)
-resolve W (by_sym p) = with_1 by_sym (entry_named W p)
-resolve W (by_trans p q) = with_2 by_trans (entry_named W p) (entry_named W q)
-resolve W (by_conv p e) = with_2 by_conv (entry_named W p) (entry_named W e)
-resolve W (by_conveq p e) = with_2 by_conveq (entry_named W p) (entry_named W e)
-resolve W (by_left p) = with_1 by_left (entry_named W p)
-resolve W (by_right p) = with_1 by_right (entry_named W p)
-resolve W (by_typeof p) = with_1 by_typeof (entry_named W p)
-resolve W (by_domain p) = with_1 by_domain (entry_named W p)
-resolve W (by_boundary p) = with_1 by_boundary (entry_named W p)
-resolve W (by_widen p q) = with_2 by_widen (entry_named W p) (entry_named W q)
+resolve W (by_var v) = with_one by_var (variable_named W v)
+resolve W (by_generic m) = with_one by_generic (metavariable_named W m)
+resolve W (by_meta m ps) = with_two by_meta (metavariable_named W m) (each (entry_named W) ps)
+resolve W (by_metacong m es) = with_two by_metacong (metavariable_named W m) (each (entry_named W) es)
+resolve W (by_abs v p) = with_two by_abs (variable_named W v) (entry_named W p)
+resolve W (by_subst p t) = with_two by_subst (entry_named W p) (entry_named W t)
+resolve W (by_substeq p e) = with_two by_substeq (entry_named W p) (entry_named W e)
+resolve W (by_refl p) = with_one by_refl (entry_named W p)
+resolve W (by_sym p) = with_one by_sym (entry_named W p)
+resolve W (by_trans p q) = with_two by_trans (entry_named W p) (entry_named W q)
+resolve W (by_conv p e) = with_two by_conv (entry_named W p) (entry_named W e)
+resolve W (by_conveq p e) = with_two by_conveq (entry_named W p) (entry_named W e)
+resolve W (by_left p) = with_one by_left (entry_named W p)
+resolve W (by_right p) = with_one by_right (entry_named W p)
+resolve W (by_typeof p) = with_one by_typeof (entry_named W p)
+resolve W (by_domain p) = with_one by_domain (entry_named W p)
+resolve W (by_boundary p) = with_one by_boundary (entry_named W p)
+resolve W (by_widen p q) = with_two by_widen (entry_named W p) (entry_named W q)
 resolve W by_btype = Some by_btype
-resolve W (by_bterm p) = with_1 by_bterm (entry_named W p)
-resolve W (by_beqty p q) = with_2 by_beqty (entry_named W p) (entry_named W q)
-resolve W (by_beqtm p s t) = with_3 by_beqtm (entry_named W p) (entry_named W s) (entry_named W t)
-resolve W (by_rule r ps) = with_2 by_rule (rule_of W r) (each (entry_named W) ps)
-resolve W (by_rulewith r b ps) = with_3 by_rulewith (rule_of W r) (entry_named W b) (each (entry_named W) ps)
-resolve W (by_inst r ps) = with_2 by_inst (rule_of W r) (each (entry_named W) ps)
-resolve W (by_cong r ps es) = with_3 by_cong (rule_of W r) (each (entry_named W) ps) (each (entry_named W) es)
-resolve W (by_convprem r ps es q) = with_4 by_convprem (rule_of W r) (each (entry_named W) ps) (each (entry_named W) es) (entry_named W q)
-resolve W (by_convback r ps es q) = with_4 by_convback (rule_of W r) (each (entry_named W) ps) (each (entry_named W) es) (entry_named W q)
-resolve W (by_arg i p) = with_1 (by_arg i) (entry_named W p)
-resolve W (by_natural p) = with_1 by_natural (entry_named W p)
-resolve W (by_metainst p ms qs) = with_3 by_metainst (entry_named W p) (each (metavariable_named W) ms) (each (entry_named W) qs)
+resolve W (by_bterm p) = with_one by_bterm (entry_named W p)
+resolve W (by_beqty p q) = with_two by_beqty (entry_named W p) (entry_named W q)
+resolve W (by_beqtm p s t) = with_three by_beqtm (entry_named W p) (entry_named W s) (entry_named W t)
+resolve W (by_rule r ps) = with_two by_rule (rule_of W r) (each (entry_named W) ps)
+resolve W (by_rulewith r b ps) = with_three by_rulewith (rule_of W r) (entry_named W b) (each (entry_named W) ps)
+resolve W (by_inst r ps) = with_two by_inst (rule_of W r) (each (entry_named W) ps)
+resolve W (by_cong r ps es) = with_three by_cong (rule_of W r) (each (entry_named W) ps) (each (entry_named W) es)
+resolve W (by_convprem r ps es q) = with_four by_convprem (rule_of W r) (each (entry_named W) ps) (each (entry_named W) es) (entry_named W q)
+resolve W (by_convback r ps es q) = with_four by_convback (rule_of W r) (each (entry_named W) ps) (each (entry_named W) es) (entry_named W q)
+resolve W (by_arg i p) = with_one (by_arg i) (entry_named W p)
+resolve W (by_natural p) = with_one by_natural (entry_named W p)
+resolve W (by_metainst p ms qs) = with_three by_metainst (entry_named W p) (each (metavariable_named W) ms) (each (entry_named W) qs)

@@ -21,7 +21,7 @@ use Rattle.ft_items.specs.Good.{Reject, Kind, Premise, Conclusion, Set, Named, N
 use Rattle.ft_items.proofs.Lists.{nth_before}
 use Rattle.ft_sound.proofs.KindRows.{conclusion_kind}
 use Rattle.ft_items.proofs.SetLemmas.{both, both_true, not_true, wrong, same_set_true, same_set_self, no_variable, within_true, has_false}
-use Rattle.ft_sound.proofs.EqualLemmas.{stmt_true, stmt_self, boundary_kind}
+use Rattle.ft_sound.proofs.EqualLemmas.{statement_true, statement_self, boundary_kind}
 use Rattle.ft_sound.proofs.Valid.{Later, Declares, Valid, WellFormed, later_valid, scoped_rules}
 use Rattle.ft_sound.proofs.MetaRows.{AllDeclared, over_premises}
 use Rattle.ft_sound.proofs.Steps.{resolved, sound_step, all_declared}
@@ -119,7 +119,7 @@ as_given W e h = go (resolve W e.step) refl h
     result s q kind (Some x) c h =
         let k : (equal_statements x e.statement ≡ true) × (unless (same_set (result_set s) e.set) Set None ≡ None) = unless_none (equal_statements x e.statement) Conclusion (unless (same_set (result_set s) e.set) Set None) h in
         let l : (same_set (result_set s) e.set ≡ true) × (None ≡ None) = unless_none (same_set (result_set s) e.set) Set None k.1 in
-        (s, q, kind, c ∙ ap Some (stmt_true x e.statement k.0), same_set_true (result_set s) e.set l.0)
+        (s, q, kind, c ∙ ap Some (statement_true x e.statement k.0), same_set_true (result_set s) e.set l.0)
 
     go : (o : Option Resolved) → resolve W e.step ≡ o → reason_of_entry W o e ≡ None → StatesWhatItsStepGives W e
     go None q h = nothing (sym h)
@@ -265,9 +265,9 @@ finitary_last : (D : List Rule → List (ℕ × Statement) → Statement → Typ
 finitary_last D T [] R f h = (subst (λ z. RuleHolds (D z) R) (append-nil T) h, tt)
 finitary_last D T (S ∷ Rs) R f h = (f.0, finitary_last D (T ++ (S ∷ [])) Rs R f.1 (subst (λ z. RuleHolds (D z) R) (sym (append_assoc T (S ∷ []) Rs)) h))
 
-plain_core : (x : Statement) → is_plain x ≡ true → x ≡ plain (claim_in x)
-plain_core (plain c) h = refl
-plain_core (abstracted A x) h = wrong h
+plain_claim : (x : Statement) → is_plain x ≡ true → x ≡ plain (claim_in x)
+plain_claim (plain c) h = refl
+plain_claim (abstracted A x) h = wrong h
 
 add_a_rule : (W : Store) → WellFormed W → (n : Name) (ms : List ℕ) (p : ℕ) → reason_in W (rule n ms p) ≡ None → WellFormed (add W (rule n ms p))
 add_a_rule W F n ms p h = go (each (metavariable_named W) ms) refl (entry_named W p) refl k.1
@@ -308,7 +308,7 @@ add_a_rule W F n ms p h = go (each (metavariable_named W) ms) refl (entry_named 
         dm = all_declared W F ms ds i
 
         e : a.statement ≡ plain (claim_in a.statement)
-        e = plain_core a.statement t1.1
+        e = plain_claim a.statement t1.1
 
         holds : (n : ℕ) → RuleHolds (λ M x. DerUpTo n W.rules M [] x) R
         holds n = (
@@ -403,7 +403,7 @@ entry_reason W F e h =
     ∙ none_of (of_kind g.0 && same_kind (concludes_thesis g.0) (is_thesis e.statement)) Kind (reason_of_result (conclusion W g.0) (result_set g.0) e)
     (both_true (of_kind g.0) (same_kind (concludes_thesis g.0) (is_thesis e.statement)) g.2 (kinds_agree (concludes_thesis g.0) (is_thesis e.statement) (conclusion_kind W F g.0 (resolved W F e.step g.0 g.1) g.2 e.statement g.3)))
     (ap (λ o. reason_of_result o (result_set g.0) e) g.3
-    ∙ none_of (equal_statements e.statement e.statement) Conclusion (unless (same_set (result_set g.0) e.set) Set None) (stmt_self e.statement)
+    ∙ none_of (equal_statements e.statement e.statement) Conclusion (unless (same_set (result_set g.0) e.set) Set None) (statement_self e.statement)
     (none_of (same_set (result_set g.0) e.set) Set None (subst (λ S. same_set S e.set ≡ true) (sym g.4) (same_set_self e.set)) refl))
 
 pub no_reason : (W : Store) → WellFormed W → (i : Item) → AllowedIn W i → reason_in W i ≡ None

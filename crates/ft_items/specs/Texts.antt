@@ -1,7 +1,7 @@
 -- The text of a list of items: a derivation file, version 1.
 -- A text is a list of characters, by their numbers in Unicode; a file has their UTF-8. Each line ends with a line feed. The first
 -- line is `andromeda derivation 1`, then comes a line for each item, then `end`, then nothing.
-use Rattle.std.specs.Prelude.{ℕ, zero, ◌^◌, ◌<◌, ◌≡◌, cond, List, [], ◌∷◌, ◌++◌, map, codes}
+use Rattle.std.specs.Prelude.{ℕ, zero, ◌^◌, ◌<◌, ◌≡◌, Bool, true, cond, List, [], ◌∷◌, ◌++◌, map, codes}
 use Rattle.std.specs.List.{join_by}
 use Rattle.std.specs.Fmt.{decimal}
 use Rattle.std.specs.Str.{encode_utf8_all}
@@ -198,19 +198,20 @@ pub record EntryFits (e : Entry) : Type 0 where
   pub version : IsOfVersion1 e.step
   pub step : PartsFit (written e.step).1
 
--- an item can be written where its numbers fit, its name is one, and its entry can be written; IsName tells the names
-abbrev pub ItemFits : (Name → Type 0) → Item → Type 0
-ItemFits IsName (variable v n p) = NumberFits v × IsName n × NumberFits p
-ItemFits IsName (metavariable n p) = IsName n × NumberFits p
-ItemFits IsName (rule n ms p) = IsName n × EachNumberFits ms × NumberFits p
-ItemFits IsName (entry e) = EntryFits e
-ItemFits IsName (shown p) = NumberFits p
+-- an item can be written where its numbers fit, its name is one by the test, and its entry can be written
+abbrev pub ItemFits : (Name → Bool) → Item → Type 0
+ItemFits is_name (variable v n p) = NumberFits v × (is_name n ≡ true) × NumberFits p
+ItemFits is_name (metavariable n p) = (is_name n ≡ true) × NumberFits p
+ItemFits is_name (rule n ms p) = (is_name n ≡ true) × EachNumberFits ms × NumberFits p
+ItemFits is_name (entry e) = EntryFits e
+ItemFits is_name (shown p) = NumberFits p
 
 -- each item of the list can be written
-abbrev pub ItemsFit : (Name → Type 0) → List Item → Type 0
-ItemsFit IsName [] = Unit {0}
-ItemsFit IsName (i ∷ items) = ItemFits IsName i × ItemsFit IsName items
+abbrev pub ItemsFit : (Name → Bool) → List Item → Type 0
+ItemsFit is_name [] = Unit {0}
+ItemsFit is_name (i ∷ items) = ItemFits is_name i × ItemsFit is_name items
 
--- The bytes are the text of the list of items: each item can be written, and the bytes are the UTF-8 of the lines.
-abbrev pub IsTextOf : (Name → Type 0) → List ℕ → List Item → Type 0
-IsTextOf IsName bytes items = ItemsFit IsName items × (bytes ≡ encode_utf8_all (text_of items))
+-- The bytes are the text of the list of items, where is_name tells the names: each item can be written, and the bytes are the
+-- UTF-8 of the lines.
+abbrev pub IsTextOf : (Name → Bool) → List ℕ → List Item → Type 0
+IsTextOf is_name bytes items = ItemsFit is_name items × (bytes ≡ encode_utf8_all (text_of items))

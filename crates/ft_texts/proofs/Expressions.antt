@@ -1,11 +1,11 @@
 -- The text of an expression tells the expression, and where it ends.
-use Rattle.std.proofs.Common.{◌≡◌, ℕ, ◌<◌, ◌^◌, List, [], ◌∷◌, ◌++◌, refl, sym, ap, ◌∙◌, append_assoc, arith}
+use Rattle.std.proofs.Common.{◌≡◌, ℕ, ◌<◌, List, [], ◌∷◌, ◌++◌, refl, sym, ap, ◌∙◌, append_assoc, arith}
 use Rattle.std.specs.Prelude.{codes}
 use Rattle.std.specs.List.{flat_map}
 use Rattle.std.specs.Fmt.{decimal}
 use Rattle.ft_theory.specs.Expressions.{Expression, bound, free, symbol, meta, Arguments, no_arguments, with_body, dummy, Terms, no_terms, also}
 use Rattle.ft_items.specs.Texts.{joined, expression_text, argument_texts, term_texts, NumberFits, ItsNumbersFit, ArgumentNumbersFit, TermNumbersFit}
-use Rattle.ft_texts.proofs.Pieces.{Begins, IsNoDigit, head_same, tail_same, decimal_same, decimal_begins, wrapped, heads_apart, after_first}
+use Rattle.ft_texts.proofs.Pieces.{Begins, IsNoDigit, tail_same, decimal_same, decimal_begins, wrapped, heads_apart, after_first}
 
 -- the texts, each after a comma
 abbrev pub further : List (List ℕ) → List ℕ

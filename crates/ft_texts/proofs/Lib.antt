@@ -1,2 +1,5 @@
 mod Pieces
 mod Expressions
+mod Statements
+mod Steps
+mod Lines

@@ -1,2 +1,19 @@
 // The text of an item list: each list has at most one, and each text is of at most one list.
 #![tactic(auto)]
+
+ghost use Rattle.ft_texts.specs.Laws.{AtMostOneText, AtMostOneList, HasText};
+
+/// A list of items has at most one text.
+pub fn at_most_one_text()
+    ensures law { AtMostOneText }
+{}
+
+/// A text is of at most one list of items, so what was written is read back as the same items.
+pub fn at_most_one_list()
+    ensures law { AtMostOneList }
+{}
+
+/// A list of items has a text, where its expressions are small, its numbers fit and its sets are ascending.
+pub fn has_text()
+    ensures law { HasText }
+{}

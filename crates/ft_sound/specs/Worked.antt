@@ -1,4 +1,4 @@
--- Two worked lists of items: a derivation file of two rules, and S(S(O)) : Nat over the natural numbers.
+-- What holds of two worked lists of items: a derivation file of two rules, and S(S(O)) : Nat over the natural numbers.
 use Rattle.std.specs.Prelude.{ℕ, ◌≡◌, List, [], ◌∷◌, codes}
 use Rattle.ft_theory.specs.Expressions.{Expression, symbol, no_arguments, with_body}
 use Rattle.ft_theory.specs.Statements.{is_type, has_type, type_goal, term_goal, Statement, plain}
@@ -7,41 +7,13 @@ use Rattle.ft_theory.specs.Steps.{Prim}
 use Rattle.ft_items.specs.Sets.{Atom, var}
 use Rattle.ft_items.specs.Item.{by_btype, by_bterm, by_rule, by_rulewith, Stated, Item, metavariable, rule, entry, shown}
 use Rattle.ft_items.specs.Good.{Good, Set, Verdict, Accepted, Rejected, verdict}
-
--- the entry of a statement with its set and its step
-abbrev pub states : Statement → List Atom → Stated → Item
-states x S s = entry (record { statement = x; set = S; step = s })
+use Rattle.ft_items.specs.Worked.{states, Nat, O, S, zero_file}
 
 -- accepted with so many rules, entries and shown marks, and this level
 abbrev pub accepted : ℕ → ℕ → ℕ → ℕ → Verdict
 accepted r e s l = Accepted (record { rules = r; entries = e; shown = s; level = l })
 
--- The symbols of the natural numbers: rules 0, 1 and 2.
-
--- the type Nat
-abbrev pub Nat : Expression
-Nat = symbol 0 no_arguments
-
--- the term O
-abbrev pub O : Expression
-O = symbol 1 no_arguments
-
--- the term S(e)
-abbrev pub S : Expression → Expression
-S e = symbol 2 (with_body 0 e no_arguments)
-
--- The rules `Nat type` and `O : Nat`, and the mark that shows `O : Nat`. The entry of `O : Nat` states this set.
-abbrev pub zero_file : List Atom → List Item
-zero_file set = states (plain type_goal) [] by_btype
-    ∷ rule (codes "Nat") [] 0
-    ∷ states (plain (is_type Nat)) [] (by_rule 0 [])
-    ∷ states (plain (term_goal Nat)) [] (by_bterm 1)
-    ∷ rule (codes "O") [] 2
-    ∷ states (plain (has_type O Nat)) set (by_rulewith 1 2 [])
-    ∷ shown 3
-    ∷ []
-
--- it is good, and accepted with these counts
+-- the list of two rules is good, and accepted with these counts
 abbrev pub ZeroFileIsGood : Type 0
 ZeroFileIsGood = Good (zero_file []) × (verdict (zero_file []) ≡ accepted 2 4 1 1)
 

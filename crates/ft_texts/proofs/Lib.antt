@@ -3,3 +3,4 @@ mod Expressions
 mod Statements
 mod Steps
 mod Lines
+mod Worked

@@ -1,6 +1,7 @@
 -- What holds of the texts of item lists.
 use Rattle.std.specs.Prelude.{ℕ, ◌<◌, ◌≡◌, Bool, true, List, [], ◌∷◌}
 use Rattle.ft_items.specs.Item.{Name, Item}
+use Rattle.ft_items.specs.Worked.{zero_file, zero_text}
 use Rattle.ft_items.specs.Texts.{ItemsFit, IsTextOf}
 
 -- each character stands after the space in Unicode, so that none is a space or a line feed
@@ -21,3 +22,7 @@ AtMostOneList = (is_name : Name → Bool) → ((n : Name) → is_name n ≡ true
 -- its steps are of version 1.
 abbrev pub HasText : Type 0
 HasText = (is_name : Name → Bool) (items : List Item) → ItemsFit is_name items → (bytes : List ℕ) × IsTextOf is_name bytes items
+
+-- The worked list of two rules has the worked text.
+abbrev pub WorkedText : Type 0
+WorkedText = IsTextOf (λ n. true) zero_text (zero_file [])

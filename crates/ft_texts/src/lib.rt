@@ -1,7 +1,7 @@
 // The text of an item list: each list has at most one, and each text is of at most one list.
 #![tactic(auto)]
 
-ghost use Rattle.ft_texts.specs.Laws.{AtMostOneText, AtMostOneList, HasText};
+ghost use Rattle.ft_texts.specs.Laws.{AtMostOneText, AtMostOneList, HasText, WorkedText};
 
 /// A list of items has at most one text.
 pub fn at_most_one_text()
@@ -16,4 +16,9 @@ pub fn at_most_one_list()
 /// A list of items has a text, where its expressions are small, its numbers fit and its sets are ascending.
 pub fn has_text()
     ensures law { HasText }
+{}
+
+/// The text of a worked list.
+pub fn worked_text()
+    ensures law { WorkedText }
 {}

@@ -6,7 +6,7 @@ use Rattle.ft_theory.specs.Statements.{has_type, plain}
 use Rattle.ft_items.specs.Sets.{var}
 use Rattle.ft_items.specs.Item.{by_rule, shown}
 use Rattle.ft_items.specs.Good.{Good, Set, Accepted, Rejected, Counts, counts, verdict}
-use Rattle.ft_items.specs.Worked.{states, Nat, O, S, zero_file}
+use Rattle.ft_items.specs.Worked.{Nat, O, S, zero_file}
 use Rattle.ft_sound.specs.Worked.{accepted, ZeroFileIsGood, OtherSetIsNotGood, two_file, TwoIsNatural}
 use Rattle.ft_sound.proofs.Theorems.{entries_derivable, accepted_are_good, good_are_accepted}
 

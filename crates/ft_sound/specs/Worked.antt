@@ -1,11 +1,10 @@
 -- What holds of two worked lists of items: a derivation file of two rules, and S(S(O)) : Nat over the natural numbers.
 use Rattle.std.specs.Prelude.{ℕ, ◌≡◌, List, [], ◌∷◌, codes}
-use Rattle.ft_theory.specs.Expressions.{Expression, symbol, no_arguments, with_body}
-use Rattle.ft_theory.specs.Statements.{is_type, has_type, type_goal, term_goal, Statement, plain}
+use Rattle.ft_theory.specs.Statements.{is_type, has_type, type_goal, term_goal, plain}
 use Rattle.ft_theory.specs.Rules.{Rule}
 use Rattle.ft_theory.specs.Steps.{Prim}
-use Rattle.ft_items.specs.Sets.{Atom, var}
-use Rattle.ft_items.specs.Item.{by_btype, by_bterm, by_rule, by_rulewith, Stated, Item, metavariable, rule, entry, shown}
+use Rattle.ft_items.specs.Sets.{var}
+use Rattle.ft_items.specs.Item.{by_btype, by_bterm, by_rule, Item, metavariable, rule, shown}
 use Rattle.ft_items.specs.Good.{Good, Set, Verdict, Accepted, Rejected, verdict}
 use Rattle.ft_items.specs.Worked.{states, Nat, O, S, zero_file}
 

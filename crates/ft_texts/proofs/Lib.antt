@@ -4,3 +4,5 @@ mod Statements
 mod Steps
 mod Lines
 mod Worked
+mod Feeds
+mod Faults

@@ -30,7 +30,7 @@ line_letter (entry e) = entry_mark (is_thesis e.statement)
 line_letter (shown p) = 87
 
 -- the texts of a rule's metavariables and of its conclusion
-abbrev rule_texts : List ℕ → ℕ → List (List ℕ)
+abbrev pub rule_texts : List ℕ → ℕ → List (List ℕ)
 rule_texts ms p = map decimal ms ++ (codes ";" ∷ decimal p ∷ [])
 
 -- what stands after the letter
@@ -69,7 +69,7 @@ rule_same (m ∷ ms) (n ∷ ns) p q a b c d e =
     let i : (ms ≡ ns) × (p ≡ q) = rule_same ms ns p q a.1 b.1 c d (other_texts (decimal m) (decimal n) (rule_texts ms p) (rule_texts ns q) e) in
     (ap₂ (λ z zs. z ∷ zs) (number_same m n a.0 b.0 (first_text (decimal m) (decimal n) (rule_texts ms p) (rule_texts ns q) e)) i.0, i.1)
 
-rule_visible : (ms : List ℕ) (p : ℕ) → EachNumberFits ms → NumberFits p → AllVisible (rule_texts ms p)
+pub rule_visible : (ms : List ℕ) (p : ℕ) → EachNumberFits ms → NumberFits p → AllVisible (rule_texts ms p)
 rule_visible [] p a c = ((omega arith, tt), (decimal_visible p c, tt))
 rule_visible (m ∷ ms) p a c = (decimal_visible m a.0, rule_visible ms p a.1 c)
 
@@ -183,7 +183,7 @@ letter_low (entry e) = go (is_thesis e.statement)
     go false = omega arith
 letter_low (shown p) = omega arith
 
-no_end : {A : Type 0} (i : Item) (r s : List ℕ) → 101 ∷ s ≡ line_text i ++ r → A
+pub no_end : {A : Type 0} (i : Item) (r s : List ℕ) → 101 ∷ s ≡ line_text i ++ r → A
 no_end i r s q = heads_apart {c = 101} {d = line_letter i} {cs = s} {ds = line_rest i ++ r} (λ e. omega (arith, e, letter_low i)) (q ∙ ap (λ z. z ++ r) (line_parts i))
 
 -- the lines of two lists

@@ -1,7 +1,7 @@
 // The text of an item list: each list has at most one, and each text is of at most one list.
 #![tactic(auto)]
 
-ghost use Rattle.ft_texts.specs.Laws.{AtMostOneText, AtMostOneList, HasText, WorkedText};
+ghost use Rattle.ft_texts.specs.Laws.{AtMostOneText, AtMostOneList, HasText, WorkedText, WorkedLines, AtMostOneFault, TextHasNoFault, WorkedFaults};
 
 /// A list of items has at most one text.
 pub fn at_most_one_text()
@@ -18,7 +18,23 @@ pub fn has_text()
     ensures law { HasText }
 {}
 
-/// The text of a worked list.
+/// The text of a worked list, and worked lines of each kind.
 pub fn worked_text()
     ensures law { WorkedText }
+    ensures lines { WorkedLines }
+{}
+
+/// A file has at most one fault.
+pub fn at_most_one_fault()
+    ensures law { AtMostOneFault }
+{}
+
+/// The text of a list of items has no fault.
+pub fn text_has_no_fault()
+    ensures law { TextHasNoFault }
+{}
+
+/// The faults of four worked files.
+pub fn worked_faults()
+    ensures law { WorkedFaults }
 {}

@@ -1,31 +1,13 @@
 -- The fault of a file that is no derivation file of version 1: another version, or the first line that is not as it should be.
-use Rattle.std.specs.Prelude.{ℕ, suc, cond, nat_eq, ◌≡◌, ◌≢◌, ◌⊎◌, Bool, List, [], ◌∷◌, ◌++◌, codes}
+use Rattle.std.specs.Prelude.{ℕ, suc, ◌≡◌, ◌≢◌, ◌⊎◌, Bool, List, [], ◌∷◌, ◌++◌, codes}
 use Rattle.std.specs.Fmt.{decimal}
-use Rattle.std.specs.Str.{encode_utf8_all}
 use Rattle.ft_items.specs.Item.{Name, Item}
-use Rattle.ft_items.specs.Texts.{NumberFits, ItemFits, line_text}
+use Rattle.ft_items.specs.Texts.{NumberFits}
+use Rattle.ft_items.specs.Lines.{lines_in, first_line, last_line, IsLineOf}
 
--- the lines with a byte more at the start of the first one
-abbrev pub onto_first : ℕ → List (List ℕ) → List (List ℕ)
-onto_first b [] = (b ∷ []) ∷ []
-onto_first b (l ∷ ls) = (b ∷ l) ∷ ls
-
--- The lines of a file without their line feeds. The last of them is what stands after the last line feed; it is empty where the
--- file ends with one.
-abbrev pub lines_in : List ℕ → List (List ℕ)
-lines_in [] = [] ∷ []
-lines_in (b ∷ bs) = cond (nat_eq b 10) ([] ∷ lines_in bs) (onto_first b (lines_in bs))
-
--- the line, in bytes, is that of an item
+-- the line is that of some item
 abbrev pub IsItemLine : (Name → Bool) → List ℕ → Type 0
-IsItemLine is_name l = (i : Item) × ItemFits is_name i × (l ≡ encode_utf8_all (line_text i))
-
--- the first line and the last one
-abbrev pub first_line : List ℕ
-first_line = codes "andromeda derivation 1"
-
-abbrev pub last_line : List ℕ
-last_line = codes "end"
+IsItemLine is_name l = (i : Item) × IsLineOf is_name l i
 
 -- the first line of another version
 abbrev pub IsOtherVersion : List ℕ → Type 0

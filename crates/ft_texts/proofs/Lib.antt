@@ -1,8 +1,9 @@
-mod Pieces
-mod Expressions
-mod Statements
-mod Steps
-mod Lines
+pub mod Pieces
+pub mod Expressions
+pub mod Statements
+pub mod Steps
+pub mod Lines
+pub mod Feeds
+pub mod ByLines
+pub mod Faults
 mod Worked
-mod Feeds
-mod Faults

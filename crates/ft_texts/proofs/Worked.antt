@@ -53,7 +53,7 @@ worked_text = (
 -- the line of a boundary
 boundary_line : IsItemLine (λ n. true) (codes "B T [] btype")
 unfolding encode_utf8
-boundary_line = (states (plain type_goal) [] by_btype, record { statement = tt; ascending = tt; set = tt; version = tt; step = tt }, refl)
+boundary_line = (states (plain type_goal) [] by_btype, (record { statement = tt; ascending = tt; set = tt; version = tt; step = tt }, refl))
 
 three_decimal : decimal 3 ≡ codes "3"
 unfolding digits

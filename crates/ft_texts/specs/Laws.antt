@@ -1,10 +1,11 @@
 -- What holds of the texts of item lists.
-use Rattle.std.specs.Prelude.{ℕ, ◌<◌, ◌≡◌, Bool, true, codes, List, [], ◌∷◌}
+use Rattle.std.specs.Prelude.{ℕ, ◌<◌, ◌≡◌, ◌↔◌, ◌⊎◌, Bool, true, codes, List, [], ◌∷◌}
 use Rattle.ft_theory.specs.Expressions.{bound, free, symbol, meta, no_arguments, with_body, dummy, no_terms, also}
 use Rattle.ft_theory.specs.Statements.{equal_terms, type_equation_goal, plain, abstracted}
 use Rattle.ft_items.specs.Sets.{met, var}
 use Rattle.ft_items.specs.Item.{by_cong, by_convprem, Name, Item, variable, metavariable, rule, entry, shown}
-use Rattle.ft_items.specs.Faults.{Fault, Form, Version, HasFault}
+use Rattle.ft_items.specs.Lines.{lines_in, AreLinesOf}
+use Rattle.ft_items.specs.Faults.{IsItemLine, IsOtherVersion, Fault, Form, Version, HasFault}
 use Rattle.ft_items.specs.Worked.{Nat, O, zero_file, zero_text}
 use Rattle.ft_items.specs.Texts.{line_text, ItemsFit, IsTextOf}
 
@@ -27,6 +28,11 @@ AtMostOneList = (is_name : Name → Bool) → ((n : Name) → is_name n ≡ true
 abbrev pub HasText : Type 0
 HasText = (is_name : Name → Bool) (items : List Item) → ItemsFit is_name items → (bytes : List ℕ) × IsTextOf is_name bytes items
 
+-- The bytes are the text of the list of items exactly where their lines are those of a file with these items.
+abbrev pub TextByLines : Type 0
+TextByLines = (is_name : Name → Bool) → ((n : Name) → is_name n ≡ true → Visible n)
+    → (bytes : List ℕ) (items : List Item) → IsTextOf is_name bytes items ↔ AreLinesOf is_name (lines_in bytes) items
+
 -- The worked list of two rules has the worked text.
 abbrev pub WorkedText : Type 0
 WorkedText = IsTextOf (λ n. true) zero_text (zero_file [])
@@ -39,6 +45,16 @@ AtMostOneFault = (is_name : Name → Bool) (bytes : List ℕ) (f g : Fault) → 
 abbrev pub TextHasNoFault : Type 0
 TextHasNoFault = (is_name : Name → Bool) → ((n : Name) → is_name n ≡ true → Visible n)
     → (bytes : List ℕ) (items : List Item) (f : Fault) → IsTextOf is_name bytes items → HasFault is_name bytes f → ⊥
+
+-- P or not
+abbrev pub Decided : Type 0 → Type 0
+Decided P = P ⊎ (P → ⊥)
+
+-- Each file is a text or has a fault, where it can be told of each line whether it is an item's, or another version's.
+abbrev pub TextOrFault : Type 0
+TextOrFault = (is_name : Name → Bool) → ((n : Name) → is_name n ≡ true → Visible n)
+    → ((l : List ℕ) → Decided (IsItemLine is_name l)) → ((l : List ℕ) → Decided (IsOtherVersion l))
+    → (bytes : List ℕ) → ((items : List Item) × IsTextOf is_name bytes items) ⊎ ((f : Fault) × HasFault is_name bytes f)
 
 -- The texts of worked lines, one for each kind, with each kind of expression, atom and part.
 abbrev pub WorkedLines : Type 0

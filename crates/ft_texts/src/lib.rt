@@ -1,7 +1,7 @@
 // The text of an item list: each list has at most one, and each text is of at most one list.
 #![tactic(auto)]
 
-ghost use Rattle.ft_texts.specs.Laws.{AtMostOneText, AtMostOneList, HasText, WorkedText, WorkedLines, AtMostOneFault, TextHasNoFault, WorkedFaults};
+ghost use Rattle.ft_texts.specs.Laws.{AtMostOneText, AtMostOneList, HasText, TextByLines, WorkedText, WorkedLines, AtMostOneFault, TextHasNoFault, TextOrFault, WorkedFaults};
 
 /// A list of items has at most one text.
 pub fn at_most_one_text()
@@ -18,6 +18,11 @@ pub fn has_text()
     ensures law { HasText }
 {}
 
+/// The bytes are the text of a list exactly where their lines are: the first line, one for each item, `end`, and nothing after it.
+pub fn text_by_lines()
+    ensures law { TextByLines }
+{}
+
 /// The text of a worked list, and worked lines of each kind.
 pub fn worked_text()
     ensures law { WorkedText }
@@ -32,6 +37,11 @@ pub fn at_most_one_fault()
 /// The text of a list of items has no fault.
 pub fn text_has_no_fault()
     ensures law { TextHasNoFault }
+{}
+
+/// Each file is a text or has a fault, where it can be told of each line whether it is an item's, or another version's.
+pub fn text_or_fault()
+    ensures law { TextOrFault }
 {}
 
 /// The faults of four worked files.

@@ -197,16 +197,25 @@ step_told (by_arg i p) = refl
 step_told (by_natural p) = refl
 step_told (by_metainst p ms qs) = ap₂ (by_metainst p) (numbers_before ms (map number qs)) (ap numbers (beyond_numbers ms (map number qs)) ∙ numbers_all qs)
 
--- the words of steps are visible
-abbrev shows : List ℕ → Bool
+-- The words of steps are visible.
+
+-- the test for visible plain ASCII
+abbrev pub shows : List ℕ → Bool
 shows [] = true
-shows (c ∷ cs) = nat_lt 32 c && shows cs
+shows (c ∷ cs) = (nat_lt 32 c && nat_lt c 128) && shows cs
+
+-- what the test tells
+pub shown : (c : ℕ) (cs : List ℕ) → shows (c ∷ cs) ≡ true → (32 < c) × (c < 128) × (shows cs ≡ true)
+shown c cs h =
+    let k : ((nat_lt 32 c && nat_lt c 128) ≡ true) × (shows cs ≡ true) = both (nat_lt 32 c && nat_lt c 128) (shows cs) h in
+    let l : (nat_lt 32 c ≡ true) × (nat_lt c 128 ≡ true) = both (nat_lt 32 c) (nat_lt c 128) k.0 in
+    (ltb-true 32 c l.0, ltb-true c 128 l.1, k.1)
 
 visible_by_test : (x : List ℕ) → shows x ≡ true → Visible x
 visible_by_test [] h = tt
-visible_by_test (c ∷ cs) h = let k : (nat_lt 32 c ≡ true) × (shows cs ≡ true) = both (nat_lt 32 c) (shows cs) h in (ltb-true 32 c k.0, visible_by_test cs k.1)
+visible_by_test (c ∷ cs) h = ((shown c cs h).0, visible_by_test cs (shown c cs h).2)
 
-word_shows : (s : Stated) → shows (written s).0 ≡ true
+pub word_shows : (s : Stated) → shows (written s).0 ≡ true
 word_shows (by_var v) = refl
 word_shows (by_generic m) = refl
 word_shows (by_meta m ps) = refl

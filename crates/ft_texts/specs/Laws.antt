@@ -1,10 +1,11 @@
 -- What holds of the texts of item lists.
 use Rattle.std.specs.Prelude.{ℕ, ◌<◌, ◌≡◌, ◌↔◌, ◌⊎◌, Bool, true, codes, List, [], ◌∷◌}
+use Rattle.std.specs.Str.{all_scalars, IsUtf8}
 use Rattle.ft_theory.specs.Expressions.{bound, free, symbol, meta, no_arguments, with_body, dummy, no_terms, also}
 use Rattle.ft_theory.specs.Statements.{equal_terms, type_equation_goal, plain, abstracted}
 use Rattle.ft_items.specs.Sets.{met, var}
 use Rattle.ft_items.specs.Item.{by_cong, by_convprem, Name, Item, variable, metavariable, rule, entry, shown}
-use Rattle.ft_items.specs.Lines.{lines_in, AreLinesOf}
+use Rattle.ft_items.specs.Lines.{lines_in, IsLineOf, AreLinesOf}
 use Rattle.ft_items.specs.Faults.{IsItemLine, IsOtherVersion, Fault, Form, Version, HasFault}
 use Rattle.ft_items.specs.Worked.{Nat, O, zero_file, zero_text}
 use Rattle.ft_items.specs.Texts.{line_text, ItemsFit, IsTextOf}
@@ -45,6 +46,16 @@ AtMostOneFault = (is_name : Name → Bool) (bytes : List ℕ) (f g : Fault) → 
 abbrev pub TextHasNoFault : Type 0
 TextHasNoFault = (is_name : Name → Bool) → ((n : Name) → is_name n ≡ true → Visible n)
     → (bytes : List ℕ) (items : List Item) (f : Fault) → IsTextOf is_name bytes items → HasFault is_name bytes f → ⊥
+
+-- A text is UTF-8, where the names have characters alone.
+abbrev pub TextIsUtf8 : Type 0
+TextIsUtf8 = (is_name : Name → Bool) → ((n : Name) → is_name n ≡ true → all_scalars n ≡ true)
+    → (bytes : List ℕ) (items : List Item) → IsTextOf is_name bytes items → IsUtf8 bytes
+
+-- An item's line is UTF-8, where the names have characters alone. So bytes that are not UTF-8 are a fault of their line.
+abbrev pub LineIsUtf8 : Type 0
+LineIsUtf8 = (is_name : Name → Bool) → ((n : Name) → is_name n ≡ true → all_scalars n ≡ true)
+    → (l : List ℕ) (i : Item) → IsLineOf is_name l i → IsUtf8 l
 
 -- P or not
 abbrev pub Decided : Type 0 → Type 0

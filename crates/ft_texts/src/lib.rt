@@ -1,7 +1,7 @@
 // The text of an item list: each list has at most one, and each text is of at most one list.
 #![tactic(auto)]
 
-ghost use Rattle.ft_texts.specs.Laws.{AtMostOneText, AtMostOneList, HasText, TextByLines, WorkedText, WorkedLines, AtMostOneFault, TextHasNoFault, TextOrFault, WorkedFaults};
+ghost use Rattle.ft_texts.specs.Laws.{AtMostOneText, AtMostOneList, HasText, TextByLines, TextIsUtf8, LineIsUtf8, WorkedText, WorkedLines, AtMostOneFault, TextHasNoFault, TextOrFault, WorkedFaults};
 
 /// A list of items has at most one text.
 pub fn at_most_one_text()
@@ -21,6 +21,12 @@ pub fn has_text()
 /// The bytes are the text of a list exactly where their lines are: the first line, one for each item, `end`, and nothing after it.
 pub fn text_by_lines()
     ensures law { TextByLines }
+{}
+
+/// A text is UTF-8, and so is each item's line, where the names have characters alone.
+pub fn text_is_utf8()
+    ensures text { TextIsUtf8 }
+    ensures line { LineIsUtf8 }
 {}
 
 /// The text of a worked list, and worked lines of each kind.

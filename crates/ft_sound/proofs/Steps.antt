@@ -18,7 +18,8 @@ use Rattle.ft_sound.proofs.Structural as structural
 use Rattle.ft_sound.proofs.Structural.{from_when}
 use Rattle.ft_sound.proofs.RuleRows as rules
 use Rattle.ft_sound.proofs.MetaRows as metas
-use Rattle.ft_sound.proofs.MetaRows.{AllDeclared}
+use Rattle.ft_sound.proofs.InstanceRows.{AllDeclared}
+use Rattle.ft_sound.proofs.InstanceRows as instances
 
 -- what a step names is valid, declared, or a rule of the theory
 abbrev pub IsVariable : Store → ℕ × Annotation → Type 0
@@ -266,6 +267,6 @@ module _ (W : Store) (F : WellFormed W) where
             (list ps R h.1 (λ a k. union_left a S (union U q.set) k)) (list es R h.2 (λ a k. union_right a S (union U q.set) (union_left a U q.set k)))
             (up W (scoped_rules W F) q.statement q.set R (λ a k. union_right a S (union U q.set) (union_right a U q.set k)) h.3.derivable);
       }
-  sound_step (by_arg i p) h y e = one p.statement y p.set h (metas.do_argument W F i p.statement y p.set e)
-  sound_step (by_natural p) h y e = one p.statement y p.set h (metas.do_natural W F p.statement y p.set e)
-  sound_step (by_metainst p ms qs) h y e = metas.do_instance W F p h.0 ms h.1 qs h.2 y e
+  sound_step (by_arg i p) h y e = one p.statement y p.set h (instances.do_argument W F i p.statement y p.set e)
+  sound_step (by_natural p) h y e = one p.statement y p.set h (instances.do_natural W F p.statement y p.set e)
+  sound_step (by_metainst p ms qs) h y e = instances.do_instance W F p h.0 ms h.1 qs h.2 y e

@@ -2,36 +2,18 @@
 use Rattle.std.proofs.Common.{◌≡◌, ℕ, List, [], ◌∷◌, ◌++◌, refl}
 use Rattle.std.specs.Prelude.{codes}
 use Rattle.ft_theory.specs.Expressions.{Expression, bound, free, symbol, meta, no_arguments, with_body, dummy, also, no_terms, act, body_or, count, put, open_at, close_at, rename, lifts, lift, pushes, push}
-use Rattle.ft_theory.specs.Statements.{is_type, has_type, equal_types, equal_terms, type_goal, term_goal, type_equation_goal, term_equation_goal, Statement, plain, abstracted}
-use Rattle.ft_items.specs.Sets.{Atom, met, var}
-use Rattle.ft_items.specs.Item.{by_var, by_generic, by_meta, by_metacong, by_abs, by_subst, by_substeq, by_refl, by_sym, by_trans, by_conv, by_conveq, by_left, by_right, by_typeof, by_domain, by_boundary, by_widen, by_btype, by_bterm, by_beqty, by_beqtm, by_rule, by_rulewith, by_inst, by_cong, by_convprem, by_convback, by_arg, by_natural, by_metainst, Stated, Item, variable, metavariable, rule, entry, shown}
+use Rattle.ft_theory.specs.Statements.{is_type, has_type, equal_types, equal_terms, type_goal, term_goal, type_equation_goal, term_equation_goal, plain, abstracted}
+use Rattle.ft_items.specs.Sets.{met, var}
+use Rattle.ft_items.specs.Item.{by_var, by_generic, by_meta, by_metacong, by_abs, by_subst, by_substeq, by_refl, by_sym, by_trans, by_conv, by_conveq, by_left, by_right, by_typeof, by_domain, by_boundary, by_widen, by_btype, by_bterm, by_beqty, by_beqtm, by_rule, by_rulewith, by_inst, by_cong, by_convprem, by_convback, by_arg, by_natural, by_metainst, Item, variable, metavariable, rule, shown}
+use Rattle.ft_items.specs.Worked.{states, Nat, O, S, zero_file}
 use Rattle.ft_items.specs.Good.{Reference, Kind, Premise, Conclusion, Set, Named, Number, Loose, Verdict, Accepted, Rejected, verdict}
-
-abbrev states : Statement → List Atom → Stated → Item
-states x S s = entry (record { statement = x; set = S; step = s })
 
 abbrev accepted : ℕ → ℕ → ℕ → ℕ → Verdict
 accepted r e s l = Accepted (record { rules = r; entries = e; shown = s; level = l })
 
-abbrev Nat : Expression
-Nat = symbol 0 no_arguments
-
-abbrev O : Expression
-O = symbol 1 no_arguments
-
-abbrev S : Expression → Expression
-S e = symbol 2 (with_body 0 e no_arguments)
-
 -- two rules and a mark
 abbrev two_rules : List Item
-two_rules = states (plain type_goal) [] by_btype
-    ∷ rule (codes "Nat") [] 0
-    ∷ states (plain (is_type Nat)) [] (by_rule 0 [])
-    ∷ states (plain (term_goal Nat)) [] (by_bterm 1)
-    ∷ rule (codes "O") [] 2
-    ∷ states (plain (has_type O Nat)) [] (by_rulewith 1 2 [])
-    ∷ shown 3
-    ∷ []
+two_rules = zero_file []
 
 two_rules_accepted : verdict two_rules ≡ accepted 2 4 1 1
 unfolding act body_or count put open_at close_at rename lifts lift pushes push

@@ -8,32 +8,32 @@ use Rattle.ft_items.specs.Equal.{has_head, head, right_head, fits, fit_all, head
 use Rattle.ft_items.proofs.SetLemmas.{wrong, both, by_bool}
 use Rattle.ft_sound.proofs.EqualLemmas.{fits_true, fits_depth, fits_object, fits_equation, starts_true}
 
-pub object_core_unmap : (c : Claim) (f : Expression → Expression) → IsObjectGoal (map_claim f c) → IsObjectGoal c
-object_core_unmap (is_type A) f o = o
-object_core_unmap (has_type t A) f o = o
-object_core_unmap (equal_types A B) f o = o
-object_core_unmap (equal_terms s t A) f o = o
-object_core_unmap type_goal f o = o
-object_core_unmap (term_goal A) f o = tt
-object_core_unmap (type_equation_goal A B) f o = o
-object_core_unmap (term_equation_goal s t A) f o = o
+pub object_claim_unmap : (c : Claim) (f : Expression → Expression) → IsObjectGoal (map_claim f c) → IsObjectGoal c
+object_claim_unmap (is_type A) f o = o
+object_claim_unmap (has_type t A) f o = o
+object_claim_unmap (equal_types A B) f o = o
+object_claim_unmap (equal_terms s t A) f o = o
+object_claim_unmap type_goal f o = o
+object_claim_unmap (term_goal A) f o = tt
+object_claim_unmap (type_equation_goal A B) f o = o
+object_claim_unmap (term_equation_goal s t A) f o = o
 
 pub object_unmap : (x : Statement) (f : ℕ → Expression → Expression) (k : ℕ) → IsObject (map_statement f k x) → IsObject x
-object_unmap (plain c) f k o = object_core_unmap c (f k) o
+object_unmap (plain c) f k o = object_claim_unmap c (f k) o
 object_unmap (abstracted A x) f k o = object_unmap x f (suc k) o
 
-pub equation_core_unmap : (c : Claim) (f : Expression → Expression) → IsEquationGoal (map_claim f c) → IsEquationGoal c
-equation_core_unmap (is_type A) f o = o
-equation_core_unmap (has_type t A) f o = o
-equation_core_unmap (equal_types A B) f o = o
-equation_core_unmap (equal_terms s t A) f o = o
-equation_core_unmap type_goal f o = o
-equation_core_unmap (term_goal A) f o = o
-equation_core_unmap (type_equation_goal A B) f o = tt
-equation_core_unmap (term_equation_goal s t A) f o = tt
+pub equation_claim_unmap : (c : Claim) (f : Expression → Expression) → IsEquationGoal (map_claim f c) → IsEquationGoal c
+equation_claim_unmap (is_type A) f o = o
+equation_claim_unmap (has_type t A) f o = o
+equation_claim_unmap (equal_types A B) f o = o
+equation_claim_unmap (equal_terms s t A) f o = o
+equation_claim_unmap type_goal f o = o
+equation_claim_unmap (term_goal A) f o = o
+equation_claim_unmap (type_equation_goal A B) f o = tt
+equation_claim_unmap (term_equation_goal s t A) f o = tt
 
 pub equation_unmap : (x : Statement) (f : ℕ → Expression → Expression) (k : ℕ) → IsEquation (map_statement f k x) → IsEquation x
-equation_unmap (plain c) f k o = equation_core_unmap c (f k) o
+equation_unmap (plain c) f k o = equation_claim_unmap c (f k) o
 equation_unmap (abstracted A x) f k o = equation_unmap x f (suc k) o
 
 -- what one thesis is for its premise

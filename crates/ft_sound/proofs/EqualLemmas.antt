@@ -9,23 +9,23 @@ use Rattle.ft_laws.proofs.Statements.{domain_count-opened}
 use Rattle.ft_items.proofs.SetLemmas.{wrong, both, both_true}
 
 mutual
-  pub expr_true : (e f : Expression) → equal_expressions e f ≡ true → e ≡ f
-  expr_true (bound i) (bound j) h = ap bound (eqb-true i j h)
-  expr_true (free i) (free j) h = ap free (eqb-true i j h)
-  expr_true (symbol s a) (symbol r b) h =
+  pub expression_true : (e f : Expression) → equal_expressions e f ≡ true → e ≡ f
+  expression_true (bound i) (bound j) h = ap bound (eqb-true i j h)
+  expression_true (free i) (free j) h = ap free (eqb-true i j h)
+  expression_true (symbol s a) (symbol r b) h =
       let q : (nat_eq s r ≡ true) × (equal_arguments a b ≡ true) = both (nat_eq s r) (equal_arguments a b) h in
       ap₂ symbol (eqb-true s r q.0) (args_true a b q.1)
-  expr_true (meta s a) (meta r b) h =
+  expression_true (meta s a) (meta r b) h =
       let q : (nat_eq s r ≡ true) × (equal_term_lists a b ≡ true) = both (nat_eq s r) (equal_term_lists a b) h in
       ap₂ meta (eqb-true s r q.0) (lists_true a b q.1)
-  expr_true e f h = wrong h
+  expression_true e f h = wrong h
 
   pub args_true : (a b : Arguments) → equal_arguments a b ≡ true → a ≡ b
   args_true no_arguments no_arguments h = refl
   args_true (with_body n e a) (with_body k f b) h =
       let q : ((nat_eq n k && equal_expressions e f) ≡ true) × (equal_arguments a b ≡ true) = both (nat_eq n k && equal_expressions e f) (equal_arguments a b) h in
       let r : (nat_eq n k ≡ true) × (equal_expressions e f ≡ true) = both (nat_eq n k) (equal_expressions e f) q.0 in
-      ap (λ x. with_body x e a) (eqb-true n k r.0) ∙ ap₂ (with_body k) (expr_true e f r.1) (args_true a b q.1)
+      ap (λ x. with_body x e a) (eqb-true n k r.0) ∙ ap₂ (with_body k) (expression_true e f r.1) (args_true a b q.1)
   args_true (dummy n a) (dummy k b) h =
       let q : (nat_eq n k ≡ true) × (equal_arguments a b ≡ true) = both (nat_eq n k) (equal_arguments a b) h in
       ap₂ dummy (eqb-true n k q.0) (args_true a b q.1)
@@ -35,7 +35,7 @@ mutual
   lists_true no_terms no_terms h = refl
   lists_true (also t a) (also u b) h =
       let q : (equal_expressions t u ≡ true) × (equal_term_lists a b ≡ true) = both (equal_expressions t u) (equal_term_lists a b) h in
-      ap₂ also (expr_true t u q.0) (lists_true a b q.1)
+      ap₂ also (expression_true t u q.0) (lists_true a b q.1)
   lists_true a b h = wrong h
 
 two : {A B C : Type 0} (f : A → B → C) (a c : A) (b d : B) (s t : Bool) → (s ≡ true → a ≡ c) → (t ≡ true → b ≡ d) → (s && t) ≡ true → f a b ≡ f c d
@@ -46,67 +46,67 @@ three f a a' b b' c c' s t u p q r h =
     let k : ((s && t) ≡ true) × (u ≡ true) = both (s && t) u h in
     ap₂ (λ x y. f x y c) (p (both s t k.0).0) (q (both s t k.0).1) ∙ ap (f a' b') (r k.1)
 
-pub core_true : (c d : Claim) → equal_claims c d ≡ true → c ≡ d
-core_true (is_type A) (is_type B) h = ap is_type (expr_true A B h)
-core_true (has_type t A) (has_type u B) h = two has_type t u A B (equal_expressions t u) (equal_expressions A B) (expr_true t u) (expr_true A B) h
-core_true (equal_types A B) (equal_types C D) h = two equal_types A C B D (equal_expressions A C) (equal_expressions B D) (expr_true A C) (expr_true B D) h
-core_true (equal_terms s t A) (equal_terms u v B) h = three equal_terms s u t v A B (equal_expressions s u) (equal_expressions t v) (equal_expressions A B) (expr_true s u) (expr_true t v) (expr_true A B) h
-core_true type_goal type_goal h = refl
-core_true (term_goal A) (term_goal B) h = ap term_goal (expr_true A B h)
-core_true (type_equation_goal A B) (type_equation_goal C D) h = two type_equation_goal A C B D (equal_expressions A C) (equal_expressions B D) (expr_true A C) (expr_true B D) h
-core_true (term_equation_goal s t A) (term_equation_goal u v B) h = three term_equation_goal s u t v A B (equal_expressions s u) (equal_expressions t v) (equal_expressions A B) (expr_true s u) (expr_true t v) (expr_true A B) h
-core_true c d h = wrong h
+pub claim_true : (c d : Claim) → equal_claims c d ≡ true → c ≡ d
+claim_true (is_type A) (is_type B) h = ap is_type (expression_true A B h)
+claim_true (has_type t A) (has_type u B) h = two has_type t u A B (equal_expressions t u) (equal_expressions A B) (expression_true t u) (expression_true A B) h
+claim_true (equal_types A B) (equal_types C D) h = two equal_types A C B D (equal_expressions A C) (equal_expressions B D) (expression_true A C) (expression_true B D) h
+claim_true (equal_terms s t A) (equal_terms u v B) h = three equal_terms s u t v A B (equal_expressions s u) (equal_expressions t v) (equal_expressions A B) (expression_true s u) (expression_true t v) (expression_true A B) h
+claim_true type_goal type_goal h = refl
+claim_true (term_goal A) (term_goal B) h = ap term_goal (expression_true A B h)
+claim_true (type_equation_goal A B) (type_equation_goal C D) h = two type_equation_goal A C B D (equal_expressions A C) (equal_expressions B D) (expression_true A C) (expression_true B D) h
+claim_true (term_equation_goal s t A) (term_equation_goal u v B) h = three term_equation_goal s u t v A B (equal_expressions s u) (equal_expressions t v) (equal_expressions A B) (expression_true s u) (expression_true t v) (expression_true A B) h
+claim_true c d h = wrong h
 
-pub stmt_true : (x y : Statement) → equal_statements x y ≡ true → x ≡ y
-stmt_true (plain c) (plain d) h = ap plain (core_true c d h)
-stmt_true (plain c) (abstracted B y) h = wrong h
-stmt_true (abstracted A x) (plain d) h = wrong h
-stmt_true (abstracted A x) (abstracted B y) h = two abstracted A B x y (equal_expressions A B) (equal_statements x y) (expr_true A B) (stmt_true x y) h
+pub statement_true : (x y : Statement) → equal_statements x y ≡ true → x ≡ y
+statement_true (plain c) (plain d) h = ap plain (claim_true c d h)
+statement_true (plain c) (abstracted B y) h = wrong h
+statement_true (abstracted A x) (plain d) h = wrong h
+statement_true (abstracted A x) (abstracted B y) h = two abstracted A B x y (equal_expressions A B) (equal_statements x y) (expression_true A B) (statement_true x y) h
 
 -- each tree equals itself
 mutual
-  pub expr_self : (e : Expression) → equal_expressions e e ≡ true
-  expr_self (bound i) = eq-eqb i i refl
-  expr_self (free v) = eq-eqb v v refl
-  expr_self (symbol s a) = both_true (nat_eq s s) (equal_arguments a a) (eq-eqb s s refl) (args_self a)
-  expr_self (meta m a) = both_true (nat_eq m m) (equal_term_lists a a) (eq-eqb m m refl) (lists_self a)
+  pub expression_self : (e : Expression) → equal_expressions e e ≡ true
+  expression_self (bound i) = eq-eqb i i refl
+  expression_self (free v) = eq-eqb v v refl
+  expression_self (symbol s a) = both_true (nat_eq s s) (equal_arguments a a) (eq-eqb s s refl) (args_self a)
+  expression_self (meta m a) = both_true (nat_eq m m) (equal_term_lists a a) (eq-eqb m m refl) (lists_self a)
 
   pub args_self : (a : Arguments) → equal_arguments a a ≡ true
   args_self no_arguments = refl
-  args_self (with_body n e a) = both_true (nat_eq n n && equal_expressions e e) (equal_arguments a a) (both_true (nat_eq n n) (equal_expressions e e) (eq-eqb n n refl) (expr_self e)) (args_self a)
+  args_self (with_body n e a) = both_true (nat_eq n n && equal_expressions e e) (equal_arguments a a) (both_true (nat_eq n n) (equal_expressions e e) (eq-eqb n n refl) (expression_self e)) (args_self a)
   args_self (dummy n a) = both_true (nat_eq n n) (equal_arguments a a) (eq-eqb n n refl) (args_self a)
 
   pub lists_self : (a : Terms) → equal_term_lists a a ≡ true
   lists_self no_terms = refl
-  lists_self (also t a) = both_true (equal_expressions t t) (equal_term_lists a a) (expr_self t) (lists_self a)
+  lists_self (also t a) = both_true (equal_expressions t t) (equal_term_lists a a) (expression_self t) (lists_self a)
 
-pub core_self : (c : Claim) → equal_claims c c ≡ true
-core_self (is_type A) = expr_self A
-core_self (has_type t A) = both_true (equal_expressions t t) (equal_expressions A A) (expr_self t) (expr_self A)
-core_self (equal_types A B) = both_true (equal_expressions A A) (equal_expressions B B) (expr_self A) (expr_self B)
-core_self (equal_terms s t A) = both_true (equal_expressions s s && equal_expressions t t) (equal_expressions A A) (both_true (equal_expressions s s) (equal_expressions t t) (expr_self s) (expr_self t)) (expr_self A)
-core_self type_goal = refl
-core_self (term_goal A) = expr_self A
-core_self (type_equation_goal A B) = both_true (equal_expressions A A) (equal_expressions B B) (expr_self A) (expr_self B)
-core_self (term_equation_goal s t A) = both_true (equal_expressions s s && equal_expressions t t) (equal_expressions A A) (both_true (equal_expressions s s) (equal_expressions t t) (expr_self s) (expr_self t)) (expr_self A)
+pub claim_self : (c : Claim) → equal_claims c c ≡ true
+claim_self (is_type A) = expression_self A
+claim_self (has_type t A) = both_true (equal_expressions t t) (equal_expressions A A) (expression_self t) (expression_self A)
+claim_self (equal_types A B) = both_true (equal_expressions A A) (equal_expressions B B) (expression_self A) (expression_self B)
+claim_self (equal_terms s t A) = both_true (equal_expressions s s && equal_expressions t t) (equal_expressions A A) (both_true (equal_expressions s s) (equal_expressions t t) (expression_self s) (expression_self t)) (expression_self A)
+claim_self type_goal = refl
+claim_self (term_goal A) = expression_self A
+claim_self (type_equation_goal A B) = both_true (equal_expressions A A) (equal_expressions B B) (expression_self A) (expression_self B)
+claim_self (term_equation_goal s t A) = both_true (equal_expressions s s && equal_expressions t t) (equal_expressions A A) (both_true (equal_expressions s s) (equal_expressions t t) (expression_self s) (expression_self t)) (expression_self A)
 
-pub stmt_self : (x : Statement) → equal_statements x x ≡ true
-stmt_self (plain c) = core_self c
-stmt_self (abstracted A x) = both_true (equal_expressions A A) (equal_statements x x) (expr_self A) (stmt_self x)
+pub statement_self : (x : Statement) → equal_statements x x ≡ true
+statement_self (plain c) = claim_self c
+statement_self (abstracted A x) = both_true (equal_expressions A A) (equal_statements x x) (expression_self A) (statement_self x)
 
 -- a thesis that fits is the boundary filled with its head
-pub fits_core_true : (c d : Claim) → fits_goal c d ≡ true → c ≡ fill_goal d (head_of_claim c)
-fits_core_true (is_type A) type_goal h = refl
-fits_core_true (has_type t A) (term_goal B) h = ap (has_type t) (expr_true A B h)
-fits_core_true (equal_types A B) (type_equation_goal C D) h = two equal_types A C B D (equal_expressions A C) (equal_expressions B D) (expr_true A C) (expr_true B D) h
-fits_core_true (equal_terms s t A) (term_equation_goal u v B) h = three (λ A s t. equal_terms s t A) A B s u t v (equal_expressions A B) (equal_expressions s u) (equal_expressions t v) (expr_true A B) (expr_true s u) (expr_true t v) h
-fits_core_true c d h = wrong h
+pub fits_claim_true : (c d : Claim) → fits_goal c d ≡ true → c ≡ fill_goal d (head_of_claim c)
+fits_claim_true (is_type A) type_goal h = refl
+fits_claim_true (has_type t A) (term_goal B) h = ap (has_type t) (expression_true A B h)
+fits_claim_true (equal_types A B) (type_equation_goal C D) h = two equal_types A C B D (equal_expressions A C) (equal_expressions B D) (expression_true A C) (expression_true B D) h
+fits_claim_true (equal_terms s t A) (term_equation_goal u v B) h = three (λ A s t. equal_terms s t A) A B s u t v (equal_expressions A B) (equal_expressions s u) (equal_expressions t v) (expression_true A B) (expression_true s u) (expression_true t v) h
+fits_claim_true c d h = wrong h
 
 pub fits_true : (x b : Statement) → fits x b ≡ true → x ≡ fill b (head x)
-fits_true (plain c) (plain d) h = ap plain (fits_core_true c d h)
+fits_true (plain c) (plain d) h = ap plain (fits_claim_true c d h)
 fits_true (plain c) (abstracted B b) h = wrong h
 fits_true (abstracted A x) (plain d) h = wrong h
-fits_true (abstracted A x) (abstracted B b) h = two abstracted A B x (fill b (head x)) (equal_expressions A B) (fits x b) (expr_true A B) (fits_true x b) h
+fits_true (abstracted A x) (abstracted B b) h = two abstracted A B x (fill b (head x)) (equal_expressions A B) (fits x b) (expression_true A B) (fits_true x b) h
 
 pub fits_depth : (x b : Statement) → fits x b ≡ true → domain_count x ≡ domain_count b
 fits_depth (plain c) (plain d) h = refl
@@ -115,46 +115,46 @@ fits_depth (abstracted A x) (plain d) h = wrong h
 fits_depth (abstracted A x) (abstracted B b) h = ap suc (fits_depth x b (both (equal_expressions A B) (fits x b) h).1)
 
 -- and it has a head exactly for an object
-pub fits_core_object : (c d : Claim) → fits_goal c d ≡ true → has_head_claim c ≡ true → IsObjectGoal d
-fits_core_object (is_type A) type_goal h k = tt
-fits_core_object (has_type t A) (term_goal B) h k = tt
-fits_core_object (equal_types A B) (type_equation_goal C D) h k = wrong k
-fits_core_object (equal_terms s t A) (term_equation_goal u v B) h k = wrong k
-fits_core_object c d h k = wrong h
+pub fits_claim_object : (c d : Claim) → fits_goal c d ≡ true → has_head_claim c ≡ true → IsObjectGoal d
+fits_claim_object (is_type A) type_goal h k = tt
+fits_claim_object (has_type t A) (term_goal B) h k = tt
+fits_claim_object (equal_types A B) (type_equation_goal C D) h k = wrong k
+fits_claim_object (equal_terms s t A) (term_equation_goal u v B) h k = wrong k
+fits_claim_object c d h k = wrong h
 
 pub fits_object : (x b : Statement) → fits x b ≡ true → has_head x ≡ true → IsObject b
-fits_object (plain c) (plain d) h k = fits_core_object c d h k
+fits_object (plain c) (plain d) h k = fits_claim_object c d h k
 fits_object (plain c) (abstracted B b) h k = wrong h
 fits_object (abstracted A x) (plain d) h k = wrong h
 fits_object (abstracted A x) (abstracted B b) h k = fits_object x b (both (equal_expressions A B) (fits x b) h).1 k
 
-pub fits_core_equation : (c d : Claim) → fits_goal c d ≡ true → has_head_claim c ≡ false → IsEquationGoal d
-fits_core_equation (is_type A) type_goal h k = wrong (sym k)
-fits_core_equation (has_type t A) (term_goal B) h k = wrong (sym k)
-fits_core_equation (equal_types A B) (type_equation_goal C D) h k = tt
-fits_core_equation (equal_terms s t A) (term_equation_goal u v B) h k = tt
-fits_core_equation c d h k = wrong h
+pub fits_claim_equation : (c d : Claim) → fits_goal c d ≡ true → has_head_claim c ≡ false → IsEquationGoal d
+fits_claim_equation (is_type A) type_goal h k = wrong (sym k)
+fits_claim_equation (has_type t A) (term_goal B) h k = wrong (sym k)
+fits_claim_equation (equal_types A B) (type_equation_goal C D) h k = tt
+fits_claim_equation (equal_terms s t A) (term_equation_goal u v B) h k = tt
+fits_claim_equation c d h k = wrong h
 
 pub fits_equation : (x b : Statement) → fits x b ≡ true → has_head x ≡ false → IsEquation b
-fits_equation (plain c) (plain d) h k = fits_core_equation c d h k
+fits_equation (plain c) (plain d) h k = fits_claim_equation c d h k
 fits_equation (plain c) (abstracted B b) h k = wrong h
 fits_equation (abstracted A x) (plain d) h k = wrong h
 fits_equation (abstracted A x) (abstracted B b) h k = fits_equation x b (both (equal_expressions A B) (fits x b) h).1 k
 
 -- an equation that starts from the head of what fits
-pub starts_core_true : (c d e : Claim) → fits_goal c d ≡ true → starts_claim c e ≡ true → e ≡ equate_goal d (head_of_claim c) (right_of_claim e)
-starts_core_true (is_type A) type_goal (equal_types B C) h k = ap (λ x. equal_types x C) (sym (expr_true A B k))
-starts_core_true (has_type t A) (term_goal B) (equal_terms s u C) h k =
+pub starts_claim_true : (c d e : Claim) → fits_goal c d ≡ true → starts_claim c e ≡ true → e ≡ equate_goal d (head_of_claim c) (right_of_claim e)
+starts_claim_true (is_type A) type_goal (equal_types B C) h k = ap (λ x. equal_types x C) (sym (expression_true A B k))
+starts_claim_true (has_type t A) (term_goal B) (equal_terms s u C) h k =
     let q : (equal_expressions A C ≡ true) × (equal_expressions t s ≡ true) = both (equal_expressions A C) (equal_expressions t s) k in
-    ap₂ (λ x y. equal_terms x u y) (sym (expr_true t s q.1)) (sym (expr_true A C q.0) ∙ expr_true A B h)
-starts_core_true (is_type A) type_goal e h k = wrong k
-starts_core_true (has_type t A) (term_goal B) e h k = wrong k
-starts_core_true (equal_types A B) d e h k = wrong k
-starts_core_true (equal_terms s t A) d e h k = wrong k
-starts_core_true c d e h k = wrong h
+    ap₂ (λ x y. equal_terms x u y) (sym (expression_true t s q.1)) (sym (expression_true A C q.0) ∙ expression_true A B h)
+starts_claim_true (is_type A) type_goal e h k = wrong k
+starts_claim_true (has_type t A) (term_goal B) e h k = wrong k
+starts_claim_true (equal_types A B) d e h k = wrong k
+starts_claim_true (equal_terms s t A) d e h k = wrong k
+starts_claim_true c d e h k = wrong h
 
 pub starts_true : (x b e : Statement) → fits x b ≡ true → starts x e ≡ true → e ≡ equate b (head x) (right_head e)
-starts_true (plain c) (plain d) (plain e) h k = ap plain (starts_core_true c d e h k)
+starts_true (plain c) (plain d) (plain e) h k = ap plain (starts_claim_true c d e h k)
 starts_true (plain c) (plain d) (abstracted B e) h k = wrong k
 starts_true (plain c) (abstracted B b) e h k = wrong h
 starts_true (abstracted A x) (plain d) e h k = wrong h
@@ -162,41 +162,41 @@ starts_true (abstracted A x) (abstracted B b) (plain e) h k = wrong k
 starts_true (abstracted A x) (abstracted B b) (abstracted C e) h k =
     let q : (equal_expressions A B ≡ true) × (fits x b ≡ true) = both (equal_expressions A B) (fits x b) h in
     let r : (equal_expressions A C ≡ true) × (starts x e ≡ true) = both (equal_expressions A C) (starts x e) k in
-    ap₂ abstracted (sym (expr_true A C r.0) ∙ expr_true A B q.0) (starts_true x b e q.1 r.1)
+    ap₂ abstracted (sym (expression_true A C r.0) ∙ expression_true A B q.0) (starts_true x b e q.1 r.1)
 
 -- a thesis with a head is its boundary filled with it
-pub refill_core : (c : Claim) → has_head_claim c ≡ true → IsObjectGoal (boundary_of_claim c) × (c ≡ fill_goal (boundary_of_claim c) (head_of_claim c))
-refill_core (is_type A) h = (tt, refl)
-refill_core (has_type t A) h = (tt, refl)
-refill_core c h = wrong h
+pub refill_claim : (c : Claim) → has_head_claim c ≡ true → IsObjectGoal (boundary_of_claim c) × (c ≡ fill_goal (boundary_of_claim c) (head_of_claim c))
+refill_claim (is_type A) h = (tt, refl)
+refill_claim (has_type t A) h = (tt, refl)
+refill_claim c h = wrong h
 
 pub refill : (x : Statement) → has_head x ≡ true → IsObject (boundary_of x) × (x ≡ fill (boundary_of x) (head x))
-refill (plain c) h = ((refill_core c h).0, ap plain (refill_core c h).1)
+refill (plain c) h = ((refill_claim c h).0, ap plain (refill_claim c h).1)
 refill (abstracted A x) h = ((refill x h).0, ap (abstracted A) (refill x h).1)
 
 pub boundary_depth : (x : Statement) → domain_count (boundary_of x) ≡ domain_count x
 boundary_depth (plain c) = refl
 boundary_depth (abstracted A x) = ap suc (boundary_depth x)
 
-pub object_core_true : (c : Claim) → is_object_goal c ≡ true → IsObjectGoal c
-object_core_true type_goal h = tt
-object_core_true (term_goal A) h = tt
-object_core_true c h = wrong h
+pub object_claim_true : (c : Claim) → is_object_goal c ≡ true → IsObjectGoal c
+object_claim_true type_goal h = tt
+object_claim_true (term_goal A) h = tt
+object_claim_true c h = wrong h
 
 pub object_true : (x : Statement) → is_object x ≡ true → IsObject x
-object_true (plain c) h = object_core_true c h
+object_true (plain c) h = object_claim_true c h
 object_true (abstracted A x) h = object_true x h
 
 -- what isn't a thesis is a boundary
-pub boundary_core_kind : (c : Claim) → is_thesis_claim c ≡ false → IsObjectGoal c ⊎ IsEquationGoal c
-boundary_core_kind type_goal h = inl tt
-boundary_core_kind (term_goal A) h = inl tt
-boundary_core_kind (type_equation_goal A B) h = inr tt
-boundary_core_kind (term_equation_goal s t A) h = inr tt
-boundary_core_kind c h = wrong (sym h)
+pub boundary_claim_kind : (c : Claim) → is_thesis_claim c ≡ false → IsObjectGoal c ⊎ IsEquationGoal c
+boundary_claim_kind type_goal h = inl tt
+boundary_claim_kind (term_goal A) h = inl tt
+boundary_claim_kind (type_equation_goal A B) h = inr tt
+boundary_claim_kind (term_equation_goal s t A) h = inr tt
+boundary_claim_kind c h = wrong (sym h)
 
 pub boundary_kind : (x : Statement) → is_thesis x ≡ false → IsObject x ⊎ IsEquation x
-boundary_kind (plain c) h = boundary_core_kind c h
+boundary_kind (plain c) h = boundary_claim_kind c h
 boundary_kind (abstracted A x) h = boundary_kind x h
 
 -- terms at the domains
@@ -207,7 +207,7 @@ typed_true [] (abstracted A b) h = wrong h
 typed_true (plain (has_type t B) ∷ xs) (abstracted A b) h =
     let q : (equal_expressions A B ≡ true) × (typed (opened t (abstracted A b)) xs ≡ true) = both (equal_expressions A B) (typed (opened t (abstracted A b)) xs) h in
     let r : (count (terms xs) ≡ domain_count (opened t (abstracted A b))) × (term_typings (opened t (abstracted A b)) (terms xs) ≡ xs) = typed_true xs (opened t (abstracted A b)) q.1 in
-    (ap suc (r.0 ∙ domain_count-opened (abstracted A b) t (domain_count b) refl), ap₂ (λ C ys. plain (has_type t C) ∷ ys) (expr_true A B q.0) r.1)
+    (ap suc (r.0 ∙ domain_count-opened (abstracted A b) t (domain_count b) refl), ap₂ (λ C ys. plain (has_type t C) ∷ ys) (expression_true A B q.0) r.1)
 typed_true (x ∷ xs) (plain c) h = wrong h
 typed_true (x ∷ xs) (abstracted A b) h = wrong h
 
@@ -219,6 +219,6 @@ paired_true [] (abstracted A b) h = wrong h
 paired_true (plain (equal_terms s t B) ∷ es) (abstracted A b) h =
     let q : (equal_expressions A B ≡ true) × (paired (opened s (abstracted A b)) es ≡ true) = both (equal_expressions A B) (paired (opened s (abstracted A b)) es) h in
     let r : (count (left_terms es) ≡ domain_count (opened s (abstracted A b))) × (count (right_terms es) ≡ domain_count (opened s (abstracted A b))) × (term_equations (opened s (abstracted A b)) (left_terms es) (right_terms es) ≡ es) = paired_true es (opened s (abstracted A b)) q.1 in
-    (ap suc (r.0 ∙ domain_count-opened (abstracted A b) s (domain_count b) refl), ap suc (r.1 ∙ domain_count-opened (abstracted A b) s (domain_count b) refl), ap₂ (λ C ys. plain (equal_terms s t C) ∷ ys) (expr_true A B q.0) r.2)
+    (ap suc (r.0 ∙ domain_count-opened (abstracted A b) s (domain_count b) refl), ap suc (r.1 ∙ domain_count-opened (abstracted A b) s (domain_count b) refl), ap₂ (λ C ys. plain (equal_terms s t C) ∷ ys) (expression_true A B q.0) r.2)
 paired_true (e ∷ es) (plain c) h = wrong h
 paired_true (e ∷ es) (abstracted A b) h = wrong h

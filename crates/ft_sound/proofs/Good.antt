@@ -1,7 +1,6 @@
 -- Each item that is allowed keeps the store well formed.
-use Rattle.std.proofs.Common.{◌≡◌, ◌≢◌, ℕ, zero, suc, ◌<◌, Bool, true, false, cond, nat_lt, ◌&&◌, not, Option, Some, None, List, [], ◌∷◌, ◌++◌, length, ◌⊎◌, inl, inr, refl, sym, ap, ap₂, ◌∙◌, subst, arith, append_assoc, append-nil}
-use Rattle.std.proofs.lemmas.Bool.{ltb-true, lt-ltb}
-use Rattle.std.specs.Prelude.{option_map, option_and_then}
+use Rattle.std.proofs.Common.{◌≡◌, ◌≢◌, ℕ, zero, suc, ◌<◌, Bool, true, false, nat_lt, ◌&&◌, not, Option, Some, None, List, [], ◌∷◌, ◌++◌, length, ◌⊎◌, inl, inr, refl, sym, ap, ◌∙◌, subst, arith, append_assoc, append-nil}
+use Rattle.std.proofs.lemmas.Bool.{ltb-true}
 use Rattle.ft_theory.specs.Statements.{is_type, Statement, plain, abstracted, IsObject, IsEquation}
 use Rattle.ft_theory.specs.Rules.{look_up, Rule, rule_at}
 use Rattle.ft_theory.specs.Steps.{Prim}
@@ -14,16 +13,15 @@ use Rattle.ft_laws.proofs.Finitary.{scoped}
 use Rattle.ft_laws.proofs.Admissible.{finitary_sound, law}
 use Rattle.ft_items.specs.Sets.{Atom, met, var, Has, Within, is_within, same_set, metavariables_only, has}
 use Rattle.ft_items.specs.Equal.{equal_statements, is_thesis, is_plain}
-use Rattle.ft_items.specs.Item.{Name, Entry, Item, variable, metavariable, rule, entry, shown}
-use Rattle.ft_items.specs.Store.{Assertion, Annotation, Declared, Store, nth, each, entry_named, metavariable_named, type_in, claim_in, premises_of, Resolved, resolve, add_variable, add_metavariable, add_rule, add, add_all, empty_store}
+use Rattle.ft_items.specs.Item.{Name, Entry, variable, metavariable, rule, entry}
+use Rattle.ft_items.specs.Store.{Assertion, Annotation, Declared, Store, nth, each, entry_named, metavariable_named, type_in, claim_in, premises_of, Resolved, resolve, add_variable, add_metavariable, add_rule, add}
 use Rattle.ft_items.specs.Rows.{conclusion, result_set, atoms, differ, on_earlier, concludes_thesis}
-use Rattle.ft_items.specs.Good.{Reject, Kind, Premise, Conclusion, Set, Named, Number, Many, Loose, unless, of_kind, same_kind, is_next, is_plain_type, is_new, reason_of_result, reason_of_entry, reason_of_variable, reason_of_metavariable, reason_of_rule, reason_of_shown, reason_in, given, AllowedVariable, AllowedMetavariable, AllowedRule, AllowedEntry, AllowedShown, AllowedIn, GoodAfter}
+use Rattle.ft_items.specs.Good.{Reject, Kind, Premise, Conclusion, Set, Named, Number, Many, Loose, unless, of_kind, same_kind, is_next, is_plain_type, is_new, reason_of_result, reason_of_entry, reason_of_variable, reason_of_metavariable, reason_of_rule, reason_in}
 use Rattle.ft_items.proofs.Lists.{nth_before}
-use Rattle.ft_sound.proofs.KindRows.{conclusion_kind}
-use Rattle.ft_items.proofs.SetLemmas.{both, both_true, not_true, wrong, same_set_true, same_set_self, no_variable, within_true, has_false}
-use Rattle.ft_sound.proofs.EqualLemmas.{stmt_true, stmt_self, boundary_kind}
+use Rattle.ft_items.proofs.SetLemmas.{both, not_true, wrong, same_set_true, no_variable, within_true, has_false}
+use Rattle.ft_sound.proofs.EqualLemmas.{statement_true, boundary_kind}
 use Rattle.ft_sound.proofs.Valid.{Later, Declares, Valid, WellFormed, later_valid, scoped_rules}
-use Rattle.ft_sound.proofs.MetaRows.{AllDeclared, over_premises}
+use Rattle.ft_sound.proofs.InstanceRows.{AllDeclared, over_premises}
 use Rattle.ft_sound.proofs.Steps.{resolved, sound_step, all_declared}
 
 -- an entry states what its step gives
@@ -119,7 +117,7 @@ as_given W e h = go (resolve W e.step) refl h
     result s q kind (Some x) c h =
         let k : (equal_statements x e.statement ≡ true) × (unless (same_set (result_set s) e.set) Set None ≡ None) = unless_none (equal_statements x e.statement) Conclusion (unless (same_set (result_set s) e.set) Set None) h in
         let l : (same_set (result_set s) e.set ≡ true) × (None ≡ None) = unless_none (same_set (result_set s) e.set) Set None k.1 in
-        (s, q, kind, c ∙ ap Some (stmt_true x e.statement k.0), same_set_true (result_set s) e.set l.0)
+        (s, q, kind, c ∙ ap Some (statement_true x e.statement k.0), same_set_true (result_set s) e.set l.0)
 
     go : (o : Option Resolved) → resolve W e.step ≡ o → reason_of_entry W o e ≡ None → StatesWhatItsStepGives W e
     go None q h = nothing (sym h)
@@ -135,7 +133,7 @@ entry_valid W F e h =
 same_rules : (W : Store) (m : ℕ) (R : Rule) → rule_at W.rules m ≡ Some R → rule_at W.rules m ≡ Some R
 same_rules W m R q = q
 
-add_entry : (W : Store) → WellFormed W → (e : Entry) → reason_in W (entry e) ≡ None → WellFormed (add W (entry e))
+pub add_entry : (W : Store) → WellFormed W → (e : Entry) → reason_in W (entry e) ≡ None → WellFormed (add W (entry e))
 add_entry W F e h = later_well_formed W (add W (entry e)) F l F.finitary (λ m d q. inl q) (λ v d q. inl q)
     (λ p a q. entries p a (nth_last W.entries (record { statement = e.statement; set = e.set }) p a q))
   where
@@ -147,12 +145,12 @@ add_entry W F e h = later_well_formed W (add W (entry e)) F l F.finitary (λ m d
     entries p a (inr q) = inr (subst (λ (z : Assertion). Valid (add W (entry e)) z.statement z.set) q.1 (later_valid W (add W (entry e)) e.statement e.set (scoped_rules W F) l (entry_valid W F e h)))
 
 -- a variable
-plain_type : (x : Statement) → is_plain_type x ≡ true → x ≡ plain (is_type (type_in x))
+pub plain_type : (x : Statement) → is_plain_type x ≡ true → x ≡ plain (is_type (type_in x))
 plain_type (plain (is_type A)) h = refl
 plain_type x h = wrong h
 
-add_var : (W : Store) → WellFormed W → (v : ℕ) (n : Name) (p : ℕ) → reason_in W (variable v n p) ≡ None → WellFormed (add W (variable v n p))
-add_var W F v n p h = go (entry_named W p) refl k.1
+pub add_variable_item : (W : Store) → WellFormed W → (v : ℕ) (n : Name) (p : ℕ) → reason_in W (variable v n p) ≡ None → WellFormed (add W (variable v n p))
+add_variable_item W F v n p h = go (entry_named W p) refl k.1
   where
     k : (is_next W.variables v ≡ true) × (reason_of_variable (entry_named W p) ≡ None)
     k = unless_none (is_next W.variables v) Number (reason_of_variable (entry_named W p)) h
@@ -184,8 +182,8 @@ add_var W F v n p h = go (entry_named W p) refl k.1
         case w d (inr q) = inr (subst (λ (z : Annotation). VarHolds X w z) q.1 (valid, λ i j. subst (λ z. i < z) (sym q.0) (below i j)))
 
 -- a metavariable
-add_met : (W : Store) → WellFormed W → (n : Name) (p : ℕ) → reason_in W (metavariable n p) ≡ None → WellFormed (add W (metavariable n p))
-add_met W F n p h = go (entry_named W p) refl h
+pub add_metavariable_item : (W : Store) → WellFormed W → (n : Name) (p : ℕ) → reason_in W (metavariable n p) ≡ None → WellFormed (add W (metavariable n p))
+add_metavariable_item W F n p h = go (entry_named W p) refl h
   where
     go : (o : Option Assertion) → entry_named W p ≡ o → reason_of_metavariable o ≡ None → WellFormed (add_metavariable W n o)
     go None q h = nothing (sym h)
@@ -265,12 +263,12 @@ finitary_last : (D : List Rule → List (ℕ × Statement) → Statement → Typ
 finitary_last D T [] R f h = (subst (λ z. RuleHolds (D z) R) (append-nil T) h, tt)
 finitary_last D T (S ∷ Rs) R f h = (f.0, finitary_last D (T ++ (S ∷ [])) Rs R f.1 (subst (λ z. RuleHolds (D z) R) (sym (append_assoc T (S ∷ []) Rs)) h))
 
-plain_core : (x : Statement) → is_plain x ≡ true → x ≡ plain (claim_in x)
-plain_core (plain c) h = refl
-plain_core (abstracted A x) h = wrong h
+plain_claim : (x : Statement) → is_plain x ≡ true → x ≡ plain (claim_in x)
+plain_claim (plain c) h = refl
+plain_claim (abstracted A x) h = wrong h
 
-add_a_rule : (W : Store) → WellFormed W → (n : Name) (ms : List ℕ) (p : ℕ) → reason_in W (rule n ms p) ≡ None → WellFormed (add W (rule n ms p))
-add_a_rule W F n ms p h = go (each (metavariable_named W) ms) refl (entry_named W p) refl k.1
+pub add_rule_item : (W : Store) → WellFormed W → (n : Name) (ms : List ℕ) (p : ℕ) → reason_in W (rule n ms p) ≡ None → WellFormed (add W (rule n ms p))
+add_rule_item W F n ms p h = go (each (metavariable_named W) ms) refl (entry_named W p) refl k.1
   where
     j : (is_new W.names n ≡ true) × (unless (nat_lt (length W.rules) 65536) Many (reason_of_rule (each (metavariable_named W) ms) (entry_named W p)) ≡ None)
     j = unless_none (is_new W.names n) Named (unless (nat_lt (length W.rules) 65536) Many (reason_of_rule (each (metavariable_named W) ms) (entry_named W p))) h
@@ -308,7 +306,7 @@ add_a_rule W F n ms p h = go (each (metavariable_named W) ms) refl (entry_named 
         dm = all_declared W F ms ds i
 
         e : a.statement ≡ plain (claim_in a.statement)
-        e = plain_core a.statement t1.1
+        e = plain_claim a.statement t1.1
 
         holds : (n : ℕ) → RuleHolds (λ M x. DerUpTo n W.rules M [] x) R
         holds n = (
@@ -323,155 +321,3 @@ add_a_rule W F n ms p h = go (each (metavariable_named W) ms) refl (entry_named 
 
         l : Later W X
         l = record { rules = λ r S q. rule_before W.rules (R ∷ []) r S q; metavariables = λ m d q. q; variables = λ u d q. q }
-
--- allowed, by the tests
-none_of : (b : Bool) (why : Reject) (next : Option Reject) → b ≡ true → next ≡ None → unless b why next ≡ None
-none_of true why next h e = e
-none_of false why next h e = wrong h
-
-not_false : (b : Bool) → b ≡ false → not b ≡ true
-not_false true h = wrong (sym h)
-not_false false h = refl
-
-plain_type_thesis : (x : Statement) → is_plain_type x ≡ true → is_thesis x ≡ true
-plain_type_thesis (plain (is_type A)) h = refl
-plain_type_thesis x h = wrong h
-
-variable_reason : (W : Store) (v p : ℕ) → AllowedVariable W v p → unless (is_next W.variables v) Number (reason_of_variable (entry_named W p)) ≡ None
-variable_reason W v p h = none_of (is_next W.variables v) Number (reason_of_variable (entry_named W p)) h.0
-    (ap reason_of_variable h.2 ∙ none_of (is_thesis h.1.statement) Kind (unless (is_plain_type h.1.statement) Premise None) (plain_type_thesis h.1.statement h.3) (none_of (is_plain_type h.1.statement) Premise None h.3 refl))
-
-metavariable_reason : (W : Store) (p : ℕ) → AllowedMetavariable W p → reason_of_metavariable (entry_named W p) ≡ None
-metavariable_reason W p h = ap reason_of_metavariable h.1 ∙ none_of (not (is_thesis h.0.statement)) Kind (unless (metavariables_only h.0.set) Loose None) (not_false (is_thesis h.0.statement) h.2) (none_of (metavariables_only h.0.set) Loose None h.3 refl)
-
-rule_reason : (W : Store) (n : Name) (ms : List ℕ) (p : ℕ) → AllowedRule W n ms p → reason_in W (rule n ms p) ≡ None
-rule_reason W n ms p h =
-    let ds : List (ℕ × Declared) = h.2 in
-    let a : Assertion = h.4 in
-    none_of (is_new W.names n) Named (unless (nat_lt (length W.rules) 65536) Many (reason_of_rule (each (metavariable_named W) ms) (entry_named W p))) h.0
-    (none_of (nat_lt (length W.rules) 65536) Many (reason_of_rule (each (metavariable_named W) ms) (entry_named W p)) (lt-ltb (length W.rules) 65536 h.1)
-    (ap₂ reason_of_rule h.3 h.5
-    ∙ none_of ((differ (atoms ds) && not (is_thesis a.statement)) && is_plain a.statement) Kind (unless (on_earlier [] ds && is_within a.set (atoms ds)) Loose None)
-    (both_true (differ (atoms ds) && not (is_thesis a.statement)) (is_plain a.statement) (both_true (differ (atoms ds)) (not (is_thesis a.statement)) h.6 (not_false (is_thesis a.statement) h.7)) h.8)
-    (none_of (on_earlier [] ds && is_within a.set (atoms ds)) Loose None (both_true (on_earlier [] ds) (is_within a.set (atoms ds)) h.9 h.10) refl)))
-
-shown_reason : (W : Store) (p : ℕ) → AllowedShown W p → reason_of_shown (entry_named W p) ≡ None
-shown_reason W p h = ap reason_of_shown h.1 ∙ none_of (is_thesis h.0.statement) Kind None h.2 refl
-
-abbrev statement_of : Assertion → Statement
-statement_of p = p.statement
-
-abbrev set_of : Assertion → List Atom
-set_of p = p.set
-
--- what a step gives, taken apart
-allowed_states : (W : Store) (e : Entry) → AllowedEntry W e → StatesWhatItsStepGives W e
-allowed_states W e h = go (resolve W e.step) refl h
-  where
-    E : Assertion
-    E = record { statement = e.statement; set = e.set }
-
-    concluded : (s : Resolved) → resolve W e.step ≡ Some s → of_kind s ≡ true → (o : Option Statement) → conclusion W s ≡ o → option_map (λ x. record { statement = x; set = result_set s }) o ≡ Some E → StatesWhatItsStepGives W e
-    concluded s q k None c h = nothing h
-    concluded s q k (Some x) c h =
-        let i : record { statement = x; set = result_set s } ≡ E = some_path (record { statement = x; set = result_set s }) E h in
-        (s, q, k, c ∙ ap Some (ap statement_of i), ap set_of i)
-
-    tested : (s : Resolved) → resolve W e.step ≡ Some s → (b : Bool) → of_kind s ≡ b → cond b (option_map (λ x. record { statement = x; set = result_set s }) (conclusion W s)) None ≡ Some E → StatesWhatItsStepGives W e
-    tested s q true k h = concluded s q k (conclusion W s) refl h
-    tested s q false k h = nothing h
-
-    go : (o : Option Resolved) → resolve W e.step ≡ o → option_and_then (given W) o ≡ Some E → StatesWhatItsStepGives W e
-    go None q h = nothing h
-    go (Some s) q h = tested s q (of_kind s) refl h
-
-states_allowed : (W : Store) (e : Entry) → StatesWhatItsStepGives W e → AllowedEntry W e
-states_allowed W e h =
-    ap (option_and_then (given W)) h.1
-    ∙ ap (λ b. cond b (option_map (λ x. record { statement = x; set = result_set h.0 }) (conclusion W h.0)) None) h.2
-    ∙ ap (option_map (λ x. record { statement = x; set = result_set h.0 })) h.3
-    ∙ ap (λ S. Some (record { statement = e.statement; set = S })) h.4
-
-kinds_agree : (a b : Bool) → b ≡ a → same_kind a b ≡ true
-kinds_agree true b e = e
-kinds_agree false b e = not_false b e
-
-entry_reason : (W : Store) → WellFormed W → (e : Entry) → AllowedEntry W e → reason_in W (entry e) ≡ None
-entry_reason W F e h =
-    let g : StatesWhatItsStepGives W e = allowed_states W e h in
-    ap (λ o. reason_of_entry W o e) g.1
-    ∙ none_of (of_kind g.0 && same_kind (concludes_thesis g.0) (is_thesis e.statement)) Kind (reason_of_result (conclusion W g.0) (result_set g.0) e)
-    (both_true (of_kind g.0) (same_kind (concludes_thesis g.0) (is_thesis e.statement)) g.2 (kinds_agree (concludes_thesis g.0) (is_thesis e.statement) (conclusion_kind W F g.0 (resolved W F e.step g.0 g.1) g.2 e.statement g.3)))
-    (ap (λ o. reason_of_result o (result_set g.0) e) g.3
-    ∙ none_of (equal_statements e.statement e.statement) Conclusion (unless (same_set (result_set g.0) e.set) Set None) (stmt_self e.statement)
-    (none_of (same_set (result_set g.0) e.set) Set None (subst (λ S. same_set S e.set ≡ true) (sym g.4) (same_set_self e.set)) refl))
-
-pub no_reason : (W : Store) → WellFormed W → (i : Item) → AllowedIn W i → reason_in W i ≡ None
-no_reason W F (variable v n p) h = variable_reason W v p h
-no_reason W F (metavariable n p) h = metavariable_reason W p h
-no_reason W F (rule n ms p) h = rule_reason W n ms p h
-no_reason W F (entry e) h = entry_reason W F e h
-no_reason W F (shown p) h = shown_reason W p h
-
--- and back
-variable_allowed : (W : Store) (v p : ℕ) → unless (is_next W.variables v) Number (reason_of_variable (entry_named W p)) ≡ None → AllowedVariable W v p
-variable_allowed W v p h = let k : (is_next W.variables v ≡ true) × (reason_of_variable (entry_named W p) ≡ None) = unless_none (is_next W.variables v) Number (reason_of_variable (entry_named W p)) h in go k.0 (entry_named W p) refl k.1
-  where
-    go : is_next W.variables v ≡ true → (o : Option Assertion) → entry_named W p ≡ o → reason_of_variable o ≡ None → AllowedVariable W v p
-    go n None q h = nothing (sym h)
-    go n (Some a) q h =
-        let t : (is_thesis a.statement ≡ true) × (unless (is_plain_type a.statement) Premise None ≡ None) = unless_none (is_thesis a.statement) Kind (unless (is_plain_type a.statement) Premise None) h in
-        (n, a, q, (unless_none (is_plain_type a.statement) Premise None t.1).0)
-
-metavariable_allowed : (W : Store) (p : ℕ) → reason_of_metavariable (entry_named W p) ≡ None → AllowedMetavariable W p
-metavariable_allowed W p h = go (entry_named W p) refl h
-  where
-    go : (o : Option Assertion) → entry_named W p ≡ o → reason_of_metavariable o ≡ None → AllowedMetavariable W p
-    go None q h = nothing (sym h)
-    go (Some a) q h =
-        let t : (not (is_thesis a.statement) ≡ true) × (unless (metavariables_only a.set) Loose None ≡ None) = unless_none (not (is_thesis a.statement)) Kind (unless (metavariables_only a.set) Loose None) h in
-        (a, q, not_true (is_thesis a.statement) t.0, (unless_none (metavariables_only a.set) Loose None t.1).0)
-
-rule_allowed : (W : Store) (n : Name) (ms : List ℕ) (p : ℕ) → reason_in W (rule n ms p) ≡ None → AllowedRule W n ms p
-rule_allowed W n ms p h =
-    let j : (is_new W.names n ≡ true) × (unless (nat_lt (length W.rules) 65536) Many (reason_of_rule (each (metavariable_named W) ms) (entry_named W p)) ≡ None) = unless_none (is_new W.names n) Named (unless (nat_lt (length W.rules) 65536) Many (reason_of_rule (each (metavariable_named W) ms) (entry_named W p))) h in
-    let k : (nat_lt (length W.rules) 65536 ≡ true) × (reason_of_rule (each (metavariable_named W) ms) (entry_named W p) ≡ None) = unless_none (nat_lt (length W.rules) 65536) Many (reason_of_rule (each (metavariable_named W) ms) (entry_named W p)) j.1 in
-    go j.0 (ltb-true (length W.rules) 65536 k.0) (each (metavariable_named W) ms) refl (entry_named W p) refl k.1
-  where
-    go : is_new W.names n ≡ true → length W.rules < 65536 → (os : Option (List (ℕ × Declared))) → each (metavariable_named W) ms ≡ os → (o : Option Assertion) → entry_named W p ≡ o → reason_of_rule os o ≡ None → AllowedRule W n ms p
-    go nn l None i o q h = nothing (sym h)
-    go nn l (Some ds) i None q h = nothing (sym h)
-    go nn l (Some ds) i (Some a) q h =
-        let t : (((differ (atoms ds) && not (is_thesis a.statement)) && is_plain a.statement) ≡ true) × (unless (on_earlier [] ds && is_within a.set (atoms ds)) Loose None ≡ None) = unless_none ((differ (atoms ds) && not (is_thesis a.statement)) && is_plain a.statement) Kind (unless (on_earlier [] ds && is_within a.set (atoms ds)) Loose None) h in
-        let t1 : ((differ (atoms ds) && not (is_thesis a.statement)) ≡ true) × (is_plain a.statement ≡ true) = both (differ (atoms ds) && not (is_thesis a.statement)) (is_plain a.statement) t.0 in
-        let t2 : (differ (atoms ds) ≡ true) × (not (is_thesis a.statement) ≡ true) = both (differ (atoms ds)) (not (is_thesis a.statement)) t1.0 in
-        let u1 : (on_earlier [] ds ≡ true) × (is_within a.set (atoms ds) ≡ true) = both (on_earlier [] ds) (is_within a.set (atoms ds)) (unless_none (on_earlier [] ds && is_within a.set (atoms ds)) Loose None t.1).0 in
-        (nn, l, ds, i, a, q, t2.0, not_true (is_thesis a.statement) t2.1, t1.1, u1.0, u1.1)
-
-shown_allowed : (W : Store) (p : ℕ) → reason_of_shown (entry_named W p) ≡ None → AllowedShown W p
-shown_allowed W p h = go (entry_named W p) refl h
-  where
-    go : (o : Option Assertion) → entry_named W p ≡ o → reason_of_shown o ≡ None → AllowedShown W p
-    go None q h = nothing (sym h)
-    go (Some a) q h = (a, q, (unless_none (is_thesis a.statement) Kind None h).0)
-
-pub allowed : (W : Store) (i : Item) → reason_in W i ≡ None → AllowedIn W i
-allowed W (variable v n p) h = variable_allowed W v p h
-allowed W (metavariable n p) h = metavariable_allowed W p h
-allowed W (rule n ms p) h = rule_allowed W n ms p h
-allowed W (entry e) h = states_allowed W e (as_given W e h)
-allowed W (shown p) h = shown_allowed W p h
-
-pub well_formed_add : (W : Store) → WellFormed W → (i : Item) → AllowedIn W i → WellFormed (add W i)
-well_formed_add W F (variable v n p) h = add_var W F v n p (variable_reason W v p h)
-well_formed_add W F (metavariable n p) h = add_met W F n p (metavariable_reason W p h)
-well_formed_add W F (rule n ms p) h = add_a_rule W F n ms p (rule_reason W n ms p h)
-well_formed_add W F (entry e) h = add_entry W F e (entry_reason W F e h)
-well_formed_add W F (shown p) h = F
-
-pub well_formed_all : (W : Store) → WellFormed W → (items : List Item) → GoodAfter W items → WellFormed (add_all W items)
-well_formed_all W F [] g = F
-well_formed_all W F (i ∷ items) g = well_formed_all (add W i) (well_formed_add W F i g.0) items g.1
-
-pub well_formed_empty : WellFormed empty_store
-well_formed_empty = record { finitary = λ k. tt; metavariables = λ m d q. nothing q; variables = λ v d q. nothing q; entries = λ p a q. nothing q }

@@ -18,84 +18,84 @@ use Rattle.ft_items.specs.Rows.{statements, bounds, conclusion, concludes_thesis
 use Rattle.ft_items.specs.Rows as row
 use Rattle.ft_items.specs.Good.{all_theses, of_kind}
 use Rattle.ft_items.proofs.SetLemmas.{both}
-use Rattle.ft_sound.proofs.EqualLemmas.{refill, object_true, object_core_true}
+use Rattle.ft_sound.proofs.EqualLemmas.{refill, object_true, object_claim_true}
 use Rattle.ft_sound.proofs.Valid.{WellFormed, sound_rules}
 use Rattle.ft_sound.proofs.Structural.{from_when}
 use Rattle.ft_sound.proofs.Steps.{Parts}
 
-fill_core_kind : (c : Claim) (h : Expression) → is_thesis_claim (fill_goal c h) ≡ true
-fill_core_kind (is_type A) h = refl
-fill_core_kind (has_type t A) h = refl
-fill_core_kind (equal_types A B) h = refl
-fill_core_kind (equal_terms s t A) h = refl
-fill_core_kind type_goal h = refl
-fill_core_kind (term_goal A) h = refl
-fill_core_kind (type_equation_goal A B) h = refl
-fill_core_kind (term_equation_goal s t A) h = refl
+fill_claim_kind : (c : Claim) (h : Expression) → is_thesis_claim (fill_goal c h) ≡ true
+fill_claim_kind (is_type A) h = refl
+fill_claim_kind (has_type t A) h = refl
+fill_claim_kind (equal_types A B) h = refl
+fill_claim_kind (equal_terms s t A) h = refl
+fill_claim_kind type_goal h = refl
+fill_claim_kind (term_goal A) h = refl
+fill_claim_kind (type_equation_goal A B) h = refl
+fill_claim_kind (term_equation_goal s t A) h = refl
 
 fill_kind : (b : Statement) (h : Expression) → is_thesis (fill b h) ≡ true
-fill_kind (plain c) h = fill_core_kind c h
+fill_kind (plain c) h = fill_claim_kind c h
 fill_kind (abstracted A b) h = fill_kind b h
 
-equate_core_kind : (c : Claim) (h k : Expression) → IsObjectGoal c → is_thesis_claim (equate_goal c h k) ≡ true
-equate_core_kind type_goal h k o = refl
-equate_core_kind (term_goal A) h k o = refl
-equate_core_kind (is_type A) h k o = refl
-equate_core_kind (has_type t A) h k o = refl
-equate_core_kind (equal_types A B) h k o = refl
-equate_core_kind (equal_terms s t A) h k o = refl
-equate_core_kind (type_equation_goal A B) h k o = absurd o
-equate_core_kind (term_equation_goal s t A) h k o = absurd o
+equate_claim_kind : (c : Claim) (h k : Expression) → IsObjectGoal c → is_thesis_claim (equate_goal c h k) ≡ true
+equate_claim_kind type_goal h k o = refl
+equate_claim_kind (term_goal A) h k o = refl
+equate_claim_kind (is_type A) h k o = refl
+equate_claim_kind (has_type t A) h k o = refl
+equate_claim_kind (equal_types A B) h k o = refl
+equate_claim_kind (equal_terms s t A) h k o = refl
+equate_claim_kind (type_equation_goal A B) h k o = absurd o
+equate_claim_kind (term_equation_goal s t A) h k o = absurd o
 
 equate_kind : (b : Statement) (h k : Expression) → IsObject b → is_thesis (equate b h k) ≡ true
-equate_kind (plain c) h k o = equate_core_kind c h k o
+equate_kind (plain c) h k o = equate_claim_kind c h k o
 equate_kind (abstracted A b) h k o = equate_kind b h k o
 
-map_core_kind : (c : Claim) (f : Expression → Expression) → is_thesis_claim (map_claim f c) ≡ is_thesis_claim c
-map_core_kind (is_type A) f = refl
-map_core_kind (has_type t A) f = refl
-map_core_kind (equal_types A B) f = refl
-map_core_kind (equal_terms s t A) f = refl
-map_core_kind type_goal f = refl
-map_core_kind (term_goal A) f = refl
-map_core_kind (type_equation_goal A B) f = refl
-map_core_kind (term_equation_goal s t A) f = refl
+map_claim_kind : (c : Claim) (f : Expression → Expression) → is_thesis_claim (map_claim f c) ≡ is_thesis_claim c
+map_claim_kind (is_type A) f = refl
+map_claim_kind (has_type t A) f = refl
+map_claim_kind (equal_types A B) f = refl
+map_claim_kind (equal_terms s t A) f = refl
+map_claim_kind type_goal f = refl
+map_claim_kind (term_goal A) f = refl
+map_claim_kind (type_equation_goal A B) f = refl
+map_claim_kind (term_equation_goal s t A) f = refl
 
 map_kind : (x : Statement) (f : ℕ → Expression → Expression) (k : ℕ) → is_thesis (map_statement f k x) ≡ is_thesis x
-map_kind (plain c) f k = map_core_kind c (f k)
+map_kind (plain c) f k = map_claim_kind c (f k)
 map_kind (abstracted A x) f k = map_kind x f (suc k)
 
-boundary_core_kind : (c : Claim) → is_thesis_claim (boundary_of_claim c) ≡ false
-boundary_core_kind (is_type A) = refl
-boundary_core_kind (has_type t A) = refl
-boundary_core_kind (equal_types A B) = refl
-boundary_core_kind (equal_terms s t A) = refl
-boundary_core_kind type_goal = refl
-boundary_core_kind (term_goal A) = refl
-boundary_core_kind (type_equation_goal A B) = refl
-boundary_core_kind (term_equation_goal s t A) = refl
+boundary_claim_kind : (c : Claim) → is_thesis_claim (boundary_of_claim c) ≡ false
+boundary_claim_kind (is_type A) = refl
+boundary_claim_kind (has_type t A) = refl
+boundary_claim_kind (equal_types A B) = refl
+boundary_claim_kind (equal_terms s t A) = refl
+boundary_claim_kind type_goal = refl
+boundary_claim_kind (term_goal A) = refl
+boundary_claim_kind (type_equation_goal A B) = refl
+boundary_claim_kind (term_equation_goal s t A) = refl
 
 boundary_of_kind : (x : Statement) → is_thesis (boundary_of x) ≡ false
-boundary_of_kind (plain c) = boundary_core_kind c
+boundary_of_kind (plain c) = boundary_claim_kind c
 boundary_of_kind (abstracted A x) = boundary_of_kind x
 
-core_boundary : (c : Claim) → IsObjectGoal c ⊎ IsEquationGoal c → is_thesis_claim c ≡ false
-core_boundary type_goal h = refl
-core_boundary (term_goal A) h = refl
-core_boundary (type_equation_goal A B) h = refl
-core_boundary (term_equation_goal s t A) h = refl
-core_boundary (is_type A) (inl h) = absurd h
-core_boundary (is_type A) (inr h) = absurd h
-core_boundary (has_type t A) (inl h) = absurd h
-core_boundary (has_type t A) (inr h) = absurd h
-core_boundary (equal_types A B) (inl h) = absurd h
-core_boundary (equal_types A B) (inr h) = absurd h
-core_boundary (equal_terms s t A) (inl h) = absurd h
-core_boundary (equal_terms s t A) (inr h) = absurd h
+claim_boundary : (c : Claim) → IsObjectGoal c ⊎ IsEquationGoal c → is_thesis_claim c ≡ false
+claim_boundary type_goal h = refl
+claim_boundary (term_goal A) h = refl
+claim_boundary (type_equation_goal A B) h = refl
+claim_boundary (term_equation_goal s t A) h = refl
+claim_boundary (is_type A) (inl h) = absurd h
+claim_boundary (is_type A) (inr h) = absurd h
+claim_boundary (has_type t A) (inl h) = absurd h
+claim_boundary (has_type t A) (inr h) = absurd h
+claim_boundary (equal_types A B) (inl h) = absurd h
+claim_boundary (equal_types A B) (inr h) = absurd h
+claim_boundary (equal_terms s t A) (inl h) = absurd h
+claim_boundary (equal_terms s t A) (inr h) = absurd h
 
-stmt_boundary : (x : Statement) → IsObject x ⊎ IsEquation x → is_thesis x ≡ false
-stmt_boundary (plain c) h = core_boundary c h
-stmt_boundary (abstracted A x) h = stmt_boundary x h
+statement_boundary : (x : Statement) → IsObject x ⊎ IsEquation x → is_thesis x ≡ false
+statement_boundary (plain c) h = claim_boundary c h
+statement_boundary (abstracted A x) h = statement_boundary x h
 
 at_kind : (a : Terms) (x : Statement) → IsObject x → IsObject (at x a)
 at_kind a x o = Rattle.ft_laws.proofs.Scope.object-at a x o
@@ -186,11 +186,11 @@ abbrev AllTheses : List Statement → Type 0
 AllTheses [] = Unit {0}
 AllTheses (x ∷ xs) = Thesis x × AllTheses xs
 
-demands_kind : (i : ℕ → ℕ → Option Expression) (ps : List (ℕ × Statement)) (a : Arguments) → AllTheses (filled_premises i ps a)
-demands_kind i [] a = tt
-demands_kind i (p ∷ ps) no_arguments = tt
-demands_kind i (p ∷ ps) (with_body n e a) = (fill_kind (act_statement free i p.1) e, demands_kind i ps a)
-demands_kind i (p ∷ ps) (dummy n a) = (fill_kind (act_statement free i p.1) (bound zero), demands_kind i ps a)
+filled_kind : (i : ℕ → ℕ → Option Expression) (ps : List (ℕ × Statement)) (a : Arguments) → AllTheses (filled_premises i ps a)
+filled_kind i [] a = tt
+filled_kind i (p ∷ ps) no_arguments = tt
+filled_kind i (p ∷ ps) (with_body n e a) = (fill_kind (act_statement free i p.1) e, filled_kind i ps a)
+filled_kind i (p ∷ ps) (dummy n a) = (fill_kind (act_statement free i p.1) (bound zero), filled_kind i ps a)
 
 typings_kind : (a : Terms) (x : Statement) → AllTheses (term_typings x a)
 typings_kind no_terms x = tt
@@ -212,7 +212,7 @@ arguments_kind W (symbol r a) = go (rule_at W.rules r)
   where
     go : (o : Option Rule) → AllTheses (row.rule_arguments o a)
     go None = tt
-    go (Some R) = demands_kind (instance_of R.premises a) R.premises a
+    go (Some R) = filled_kind (instance_of R.premises a) R.premises a
 arguments_kind W (meta m a) = go (nth W.metavariables m)
   where
     go : (o : Option Declared) → AllTheses (row.meta_arguments o a)
@@ -234,7 +234,7 @@ natural_kind W x y e = nothing e
 
 moved_kind : (ps : List (ℕ × Statement)) (a c : Arguments) (later : List (ℕ × Statement)) (x y : Statement) → row.moved ps a c later x ≡ Some y → Thesis y
 moved_kind ps a c [] x y e = nothing e
-moved_kind ps a c (q ∷ qs) x y e = from_when Thesis (fits x (row.at_args ps a q.1)) (fill (row.at_args ps c q.1) (head x)) y e (λ h. fill_kind (row.at_args ps c q.1) (head x))
+moved_kind ps a c (q ∷ qs) x y e = from_when Thesis (fits x (row.at_arguments ps a q.1)) (fill (row.at_arguments ps c q.1) (head x)) y e (λ h. fill_kind (row.at_arguments ps c q.1) (head x))
 
 cond_kind : (b : Bool) (o : Option Statement) (y : Statement) → cond b o None ≡ Some y → o ≡ Some y
 cond_kind true o y e = e
@@ -245,10 +245,10 @@ instance_kind W F r R q xs y e = from_when (λ z. is_thesis z ≡ false) (row.ar
     (λ h. go (row.first_premises R xs) (row.later_premises R xs) (take-append-drop (length xs) R.premises))
   where
     go : (ps later : List (ℕ × Statement)) → ps ++ later ≡ R.premises → is_thesis (row.next_boundary R ps (heads xs) later) ≡ false
-    go ps [] w = map_core_kind R.conclusion (act free (instance_of R.premises (heads xs))) ∙ core_boundary R.conclusion (sound_rules W F r R q).1
+    go ps [] w = map_claim_kind R.conclusion (act free (instance_of R.premises (heads xs))) ∙ claim_boundary R.conclusion (sound_rules W F r R q).1
     go ps (n ∷ later) w =
         map_kind n.1 (λ l. act free (instance_of ps (heads xs))) zero
-        ∙ stmt_boundary n.1 (premise_at (λ M x. Prim W.rules M [] x) [] ps n later (subst (PremisesHold (λ M x. Prim W.rules M [] x) []) (sym w) (sound_rules W F r R q).0)).0
+        ∙ statement_boundary n.1 (premise_at (λ M x. Prim W.rules M [] x) [] ps n later (subst (PremisesHold (λ M x. Prim W.rules M [] x) []) (sym w) (sound_rules W F r R q).0)).0
 
 pub conclusion_kind : (W : Store) (F : WellFormed W) (s : Resolved) → Parts W F s → of_kind s ≡ true → (y : Statement) → conclusion W s ≡ Some y → is_thesis y ≡ concludes_thesis s
 conclusion_kind W F (by_var v) h k y e = subst Thesis (some_path (plain (has_type (free v.0) v.1.annotation)) y e) refl
@@ -278,20 +278,20 @@ conclusion_kind W F by_btype h k y e = subst (λ z. is_thesis z ≡ false) (some
 conclusion_kind W F (by_bterm p) h k y e = term_boundary_kind p.statement y e
 conclusion_kind W F (by_beqty p q) h k y e = type_equation_boundary_kind p.statement q.statement y e
 conclusion_kind W F (by_beqtm p s t) h k y e = term_equation_boundary_kind p.statement s.statement t.statement y e
-conclusion_kind W F (by_rule r ps) h k y e = from_when Thesis (row.are_arguments r.1.premises (statements ps)) (plain (fill_goal (conclusion_at r.1 (heads (statements ps))) (symbol r.0 (heads (statements ps))))) y e (λ t. fill_core_kind (conclusion_at r.1 (heads (statements ps))) (symbol r.0 (heads (statements ps))))
-conclusion_kind W F (by_rulewith r b ps) h k y e = from_when Thesis (row.are_arguments r.1.premises (statements ps) && equal_statements b.statement (plain (conclusion_at r.1 (heads (statements ps))))) (plain (fill_goal (conclusion_at r.1 (heads (statements ps))) (symbol r.0 (heads (statements ps))))) y e (λ t. fill_core_kind (conclusion_at r.1 (heads (statements ps))) (symbol r.0 (heads (statements ps))))
+conclusion_kind W F (by_rule r ps) h k y e = from_when Thesis (row.are_arguments r.1.premises (statements ps)) (plain (fill_goal (conclusion_at r.1 (heads (statements ps))) (symbol r.0 (heads (statements ps))))) y e (λ t. fill_claim_kind (conclusion_at r.1 (heads (statements ps))) (symbol r.0 (heads (statements ps))))
+conclusion_kind W F (by_rulewith r b ps) h k y e = from_when Thesis (row.are_arguments r.1.premises (statements ps) && equal_statements b.statement (plain (conclusion_at r.1 (heads (statements ps))))) (plain (fill_goal (conclusion_at r.1 (heads (statements ps))) (symbol r.0 (heads (statements ps))))) y e (λ t. fill_claim_kind (conclusion_at r.1 (heads (statements ps))) (symbol r.0 (heads (statements ps))))
 conclusion_kind W F (by_inst r ps) h k y e = instance_kind W F r.0 r.1 h.0 (statements ps) y e
 conclusion_kind W F (by_cong r ps es) h k y e =
     let c : Claim = conclusion_at r.1 (heads (statements ps)) in
     let l : Expression = symbol r.0 (heads (statements ps)) in
     let s : Expression = symbol r.0 (right_heads (statements ps) (statements es)) in
     from_when Thesis ((is_object_goal r.1.conclusion && row.are_arguments r.1.premises (statements ps)) && start_all (statements ps) (statements es)) (plain (equate_goal c l s)) y e
-    (λ t. equate_core_kind c l s (object_core-map r.1.conclusion (act free (instance_of r.1.premises (heads (statements ps))))
-    (object_core_true r.1.conclusion (both (is_object_goal r.1.conclusion) (row.are_arguments r.1.premises (statements ps)) (both (is_object_goal r.1.conclusion && row.are_arguments r.1.premises (statements ps)) (start_all (statements ps) (statements es)) t).0).0)))
+    (λ t. equate_claim_kind c l s (object_core-map r.1.conclusion (act free (instance_of r.1.premises (heads (statements ps))))
+    (object_claim_true r.1.conclusion (both (is_object_goal r.1.conclusion) (row.are_arguments r.1.premises (statements ps)) (both (is_object_goal r.1.conclusion && row.are_arguments r.1.premises (statements ps)) (start_all (statements ps) (statements es)) t).0).0)))
 conclusion_kind W F (by_convprem r ps es q) h k y e = moved_kind (row.first_premises r.1 (statements ps)) (heads (statements ps)) (right_heads (statements ps) (statements es)) (row.later_premises r.1 (statements ps)) q.statement y
     (cond_kind (row.are_arguments (row.first_premises r.1 (statements ps)) (statements ps) && start_all (statements ps) (statements es)) (row.moved (row.first_premises r.1 (statements ps)) (heads (statements ps)) (right_heads (statements ps) (statements es)) (row.later_premises r.1 (statements ps)) q.statement) y e)
 conclusion_kind W F (by_convback r ps es q) h k y e = moved_kind (row.first_premises r.1 (statements ps)) (right_heads (statements ps) (statements es)) (heads (statements ps)) (row.later_premises r.1 (statements ps)) q.statement y
     (cond_kind (row.are_arguments (row.first_premises r.1 (statements ps)) (statements ps) && start_all (statements ps) (statements es)) (row.moved (row.first_premises r.1 (statements ps)) (right_heads (statements ps) (statements es)) (heads (statements ps)) (row.later_premises r.1 (statements ps)) q.statement) y e)
 conclusion_kind W F (by_arg i p) h k y e = argument_kind W i p.statement y e
 conclusion_kind W F (by_natural p) h k y e = natural_kind W p.statement y e
-conclusion_kind W F (by_metainst p ms qs) h k y e = from_when (λ z. is_thesis z ≡ is_thesis p.statement) (((row.differ (row.atoms ms) && row.on_earlier [] ms) && Rattle.ft_items.specs.Sets.is_within p.set (row.atoms ms)) && row.are_arguments (premises_of ms) (statements qs)) (row.at_args (premises_of ms) (heads (statements qs)) p.statement) y e (λ t. map_kind p.statement (λ l. act free (instance_of (premises_of ms) (heads (statements qs)))) zero)
+conclusion_kind W F (by_metainst p ms qs) h k y e = from_when (λ z. is_thesis z ≡ is_thesis p.statement) (((row.differ (row.atoms ms) && row.on_earlier [] ms) && Rattle.ft_items.specs.Sets.is_within p.set (row.atoms ms)) && row.are_arguments (premises_of ms) (statements qs)) (row.at_arguments (premises_of ms) (heads (statements qs)) p.statement) y e (λ t. map_kind p.statement (λ l. act free (instance_of (premises_of ms) (heads (statements qs)))) zero)

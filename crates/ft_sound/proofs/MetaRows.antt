@@ -1,32 +1,28 @@
 -- The rows of the steps that name a variable or a metavariable.
 use Rattle.std.proofs.Common.{◌≡◌, ◌≢◌, ℕ, zero, suc, ◌+◌, ◌<◌, ◌≤◌, Bool, true, false, cond, nat_eq, ◌&&◌, not, Option, Some, None, List, [], ◌∷◌, ◌++◌, ◌⊎◌, inl, inr, refl, sym, ap, ap₂, ◌∙◌, subst, arith}
-use Rattle.std.specs.Prelude.{option_map}
 use Rattle.std.proofs.lemmas.Bool.{eqb-true}
 use Rattle.ft_theory.specs.Expressions.{Expression, bound, free, symbol, meta, Arguments, Terms, no_terms, also, count, open_at, open_terms, ClosedAt}
-use Rattle.ft_theory.specs.Statements.{Claim, is_type, has_type, equal_types, type_goal, term_goal, Statement, plain, abstracted, close_statement, opened, domain, domain_count, at, fill, equate, IsObject, IsEquation}
-use Rattle.ft_theory.specs.Rules.{look_up, Rule, rule_at, instance_of, FitsPremises, filled_premises, term_typings, term_equations, conclusion_at}
+use Rattle.ft_theory.specs.Statements.{is_type, has_type, Statement, plain, abstracted, close_statement, opened, domain, domain_count, at, fill, equate, IsObject, IsEquation}
+use Rattle.ft_theory.specs.Rules.{look_up, Rule, term_typings, term_equations}
 use Rattle.ft_theory.specs.Steps.{sequent, sequents, IsVariableFree, Unmentioned, Step, metavariable, metavariable_equation, abstraction, Trees, node, none, more, Prim}
-use Rattle.ft_theory.specs.WideSteps.{Member, here, there, metavariable_at_equal_terms, argument_in_type, argument_in_term, term_in_type, term_in_term, natural_variable, natural_symbol, natural_metavariable}
+use Rattle.ft_theory.specs.WideSteps.{metavariable_at_equal_terms}
 use Rattle.ft_laws.proofs.Opens.{same, other, by_test}
 use Rattle.ft_laws.proofs.Fresh.{some_path, fresh_absent}
-use Rattle.ft_laws.proofs.Rules.{nothing, whole_instance}
 use Rattle.ft_laws.proofs.Commute.{ScopedTheory}
-use Rattle.ft_laws.proofs.Scope.{scope, equation-at, InVars, InMets}
+use Rattle.ft_laws.proofs.Scope.{scope, equation-at}
 use Rattle.ft_laws.proofs.Statements.{fill-map, fill_any, domain_count-opened}
 use Rattle.ft_laws.proofs.Steps.{do_variable}
 use Rattle.ft_laws.proofs.Traverse.{Grows, Grows_add, Grows_refl, absent_without, under_abstraction, look_here}
 use Rattle.ft_laws.proofs.Substitute.{weaken, weaken_all}
 use Rattle.ft_laws.proofs.EqualTerms.{first_domain, at_fresh}
-use Rattle.ft_laws.proofs.Instances.{instantiate}
 use Rattle.ft_laws.proofs.Admissible.{admissible}
-use Rattle.ft_items.specs.Sets.{Atom, met, var, insert, union, unions, without, is_within, Has, Within}
-use Rattle.ft_items.specs.Equal.{is_object, heads, typed, terms, paired, left_terms, right_terms}
-use Rattle.ft_items.specs.Store.{Assertion, Annotation, Declared, Store, nth, mets_in, vars_in, Derivable, premises_of}
+use Rattle.ft_items.specs.Sets.{Atom, met, var, insert, union, unions, without, Has, Within}
+use Rattle.ft_items.specs.Equal.{is_object, typed, terms, paired, left_terms, right_terms}
+use Rattle.ft_items.specs.Store.{Assertion, Annotation, Declared, Store, nth, boundaries_in, annotations_in, Derivable}
 use Rattle.ft_items.specs.Rows.{statements, sets, bounds}
 use Rattle.ft_items.specs.Rows as row
-use Rattle.ft_items.proofs.SetLemmas.{both, wrong', by_bool, insert_new, insert_old, has_union, union_left, union_right, has_without, without_has, ascending_union, ascending_without, has_false, within_true}
+use Rattle.ft_items.proofs.SetLemmas.{both, wrong', by_bool, insert_new, insert_old, has_union, union_left, union_right, has_without, without_has, ascending_union, ascending_without, has_false}
 use Rattle.ft_sound.proofs.EqualLemmas.{object_true, typed_true, paired_true}
-use Rattle.ft_sound.proofs.Arguments.{arguments_true}
 use Rattle.ft_sound.proofs.Valid.{MetIn, VarIn, look_mets, mets_look, look_vars, vars_look, Declares, Proper, Valid, AllValid, WellFormed, sound_rules, scoped_rules, up, up_all, global, proper_unions, proper_union, proper_insert}
 use Rattle.ft_sound.proofs.Structural.{from_when}
 
@@ -171,12 +167,12 @@ module _ (W : Store) (F : WellFormed W) where
       go (inl k) = let l : v < v = (F.variables v d q).1 v k in omega (arith, l)
       go (inr k) = (has_without (var v) (var v) S k).1 refl
 
-  abs_unmentioned : (v : ℕ) (d : Annotation) (S : List Atom) → look_up W.variables v ≡ Some d → row.depends W.variables v S ≡ false → Unmentioned v (vars_in W (union d.set (without (var v) S)))
+  abs_unmentioned : (v : ℕ) (d : Annotation) (S : List Atom) → look_up W.variables v ≡ Some d → row.depends W.variables v S ≡ false → Unmentioned v (annotations_in W (union d.set (without (var v) S)))
   abs_unmentioned v d S q h u B r =
       let i : VarIn W (union d.set (without (var v) S)) u B = look_vars W (union d.set (without (var v) S)) u B r in
       let p : Valid W (plain (is_type i.0.annotation)) i.0.set = (F.variables u i.0 i.2).0 in
       subst (λ z. Rattle.ft_theory.specs.Expressions.Without v z) i.3
-      (absent_without (mets_in W i.0.set) (vars_in W i.0.set) v zero i.0.annotation (absent i.0 (λ k. rests u i.0 i.1 i.2 k)) (scope W.rules (sequent (mets_in W i.0.set) (vars_in W i.0.set) (plain (is_type i.0.annotation))) p.derivable))
+      (absent_without (boundaries_in W i.0.set) (annotations_in W i.0.set) v zero i.0.annotation (absent i.0 (λ k. rests u i.0 i.1 i.2 k)) (scope W.rules (sequent (boundaries_in W i.0.set) (annotations_in W i.0.set) (plain (is_type i.0.annotation))) p.derivable))
     where
       D : Valid W (plain (is_type d.annotation)) d.set
       D = (F.variables v d q).0
@@ -184,8 +180,8 @@ module _ (W : Store) (F : WellFormed W) where
       self : Has (var v) d.set → ⊥
       self k = let l : v < v = (F.variables v d q).1 v k in omega (arith, l)
 
-      absent : (c : Annotation) → (Has (var v) c.set → ⊥) → look_up (vars_in W c.set) v ≡ None
-      absent c n = none_or (look_up (vars_in W c.set) v) (λ A e. n (look_vars W c.set v A e).1)
+      absent : (c : Annotation) → (Has (var v) c.set → ⊥) → look_up (annotations_in W c.set) v ≡ None
+      absent c n = none_or (look_up (annotations_in W c.set) v) (λ A e. n (look_vars W c.set v A e).1)
         where
           none_or : (o : Option Expression) → ((A : Expression) → o ≡ Some A → ⊥) → o ≡ None
           none_or None f = refl
@@ -206,32 +202,32 @@ module _ (W : Store) (F : WellFormed W) where
   pub do_abs : (v : ℕ) (d : Annotation) (x : Statement) (S : List Atom) → look_up W.variables v ≡ Some d → row.depends W.variables v S ≡ false → Derivable W x S → Derivable W (abstracted d.annotation (close_statement v x)) (union d.set (without (var v) S))
   do_abs v d x S q h p =
       let R : List Atom = union d.set (without (var v) S) in
-      node (sequent (mets_in W R) (vars_in W R) (plain (is_type d.annotation)) ∷ sequent (mets_in W R) ((v, d.annotation) ∷ vars_in W R) x ∷ [])
+      node (sequent (boundaries_in W R) (annotations_in W R) (plain (is_type d.annotation)) ∷ sequent (boundaries_in W R) ((v, d.annotation) ∷ annotations_in W R) x ∷ [])
       (abstraction v d.annotation x (absent (λ k. abs_absent v d S q k)) (abs_unmentioned v d S q h))
       (more (up W (scoped_rules W F) (plain (is_type d.annotation)) d.set R (λ a k. union_left a d.set (without (var v) S) k) (F.variables v d q).0.derivable)
-      (more (weaken W.rules (scoped_rules W F) (mets_in W S) (mets_in W R) (vars_in W S) ((v, d.annotation) ∷ vars_in W R) x mets vars p) none))
+      (more (weaken W.rules (scoped_rules W F) (boundaries_in W S) (boundaries_in W R) (annotations_in W S) ((v, d.annotation) ∷ annotations_in W R) x mets vars p) none))
     where
       R : List Atom
       R = union d.set (without (var v) S)
 
-      absent : (Has (var v) R → ⊥) → look_up (vars_in W R) v ≡ None
-      absent n = none_or (look_up (vars_in W R) v) (λ A e. n (look_vars W R v A e).1)
+      absent : (Has (var v) R → ⊥) → look_up (annotations_in W R) v ≡ None
+      absent n = none_or (look_up (annotations_in W R) v) (λ A e. n (look_vars W R v A e).1)
         where
           none_or : (o : Option Expression) → ((A : Expression) → o ≡ Some A → ⊥) → o ≡ None
           none_or None f = refl
           none_or (Some A) f = absurd (f A refl)
 
-      mets : (m : ℕ) (b : Statement) → look_up (mets_in W S) m ≡ Some b → look_up (mets_in W R) m ≡ Some b
+      mets : (m : ℕ) (b : Statement) → look_up (boundaries_in W S) m ≡ Some b → look_up (boundaries_in W R) m ≡ Some b
       mets m b e =
           let i : MetIn W S m b = look_mets W S m b e in
           mets_look W R m i.0 (union_right (met m) d.set (without (var v) S) (without_has (met m) (var v) S i.1 (λ (f : met m ≡ var v). cc))) i.2 ∙ ap Some i.3
 
-      vars : (u : ℕ) (A : Expression) → look_up (vars_in W S) u ≡ Some A → look_up ((v, d.annotation) ∷ vars_in W R) u ≡ Some A
+      vars : (u : ℕ) (A : Expression) → look_up (annotations_in W S) u ≡ Some A → look_up ((v, d.annotation) ∷ annotations_in W R) u ≡ Some A
       vars u A e =
           let i : VarIn W S u A = look_vars W S u A e in
-          by_test (look_up ((v, d.annotation) ∷ vars_in W R) u ≡ Some A) u v
-          (λ f. same u v (Some d.annotation) (look_up (vars_in W R) u) f ∙ ap (λ (c : Annotation). Some c.annotation) (some_path d i.0 (sym q ∙ ap (look_up W.variables) (sym f) ∙ i.2)) ∙ ap Some i.3)
-          (λ n. other u v (Some d.annotation) (look_up (vars_in W R) u) n
+          by_test (look_up ((v, d.annotation) ∷ annotations_in W R) u ≡ Some A) u v
+          (λ f. same u v (Some d.annotation) (look_up (annotations_in W R) u) f ∙ ap (λ (c : Annotation). Some c.annotation) (some_path d i.0 (sym q ∙ ap (look_up W.variables) (sym f) ∙ i.2)) ∙ ap Some i.3)
+          (λ n. other u v (Some d.annotation) (look_up (annotations_in W R) u) n
           ∙ vars_look W R u i.0 (union_right (var u) d.set (without (var v) S) (without_has (var u) (var v) S i.1 (λ (f : var u ≡ var v). n (cc)))) i.2 ∙ ap Some i.3)
 
   pub do_var : (v : ℕ) (d : Annotation) → look_up W.variables v ≡ Some d → Valid W (plain (has_type (free v) d.annotation)) (insert (var v) d.set)
@@ -248,7 +244,7 @@ module _ (W : Store) (F : WellFormed W) where
       let D : Valid W d.boundary d.set = (F.metavariables m d q).0 in
       record {
         proper = proper_insert W (met m) d.set d.set (d, q, refl) (λ a k. k) D.proper;
-        derivable = generic W.rules (scoped_rules W F) (mets_in W (insert (met m) d.set)) (vars_in W (insert (met m) d.set)) m d.boundary (mets_look W (insert (met m) d.set) m d (insert_new (met m) d.set) q)
+        derivable = generic W.rules (scoped_rules W F) (boundaries_in W (insert (met m) d.set)) (annotations_in W (insert (met m) d.set)) m d.boundary (mets_look W (insert (met m) d.set) m d (insert_new (met m) d.set) q)
             (global W d.boundary d.set D.derivable (F.metavariables m d q).2) (F.metavariables m d q).1
             (up W (scoped_rules W F) d.boundary d.set (insert (met m) d.set) (λ a k. insert_old a (met m) d.set k) D.derivable);
       }
@@ -265,10 +261,10 @@ module _ (W : Store) (F : WellFormed W) where
         proper = meta_proper m d q U (proper_unions W ps vs);
         derivable = from_when (λ z. Derivable W z R) (typed d.boundary (statements ps)) (fill (at d.boundary (terms (statements ps))) (meta m (terms (statements ps)))) y e (λ h.
             let t : (count (terms (statements ps)) ≡ domain_count d.boundary) × (term_typings d.boundary (terms (statements ps)) ≡ statements ps) = typed_true (statements ps) d.boundary h in
-            meta_step W.rules (mets_in W R) (vars_in W R) m d.boundary (terms (statements ps)) (mets_look W R m d (insert_new (met m) (union d.set U)) q)
+            meta_step W.rules (boundaries_in W R) (annotations_in W R) m d.boundary (terms (statements ps)) (mets_look W R m d (insert_new (met m) (union d.set U)) q)
             (global W d.boundary d.set D.derivable (F.metavariables m d q).2) (F.metavariables m d q).1 t.0
             (up W (scoped_rules W F) d.boundary d.set R (λ a k. insert_old a (met m) (union d.set U) (union_left a d.set U k)) D.derivable)
-            (subst (λ z. Trees (Step W.rules) (sequents (mets_in W R) (vars_in W R) z)) (sym t.1) (up_all W (scoped_rules W F) ps R (λ a k. insert_old a (met m) (union d.set U) (union_right a d.set U k)) vs)));
+            (subst (λ z. Trees (Step W.rules) (sequents (boundaries_in W R) (annotations_in W R) z)) (sym t.1) (up_all W (scoped_rules W F) ps R (λ a k. insert_old a (met m) (union d.set U) (union_right a d.set U k)) vs)));
       }
 
   pub do_meta_congruence : (m : ℕ) (d : Declared) → nth W.metavariables m ≡ Some d → (es : List Assertion) → AllValid W es → (y : Statement) → row.meta_congruence m d.boundary (statements es) ≡ Some y → Valid W y (insert (met m) (union d.set (unions (sets es))))
@@ -283,171 +279,8 @@ module _ (W : Store) (F : WellFormed W) where
         derivable = from_when (λ z. Derivable W z R) (is_object d.boundary && paired d.boundary (statements es)) (equate (at d.boundary l) (meta m l) (meta m r)) y e (λ h.
             let k : (is_object d.boundary ≡ true) × (paired d.boundary (statements es) ≡ true) = both (is_object d.boundary) (paired d.boundary (statements es)) h in
             let t : (count l ≡ domain_count d.boundary) × (count r ≡ domain_count d.boundary) × (term_equations d.boundary l r ≡ statements es) = paired_true (statements es) d.boundary k.1 in
-            admissible W.rules (sound_rules W F) 6 (sequent (mets_in W R) (vars_in W R) d.boundary ∷ sequents (mets_in W R) (vars_in W R) (term_equations d.boundary l r)) (sequent (mets_in W R) (vars_in W R) (equate (at d.boundary l) (meta m l) (meta m r)))
+            admissible W.rules (sound_rules W F) 6 (sequent (boundaries_in W R) (annotations_in W R) d.boundary ∷ sequents (boundaries_in W R) (annotations_in W R) (term_equations d.boundary l r)) (sequent (boundaries_in W R) (annotations_in W R) (equate (at d.boundary l) (meta m l) (meta m r)))
             (metavariable_at_equal_terms m d.boundary l r (mets_look W R m d (insert_new (met m) (union d.set U)) q) (global W d.boundary d.set D.derivable (F.metavariables m d q).2) (object_true d.boundary k.0) t.0 t.1)
             (more (up W (scoped_rules W F) d.boundary d.set R (λ a k. insert_old a (met m) (union d.set U) (union_left a d.set U k)) D.derivable)
-            (subst (λ z. Trees (Step W.rules) (sequents (mets_in W R) (vars_in W R) z)) (sym t.2) (up_all W (scoped_rules W F) es R (λ a k. insert_old a (met m) (union d.set U) (union_right a d.set U k)) vs))));
-      }
-
-  -- inversion: the i-th of a list is a member
-  from_one_member : (xs : List Statement) (i : ℕ) (y : Statement) → row.from_one xs i ≡ Some y → Member y xs
-  from_one_member xs zero y e = nothing e
-  from_one_member xs (suc i) y e = at_place xs i y e
-    where
-      at_place : (xs : List Statement) (i : ℕ) (y : Statement) → nth xs i ≡ Some y → Member y xs
-      at_place [] i y e = nothing e
-      at_place (x ∷ xs) zero y e = subst (λ z. Member z (x ∷ xs)) (some_path x y e) (here x xs)
-      at_place (x ∷ xs) (suc i) y e = there y x xs (at_place xs i y e)
-
-  -- a metavariable that is derived with is declared, in the set
-  declared_meta : (S : List Atom) (m : ℕ) (d : Declared) → nth W.metavariables m ≡ Some d → (k : ℕ) → InMets (mets_in W S) m k → look_up (mets_in W S) m ≡ Some d.boundary
-  declared_meta S m d q k i = let h : MetIn W S m i.0 = look_mets W S m i.0 i.1 in mets_look W S m d h.1 q
-
-  type_members : (S : List Atom) (e : Expression) (i : ℕ) (y : Statement) → row.from_one (row.arguments_of W e) i ≡ Some y → Derivable W (plain (is_type e)) S → Derivable W y S
-  type_members S (bound j) i y e p = no_member y (from_one_member [] i y e)
-    where
-      no_member : (y : Statement) → Member y [] → Derivable W y S
-      no_member y k = elim k [ ]
-  type_members S (free v) i y e p = no_member y (from_one_member [] i y e)
-    where
-      no_member : (y : Statement) → Member y [] → Derivable W y S
-      no_member y k = elim k [ ]
-  type_members S (symbol r a) i y e p = go (rule_at W.rules r) refl (from_one_member (row.rule_arguments (rule_at W.rules r) a) i y e)
-    where
-      no_member : (y : Statement) → Member y [] → Derivable W y S
-      no_member y k = elim k [ ]
-
-      go : (o : Option Rule) → rule_at W.rules r ≡ o → Member y (row.rule_arguments o a) → Derivable W y S
-      go None q k = no_member y k
-      go (Some R) q k = admissible W.rules (sound_rules W F) 7 (sequent (mets_in W S) (vars_in W S) (plain (is_type (symbol r a))) ∷ []) (sequent (mets_in W S) (vars_in W S) y) (argument_in_type r R a y q k) (more p none)
-  type_members S (meta m a) i y e p = go (nth W.metavariables m) refl (from_one_member (row.meta_arguments (nth W.metavariables m) a) i y e)
-    where
-      no_member : (y : Statement) → Member y [] → Derivable W y S
-      no_member y k = elim k [ ]
-
-      go : (o : Option Declared) → nth W.metavariables m ≡ o → Member y (row.meta_arguments o a) → Derivable W y S
-      go None q k = no_member y k
-      go (Some d) q k = admissible W.rules (sound_rules W F) 7 (sequent (mets_in W S) (vars_in W S) (plain (is_type (meta m a))) ∷ []) (sequent (mets_in W S) (vars_in W S) y)
-          (term_in_type m d.boundary a y (declared_meta S m d q (count a) (scope W.rules (sequent (mets_in W S) (vars_in W S) (plain (is_type (meta m a)))) p).1.0) k) (more p none)
-
-  term_members : (S : List Atom) (e A : Expression) (i : ℕ) (y : Statement) → row.from_one (row.arguments_of W e) i ≡ Some y → Derivable W (plain (has_type e A)) S → Derivable W y S
-  term_members S (bound j) A i y e p = no_member y (from_one_member [] i y e)
-    where
-      no_member : (y : Statement) → Member y [] → Derivable W y S
-      no_member y k = elim k [ ]
-  term_members S (free v) A i y e p = no_member y (from_one_member [] i y e)
-    where
-      no_member : (y : Statement) → Member y [] → Derivable W y S
-      no_member y k = elim k [ ]
-  term_members S (symbol r a) A i y e p = go (rule_at W.rules r) refl (from_one_member (row.rule_arguments (rule_at W.rules r) a) i y e)
-    where
-      no_member : (y : Statement) → Member y [] → Derivable W y S
-      no_member y k = elim k [ ]
-
-      go : (o : Option Rule) → rule_at W.rules r ≡ o → Member y (row.rule_arguments o a) → Derivable W y S
-      go None q k = no_member y k
-      go (Some R) q k = admissible W.rules (sound_rules W F) 7 (sequent (mets_in W S) (vars_in W S) (plain (has_type (symbol r a) A)) ∷ []) (sequent (mets_in W S) (vars_in W S) y) (argument_in_term r R a A y q k) (more p none)
-  term_members S (meta m a) A i y e p = go (nth W.metavariables m) refl (from_one_member (row.meta_arguments (nth W.metavariables m) a) i y e)
-    where
-      no_member : (y : Statement) → Member y [] → Derivable W y S
-      no_member y k = elim k [ ]
-
-      go : (o : Option Declared) → nth W.metavariables m ≡ o → Member y (row.meta_arguments o a) → Derivable W y S
-      go None q k = no_member y k
-      go (Some d) q k = admissible W.rules (sound_rules W F) 7 (sequent (mets_in W S) (vars_in W S) (plain (has_type (meta m a) A)) ∷ []) (sequent (mets_in W S) (vars_in W S) y)
-          (term_in_term m d.boundary a A y (declared_meta S m d q (count a) (scope W.rules (sequent (mets_in W S) (vars_in W S) (plain (has_type (meta m a) A))) p).0.1.0) k) (more p none)
-
-  pub do_argument : (i : ℕ) (x y : Statement) (S : List Atom) → row.argument W i x ≡ Some y → Derivable W x S → Derivable W y S
-  do_argument i (plain (is_type t)) y S e p = type_members S t i y e p
-  do_argument i (plain (has_type t A)) y S e p = term_members S t A i y e p
-  do_argument i x y S e p = nothing e
-
-  -- the natural type
-  boundary_type : (x : Statement) (N : Expression) → row.type_of_boundary x ≡ Some N → x ≡ plain (term_goal N)
-  boundary_type (plain (term_goal A)) N e = ap (λ B. plain (term_goal B)) (some_path A N e)
-  boundary_type x N e = nothing e
-
-  abbrev core_of : Statement → Claim
-  core_of (plain c) = c
-  core_of (abstracted A x) = type_goal
-
-  natural_is : (S : List Atom) (e A N : Expression) → row.natural_type W e ≡ Some N → Derivable W (plain (has_type e A)) S → Derivable W (plain (equal_types N A)) S
-  natural_is S (bound j) A N e p = nothing e
-  natural_is S (free v) A N e p = go (look_up W.variables v) refl e
-    where
-      go : (o : Option Annotation) → look_up W.variables v ≡ o → option_map (λ (d : Annotation). d.annotation) o ≡ Some N → Derivable W (plain (equal_types N A)) S
-      go None q e = nothing e
-      go (Some d) q e =
-          let i : InVars (vars_in W S) v = (scope W.rules (sequent (mets_in W S) (vars_in W S) (plain (has_type (free v) A))) p).0.1 in
-          let h : VarIn W S v i.0 = look_vars W S v i.0 i.1 in
-          admissible W.rules (sound_rules W F) 7 (sequent (mets_in W S) (vars_in W S) (plain (has_type (free v) A)) ∷ []) (sequent (mets_in W S) (vars_in W S) (plain (equal_types N A)))
-          (natural_variable v N A (vars_look W S v d h.1 q ∙ e)) (more p none)
-  natural_is S (symbol r a) A N e p = go (rule_at W.rules r) refl e
-    where
-      go : (o : Option Rule) → rule_at W.rules r ≡ o → row.natural_of_rule o a ≡ Some N → Derivable W (plain (equal_types N A)) S
-      go None q e = nothing e
-      go (Some R) q e = admissible W.rules (sound_rules W F) 7 (sequent (mets_in W S) (vars_in W S) (plain (has_type (symbol r a) A)) ∷ []) (sequent (mets_in W S) (vars_in W S) (plain (equal_types N A)))
-          (natural_symbol r R a N A q (ap core_of (boundary_type (plain (conclusion_at R a)) N e))) (more p none)
-  natural_is S (meta m a) A N e p = go (nth W.metavariables m) refl e
-    where
-      go : (o : Option Declared) → nth W.metavariables m ≡ o → row.natural_of_meta o a ≡ Some N → Derivable W (plain (equal_types N A)) S
-      go None q e = nothing e
-      go (Some d) q e = admissible W.rules (sound_rules W F) 7 (sequent (mets_in W S) (vars_in W S) (plain (has_type (meta m a) A)) ∷ []) (sequent (mets_in W S) (vars_in W S) (plain (equal_types N A)))
-          (natural_metavariable m d.boundary a N A (declared_meta S m d q (count a) (scope W.rules (sequent (mets_in W S) (vars_in W S) (plain (has_type (meta m a) A))) p).0.1.0) (boundary_type (at d.boundary a) N e)) (more p none)
-
-  pub do_natural : (x y : Statement) (S : List Atom) → row.natural W x ≡ Some y → Derivable W x S → Derivable W y S
-  do_natural (plain (has_type t A)) y S e p = go (row.natural_type W t) refl e
-    where
-      go : (o : Option Expression) → row.natural_type W t ≡ o → option_map (λ N. plain (equal_types N A)) o ≡ Some y → Derivable W y S
-      go None q e = nothing e
-      go (Some N) q e = subst (λ z. Derivable W z S) (some_path (plain (equal_types N A)) y e) (natural_is S t A N q p)
-  do_natural x y S e p = nothing e
-
-  -- metavariables that are declared, with their numbers
-  abbrev pub AllDeclared : List (ℕ × Declared) → Type 0
-  AllDeclared [] = Unit {0}
-  AllDeclared (d ∷ ds) = (nth W.metavariables d.0 ≡ Some d.1) × AllDeclared ds
-
-  -- what rests on some metavariables alone is derivable over them as premises
-  pub premises_look : (ms : List (ℕ × Declared)) → AllDeclared ms → (m : ℕ) (d : Declared) → nth W.metavariables m ≡ Some d → Has (met m) (row.atoms ms) → look_up (premises_of ms) m ≡ Some d.boundary
-  premises_look [] ds m d q k = absurd k
-  premises_look (c ∷ ms) ds m d q k = by_test (look_up (premises_of (c ∷ ms)) m ≡ Some d.boundary) m c.0
-      (λ f. same m c.0 (Some c.1.boundary) (look_up (premises_of ms) m) f ∙ ap (λ (x : Declared). Some x.boundary) (some_path c.1 d (sym ds.0 ∙ ap (nth W.metavariables) (sym f) ∙ q)))
-      (λ n. other m c.0 (Some c.1.boundary) (look_up (premises_of ms) m) n ∙ premises_look ms ds.1 m d q (later n k))
-    where
-      later : m ≢ c.0 → (met m ≡ met c.0) ⊎ Has (met m) (row.atoms ms) → Has (met m) (row.atoms ms)
-      later n (inl e) = absurd (n (inner e))
-        where
-          inner : met m ≡ met c.0 → m ≡ c.0
-          inner e = cc
-      later n (inr k) = k
-
-  only_metavariables : (ms : List (ℕ × Declared)) (v : ℕ) → Has (var v) (row.atoms ms) → ⊥
-  only_metavariables [] v k = k
-  only_metavariables (c ∷ ms) v (inl e) = clash e
-    where
-      clash : var v ≡ met c.0 → ⊥
-      clash e = cc
-  only_metavariables (c ∷ ms) v (inr k) = only_metavariables ms v k
-
-  pub over_premises : (ms : List (ℕ × Declared)) → AllDeclared ms → (x : Statement) (S : List Atom) → Within S (row.atoms ms) → Derivable W x S → Prim W.rules (premises_of ms) [] x
-  over_premises ms ds x S w p = weaken W.rules (scoped_rules W F) (mets_in W S) (premises_of ms) (vars_in W S) [] x
-      (λ m b e. let i : MetIn W S m b = look_mets W S m b e in premises_look ms ds m i.0 i.2 (w (met m) i.1) ∙ ap Some i.3)
-      (λ v A e. let i : VarIn W S v A = look_vars W S v A e in absurd (only_metavariables ms v (w (var v) i.1)))
-      p
-
-  pub do_instance : (p : Assertion) → Valid W p.statement p.set → (ms : List (ℕ × Declared)) → AllDeclared ms → (qs : List Assertion) → AllValid W qs → (y : Statement) → row.instantiated ms p (statements qs) ≡ Some y → Valid W y (unions (sets qs))
-  do_instance p v ms ds qs vs y e =
-      let R : List Atom = unions (sets qs) in
-      let P : List (ℕ × Statement) = premises_of ms in
-      let a : Arguments = heads (statements qs) in
-      record {
-        proper = proper_unions W qs vs;
-        derivable = from_when (λ z. Derivable W z R) (((row.differ (row.atoms ms) && row.on_earlier [] ms) && is_within p.set (row.atoms ms)) && row.are_arguments P (statements qs)) (row.at_args P a p.statement) y e (λ h.
-            let k : (((row.differ (row.atoms ms) && row.on_earlier [] ms) && is_within p.set (row.atoms ms)) ≡ true) × (row.are_arguments P (statements qs) ≡ true) = both ((row.differ (row.atoms ms) && row.on_earlier [] ms) && is_within p.set (row.atoms ms)) (row.are_arguments P (statements qs)) h in
-            let l : is_within p.set (row.atoms ms) ≡ true = (both (row.differ (row.atoms ms) && row.on_earlier [] ms) (is_within p.set (row.atoms ms)) k.0).1 in
-            let f : FitsPremises P a × (filled_premises (instance_of P a) P a ≡ statements qs) = arguments_true (instance_of P a) P (statements qs) k.1 in
-            instantiate W.rules (scoped_rules W F) P [] (mets_in W R) (vars_in W R) (instance_of P a) p.statement
-            (whole_instance W.rules P (mets_in W R) (vars_in W R) P a (λ m b r. r) f.0 (subst (λ z. Trees (Step W.rules) (sequents (mets_in W R) (vars_in W R) z)) (sym f.1) (up_all W (scoped_rules W F) qs R (λ x j. j) vs)))
-            (over_premises ms ds p.statement p.set (within_true p.set (row.atoms ms) l) v.derivable));
+            (subst (λ z. Trees (Step W.rules) (sequents (boundaries_in W R) (annotations_in W R) z)) (sym t.2) (up_all W (scoped_rules W F) es R (λ a k. insert_old a (met m) (union d.set U) (union_right a d.set U k)) vs))));
       }

@@ -13,7 +13,7 @@ use Rattle.ft_laws.proofs.Admissible.{admissible}
 use Rattle.ft_items.specs.Equal.{equal_statements, is_object_goal, fits, head, heads, start_all, right_heads}
 use Rattle.ft_items.specs.Rows as row
 use Rattle.ft_items.proofs.SetLemmas.{both, by_bool}
-use Rattle.ft_sound.proofs.EqualLemmas.{object_core_true, fits_true}
+use Rattle.ft_sound.proofs.EqualLemmas.{object_claim_true, fits_true}
 use Rattle.ft_sound.proofs.Arguments.{arguments_true, equations_true}
 use Rattle.ft_sound.proofs.Structural.{from_when}
 
@@ -71,7 +71,7 @@ module _ (T : List Rule) (so : Sound T) (M : List (ℕ × Statement)) (G : List 
       let l : (is_object_goal R.conclusion ≡ true) × (row.are_arguments R.premises xs ≡ true) = both (is_object_goal R.conclusion) (row.are_arguments R.premises xs) k.0 in
       admissible T so 6 (sequents M G (filled_premises (instance_of R.premises (heads xs)) R.premises (heads xs) ++ equated_premises (instance_of R.premises (heads xs)) R.premises (heads xs) (right_heads xs es)))
       (sequent M G (plain (equate_goal (conclusion_at R (heads xs)) (symbol r (heads xs)) (symbol r (right_heads xs es)))))
-      (Rattle.ft_theory.specs.WideSteps.equal_instances r R (heads xs) (right_heads xs es) q (fits_for R.premises xs l.1) (equations_true (instance_of R.premises (heads xs)) R.premises xs es l.1 k.1).0 (object_core_true R.conclusion l.0))
+      (Rattle.ft_theory.specs.WideSteps.equal_instances r R (heads xs) (right_heads xs es) q (fits_for R.premises xs l.1) (equations_true (instance_of R.premises (heads xs)) R.premises xs es l.1 k.1).0 (object_claim_true R.conclusion l.0))
       (equation_trees_for R.premises xs es l.1 k.1 ts us))
 
   pub do_premise_conversion : (xs es : List Statement) (x y : Statement) → row.premise_conversion R xs es x ≡ Some y → Trees (Step T) (sequents M G xs) → Trees (Step T) (sequents M G es) → Prim T M G x → Prim T M G y
@@ -82,11 +82,11 @@ module _ (T : List Rule) (so : Sound T) (M : List (ℕ × Statement)) (G : List 
     where
       go : (ps later : List (ℕ × Statement)) → ps ++ later ≡ R.premises → row.are_arguments ps xs ≡ true → start_all xs es ≡ true → row.moved ps (heads xs) (right_heads xs es) later x ≡ Some y → Prim T M G y
       go ps [] w h k e = nothing e
-      go ps (n ∷ later) w h k e = from_when (Prim T M G) (fits x (row.at_args ps (heads xs) n.1)) (fill (row.at_args ps (right_heads xs es) n.1) (head x)) y e (λ f.
+      go ps (n ∷ later) w h k e = from_when (Prim T M G) (fits x (row.at_arguments ps (heads xs) n.1)) (fill (row.at_arguments ps (right_heads xs es) n.1) (head x)) y e (λ f.
           admissible T so 6 (sequent M G (fill (act_statement free (instance_of ps (heads xs)) n.1) (head x)) ∷ sequents M G (filled_premises (instance_of ps (heads xs)) ps (heads xs) ++ equated_premises (instance_of ps (heads xs)) ps (heads xs) (right_heads xs es)))
           (sequent M G (fill (act_statement free (instance_of ps (right_heads xs es)) n.1) (head x)))
           (convert_premise r R ps later n.0 n.1 (heads xs) (right_heads xs es) (head x) q (sym w) (fits_for ps xs h) (equations_true (instance_of ps (heads xs)) ps xs es h k).0)
-          (more (subst (Prim T M G) (fits_true x (row.at_args ps (heads xs) n.1) f) p) (equation_trees_for ps xs es h k ts us)))
+          (more (subst (Prim T M G) (fits_true x (row.at_arguments ps (heads xs) n.1) f) p) (equation_trees_for ps xs es h k ts us)))
 
   pub do_premise_conversion_back : (xs es : List Statement) (x y : Statement) → row.premise_conversion_back R xs es x ≡ Some y → Trees (Step T) (sequents M G xs) → Trees (Step T) (sequents M G es) → Prim T M G x → Prim T M G y
   do_premise_conversion_back xs es x y e ts us p = by_bool (Prim T M G y) (row.are_arguments (row.first_premises R xs) xs && start_all xs es)
@@ -96,8 +96,8 @@ module _ (T : List Rule) (so : Sound T) (M : List (ℕ × Statement)) (G : List 
     where
       go : (ps later : List (ℕ × Statement)) → ps ++ later ≡ R.premises → row.are_arguments ps xs ≡ true → start_all xs es ≡ true → row.moved ps (right_heads xs es) (heads xs) later x ≡ Some y → Prim T M G y
       go ps [] w h k e = nothing e
-      go ps (n ∷ later) w h k e = from_when (Prim T M G) (fits x (row.at_args ps (right_heads xs es) n.1)) (fill (row.at_args ps (heads xs) n.1) (head x)) y e (λ f.
+      go ps (n ∷ later) w h k e = from_when (Prim T M G) (fits x (row.at_arguments ps (right_heads xs es) n.1)) (fill (row.at_arguments ps (heads xs) n.1) (head x)) y e (λ f.
           admissible T so 6 (sequent M G (fill (act_statement free (instance_of ps (right_heads xs es)) n.1) (head x)) ∷ sequents M G (filled_premises (instance_of ps (heads xs)) ps (heads xs) ++ equated_premises (instance_of ps (heads xs)) ps (heads xs) (right_heads xs es)))
           (sequent M G (fill (act_statement free (instance_of ps (heads xs)) n.1) (head x)))
           (convert_back r R ps later n.0 n.1 (heads xs) (right_heads xs es) (head x) q (sym w) (fits_for ps xs h) (equations_true (instance_of ps (heads xs)) ps xs es h k).0)
-          (more (subst (Prim T M G) (fits_true x (row.at_args ps (right_heads xs es) n.1) f) p) (equation_trees_for ps xs es h k ts us)))
+          (more (subst (Prim T M G) (fits_true x (row.at_arguments ps (right_heads xs es) n.1) f) p) (equation_trees_for ps xs es h k ts us)))

@@ -13,7 +13,7 @@ use Rattle.ft_laws.proofs.Scope.{scope, Fine, InVars, InMets}
 use Rattle.ft_laws.proofs.Rules.{nothing, found, past, inst_past}
 use Rattle.ft_laws.proofs.Finitary.{premise_at, Sound}
 use Rattle.ft_items.specs.Equal.{has_head, head, fits, fit_all, heads}
-use Rattle.ft_items.specs.Rows.{at_args, are_arguments}
+use Rattle.ft_items.specs.Rows.{at_arguments, are_arguments}
 use Rattle.ft_sound.proofs.Arguments.{fits_premise, fits_premise_object, fits_premise_equation}
 
 -- the test, argument by argument
@@ -21,7 +21,7 @@ abbrev pub fit_each : List (ℕ × Statement) → List Statement → List (ℕ �
 fit_each done given [] [] = true
 fit_each done given [] (x ∷ xs) = false
 fit_each done given (p ∷ ps) [] = false
-fit_each done given (p ∷ ps) (x ∷ xs) = fits x (at_args done (heads given) p.1) && fit_each (done ++ (p ∷ [])) (given ++ (x ∷ [])) ps xs
+fit_each done given (p ∷ ps) (x ∷ xs) = fits x (at_arguments done (heads given) p.1) && fit_each (done ++ (p ∷ [])) (given ++ (x ∷ [])) ps xs
 
 -- further arguments change nothing for the metavariables that have theirs
 inst_so_far : (ps qs : List (ℕ × Statement)) (xs ys : List Statement) (m k : ℕ) → FitsPremises ps (heads xs) → InMets ps m k → instance_of (ps ++ qs) (heads (xs ++ ys)) m k ≡ instance_of ps (heads xs) m k
@@ -55,7 +55,7 @@ inst_so_far (p ∷ ps) qs (x ∷ xs) ys m k f i = go (has_head x) f (λ g j. ins
         (λ n. ih f.2 (rest n))
 
 -- what is derived over the premises so far has one instance
-pub instance_so_far : (T : List Rule) (ps qs : List (ℕ × Statement)) (xs ys : List Statement) (b : Statement) → FitsPremises ps (heads xs) → Prim T ps [] b → at_args (ps ++ qs) (heads (xs ++ ys)) b ≡ at_args ps (heads xs) b
+pub instance_so_far : (T : List Rule) (ps qs : List (ℕ × Statement)) (xs ys : List Statement) (b : Statement) → FitsPremises ps (heads xs) → Prim T ps [] b → at_arguments (ps ++ qs) (heads (xs ++ ys)) b ≡ at_arguments ps (heads xs) b
 instance_so_far T ps qs xs ys b f p = act_stmt_agree b free free (instance_of (ps ++ qs) (heads (xs ++ ys))) (instance_of ps (heads xs))
     (stmt_mono b (Fine ps []) (λ k. MentionsOnly (λ v. free v ≡ free v) (λ m k. instance_of (ps ++ qs) (heads (xs ++ ys)) m k ≡ instance_of ps (heads xs) m k)) zero
     (λ k e u. Uses_mono e (InVars []) (λ v. free v ≡ free v) (InMets ps) (λ m k. instance_of (ps ++ qs) (heads (xs ++ ys)) m k ≡ instance_of ps (heads xs) m k) (λ v h. refl) (λ m k h. inst_so_far ps qs xs ys m k f h) u.1)
@@ -86,16 +86,16 @@ and_same a b true d e h = ap₂ (λ x y. x && y) e (h refl)
 and_same a b false d e h = ap (λ x. x && b) e
 
 each_from : (T : List Rule) (P : List (ℕ × Statement)) → PremisesHold (λ M x. Prim T M [] x) [] P → (done : List (ℕ × Statement)) (given : List Statement) (ps : List (ℕ × Statement)) (xs : List Statement)
-    → P ≡ done ++ ps → FitsPremises done (heads given) → fit_all (at_args P (heads (given ++ xs))) ps xs ≡ fit_each done given ps xs
+    → P ≡ done ++ ps → FitsPremises done (heads given) → fit_all (at_arguments P (heads (given ++ xs))) ps xs ≡ fit_each done given ps xs
 each_from T P h done given [] [] e f = refl
 each_from T P h done given [] (x ∷ xs) e f = refl
 each_from T P h done given (p ∷ ps) [] e f = refl
 each_from T P h done given (p ∷ ps) (x ∷ xs) e f =
     let b : Prim T done [] p.1 = (premise_at (λ M x. Prim T M [] x) [] done p ps (subst (PremisesHold (λ M x. Prim T M [] x) []) e h)).1 in
-    let w : at_args P (heads (given ++ (x ∷ xs))) p.1 ≡ at_args done (heads given) p.1 = ap (λ z. at_args z (heads (given ++ (x ∷ xs))) p.1) e ∙ instance_so_far T done (p ∷ ps) given (x ∷ xs) p.1 f b in
-    and_same (fits x (at_args P (heads (given ++ (x ∷ xs))) p.1)) (fit_all (at_args P (heads (given ++ (x ∷ xs)))) ps xs) (fits x (at_args done (heads given) p.1)) (fit_each (done ++ (p ∷ [])) (given ++ (x ∷ [])) ps xs)
+    let w : at_arguments P (heads (given ++ (x ∷ xs))) p.1 ≡ at_arguments done (heads given) p.1 = ap (λ z. at_arguments z (heads (given ++ (x ∷ xs))) p.1) e ∙ instance_so_far T done (p ∷ ps) given (x ∷ xs) p.1 f b in
+    and_same (fits x (at_arguments P (heads (given ++ (x ∷ xs))) p.1)) (fit_all (at_arguments P (heads (given ++ (x ∷ xs)))) ps xs) (fits x (at_arguments done (heads given) p.1)) (fit_each (done ++ (p ∷ [])) (given ++ (x ∷ [])) ps xs)
     (ap (fits x) w)
-    (λ t. ap (λ z. fit_all (at_args P (heads z)) ps xs) (sym (append_assoc given (x ∷ []) xs))
+    (λ t. ap (λ z. fit_all (at_arguments P (heads z)) ps xs) (sym (append_assoc given (x ∷ []) xs))
     ∙ each_from T P h (done ++ (p ∷ [])) (given ++ (x ∷ [])) ps xs (e ∙ sym (append_assoc done (p ∷ []) ps)) (fits_last done given p x (instance_of done (heads given)) f t))
 
 -- for a rule of a sound theory both tests are one

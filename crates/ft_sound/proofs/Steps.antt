@@ -9,7 +9,7 @@ use Rattle.ft_laws.proofs.Rules.{nothing}
 use Rattle.ft_laws.proofs.Steps.{do_for_type}
 use Rattle.ft_items.specs.Sets.{Atom, union, unions, Within}
 use Rattle.ft_items.specs.Item.{by_var, by_generic, by_meta, by_metacong, by_abs, by_subst, by_substeq, by_refl, by_sym, by_trans, by_conv, by_conveq, by_left, by_right, by_typeof, by_domain, by_boundary, by_widen, by_btype, by_bterm, by_beqty, by_beqtm, by_rule, by_rulewith, by_inst, by_cong, by_convprem, by_convback, by_arg, by_natural, by_metainst, Stated}
-use Rattle.ft_items.specs.Store.{Assertion, Annotation, Declared, Store, nth, each, entry_named, variable_named, metavariable_named, rule_of, Resolved, with_1, with_2, with_3, with_4, resolve, mets_in, vars_in, Derivable}
+use Rattle.ft_items.specs.Store.{Assertion, Annotation, Declared, Store, nth, each, entry_named, variable_named, metavariable_named, rule_of, Resolved, with_one, with_two, with_three, with_four, resolve, boundaries_in, annotations_in, Derivable}
 use Rattle.ft_items.specs.Rows.{statements, sets, conclusion, result_set}
 use Rattle.ft_items.specs.Rows as row
 use Rattle.ft_items.proofs.SetLemmas.{not_true, union_left, union_right}
@@ -18,7 +18,8 @@ use Rattle.ft_sound.proofs.Structural as structural
 use Rattle.ft_sound.proofs.Structural.{from_when}
 use Rattle.ft_sound.proofs.RuleRows as rules
 use Rattle.ft_sound.proofs.MetaRows as metas
-use Rattle.ft_sound.proofs.MetaRows.{AllDeclared}
+use Rattle.ft_sound.proofs.InstanceRows.{AllDeclared}
+use Rattle.ft_sound.proofs.InstanceRows as instances
 
 -- what a step names is valid, declared, or a rule of the theory
 abbrev pub IsVariable : Store → ℕ × Annotation → Type 0
@@ -67,23 +68,23 @@ Parts W F (by_natural p) = IsValid W p
 Parts W F (by_metainst p ms qs) = IsValid W p × AllDeclared W F ms × AllValid W qs
 
 -- what was resolved
-some_1 : {A B : Type 0} (P : B → Type 0) (f : A → B) (o : Option A) (s : B) → with_1 f o ≡ Some s → ((a : A) → o ≡ Some a → P (f a)) → P s
+some_1 : {A B : Type 0} (P : B → Type 0) (f : A → B) (o : Option A) (s : B) → with_one f o ≡ Some s → ((a : A) → o ≡ Some a → P (f a)) → P s
 some_1 P f None s e h = nothing e
 some_1 P f (Some a) s e h = subst P (inner e) (h a refl)
   where
     inner : Some (f a) ≡ Some s → f a ≡ s
     inner e = cc
 
-some_2 : {A B C : Type 0} (P : C → Type 0) (f : A → B → C) (o : Option A) (p : Option B) (s : C) → with_2 f o p ≡ Some s → ((a : A) → o ≡ Some a → (b : B) → p ≡ Some b → P (f a b)) → P s
+some_2 : {A B C : Type 0} (P : C → Type 0) (f : A → B → C) (o : Option A) (p : Option B) (s : C) → with_two f o p ≡ Some s → ((a : A) → o ≡ Some a → (b : B) → p ≡ Some b → P (f a b)) → P s
 some_2 P f None p s e h = nothing e
 some_2 P f (Some a) p s e h = some_1 P (f a) p s e (h a refl)
 
-some_3 : {A B C D : Type 0} (P : D → Type 0) (f : A → B → C → D) (o : Option A) (p : Option B) (q : Option C) (s : D) → with_3 f o p q ≡ Some s
+some_3 : {A B C D : Type 0} (P : D → Type 0) (f : A → B → C → D) (o : Option A) (p : Option B) (q : Option C) (s : D) → with_three f o p q ≡ Some s
     → ((a : A) → o ≡ Some a → (b : B) → p ≡ Some b → (c : C) → q ≡ Some c → P (f a b c)) → P s
 some_3 P f None p q s e h = nothing e
 some_3 P f (Some a) p q s e h = some_2 P (f a) p q s e (h a refl)
 
-some_4 : {A B C D E : Type 0} (P : E → Type 0) (f : A → B → C → D → E) (o : Option A) (p : Option B) (q : Option C) (r : Option D) (s : E) → with_4 f o p q r ≡ Some s
+some_4 : {A B C D E : Type 0} (P : E → Type 0) (f : A → B → C → D → E) (o : Option A) (p : Option B) (q : Option C) (r : Option D) (s : E) → with_four f o p q r ≡ Some s
     → ((a : A) → o ≡ Some a → (b : B) → p ≡ Some b → (c : C) → q ≡ Some c → (d : D) → r ≡ Some d → P (f a b c d)) → P s
 some_4 P f None p q r s e h = nothing e
 some_4 P f (Some a) p q r s e h = some_3 P (f a) p q r s e (h a refl)
@@ -171,10 +172,10 @@ module _ (W : Store) (F : WellFormed W) where
   resolved (by_metainst p ms qs) r e = some_3 P by_metainst (N p) (each (metavariable_named W) ms) (Ns qs) r e (λ a i b j c k. (F.entries p a i, all_declared ms b j, all_valid qs c k))
 
   abbrev M : List Atom → List (ℕ × Statement)
-  M S = mets_in W S
+  M S = boundaries_in W S
 
   abbrev G : List Atom → List (ℕ × Rattle.ft_theory.specs.Expressions.Expression)
-  G S = vars_in W S
+  G S = annotations_in W S
 
   -- one premise, two premises, each over the union of the sets
   one : (x y : Statement) (S : List Atom) → Valid W x S → (Derivable W x S → Derivable W y S) → Valid W y S
@@ -266,6 +267,6 @@ module _ (W : Store) (F : WellFormed W) where
             (list ps R h.1 (λ a k. union_left a S (union U q.set) k)) (list es R h.2 (λ a k. union_right a S (union U q.set) (union_left a U q.set k)))
             (up W (scoped_rules W F) q.statement q.set R (λ a k. union_right a S (union U q.set) (union_right a U q.set k)) h.3.derivable);
       }
-  sound_step (by_arg i p) h y e = one p.statement y p.set h (metas.do_argument W F i p.statement y p.set e)
-  sound_step (by_natural p) h y e = one p.statement y p.set h (metas.do_natural W F p.statement y p.set e)
-  sound_step (by_metainst p ms qs) h y e = metas.do_instance W F p h.0 ms h.1 qs h.2 y e
+  sound_step (by_arg i p) h y e = one p.statement y p.set h (instances.do_argument W F i p.statement y p.set e)
+  sound_step (by_natural p) h y e = one p.statement y p.set h (instances.do_natural W F p.statement y p.set e)
+  sound_step (by_metainst p ms qs) h y e = instances.do_instance W F p h.0 ms h.1 qs h.2 y e

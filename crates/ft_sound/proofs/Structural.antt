@@ -16,7 +16,7 @@ use Rattle.ft_laws.proofs.Admissible.{admissible}
 use Rattle.ft_items.specs.Equal.{equal_expressions, has_head, head}
 use Rattle.ft_items.specs.Rows as row
 use Rattle.ft_items.proofs.SetLemmas.{both}
-use Rattle.ft_sound.proofs.EqualLemmas.{expr_true, refill, boundary_depth}
+use Rattle.ft_sound.proofs.EqualLemmas.{expression_true, refill, boundary_depth}
 
 -- from a test that held
 pub from_when : (P : Statement → Type 0) (b : Bool) (x y : Statement) → row.when b x ≡ Some y → (b ≡ true → P x) → P y
@@ -59,7 +59,7 @@ under_is f h (abstracted A x) y e = go (row.under_domains f x) refl e (under_is 
 module _ (T : List Rule) (so : Sound T) (M : List (ℕ × Statement)) (G : List (ℕ × Expression)) where
   pub do_substitution : (x z y : Statement) → row.substitution x z ≡ Some y → Prim T M G x → Prim T M G z → Prim T M G y
   do_substitution (abstracted A x) (plain (has_type t B)) y e p q = from_when (Prim T M G) (equal_expressions A B) (opened t (abstracted A x)) y e
-      (λ h. admissible T so 2 (sequent M G (abstracted A x) ∷ sequent M G (plain (has_type t A)) ∷ []) (sequent M G (opened t (abstracted A x))) (substitution A t x) (more p (more (subst (λ C. Prim T M G (plain (has_type t C))) (sym (expr_true A B h)) q) none)))
+      (λ h. admissible T so 2 (sequent M G (abstracted A x) ∷ sequent M G (plain (has_type t A)) ∷ []) (sequent M G (opened t (abstracted A x))) (substitution A t x) (more p (more (subst (λ C. Prim T M G (plain (has_type t C))) (sym (expression_true A B h)) q) none)))
   do_substitution x z y e p q = nothing e
 
   pub do_equal_substitution : (x z y : Statement) → row.equal_substitution x z ≡ Some y → Prim T M G x → Prim T M G z → Prim T M G y
@@ -71,7 +71,7 @@ module _ (T : List Rule) (so : Sound T) (M : List (ℕ × Statement)) (G : List 
       (admissible T so 4 (sequent M G (abstracted A (fill (boundary_of x) (head x))) ∷ sequent M G (plain (equal_terms s t A)) ∷ [])
       (sequent M G (equate (opened s (abstracted A (boundary_of x))) (open_at (domain_count (boundary_of x)) s (head x)) (open_at (domain_count (boundary_of x)) t (head x))))
       (equal_substitution A s t (boundary_of x) (head x) r.0)
-      (more (subst (λ z. Prim T M G (abstracted A z)) r.1 p) (more (subst (λ C. Prim T M G (plain (equal_terms s t C))) (sym (expr_true A B k.1)) q) none))))
+      (more (subst (λ z. Prim T M G (abstracted A z)) r.1 p) (more (subst (λ C. Prim T M G (plain (equal_terms s t C))) (sym (expression_true A B k.1)) q) none))))
   do_equal_substitution x z y e p q = nothing e
 
   pub do_reflexivity : (x y : Statement) → row.reflexivity x ≡ Some y → Prim T M G x → Prim T M G y
@@ -87,20 +87,20 @@ module _ (T : List Rule) (so : Sound T) (M : List (ℕ × Statement)) (G : List 
 
   pub do_transitivity : (x z y : Statement) → row.transitivity x z ≡ Some y → Prim T M G x → Prim T M G z → Prim T M G y
   do_transitivity (plain (equal_types A B)) (plain (equal_types C D)) y e p q = from_when (Prim T M G) (equal_expressions B C) (plain (equal_types A D)) y e
-      (λ h. do_transitive_types p (subst (λ X. Prim T M G (plain (equal_types X D))) (sym (expr_true B C h)) q))
+      (λ h. do_transitive_types p (subst (λ X. Prim T M G (plain (equal_types X D))) (sym (expression_true B C h)) q))
   do_transitivity (plain (equal_terms s t A)) (plain (equal_terms u v B)) y e p q = from_when (Prim T M G) (equal_expressions A B && equal_expressions t u) (plain (equal_terms s v A)) y e (λ h.
       let k : (equal_expressions A B ≡ true) × (equal_expressions t u ≡ true) = both (equal_expressions A B) (equal_expressions t u) h in
-      do_transitive_terms p (subst₂ (λ X z. Prim T M G (plain (equal_terms z v X))) (sym (expr_true A B k.0)) (sym (expr_true t u k.1)) q))
+      do_transitive_terms p (subst₂ (λ X z. Prim T M G (plain (equal_terms z v X))) (sym (expression_true A B k.0)) (sym (expression_true t u k.1)) q))
   do_transitivity x z y e p q = nothing e
 
   pub do_conversion : (x z y : Statement) → row.conversion x z ≡ Some y → Prim T M G x → Prim T M G z → Prim T M G y
   do_conversion (plain (has_type t A)) (plain (equal_types B C)) y e p q = from_when (Prim T M G) (equal_expressions A B) (plain (has_type t C)) y e
-      (λ h. do_convert_term p (subst (λ X. Prim T M G (plain (equal_types X C))) (sym (expr_true A B h)) q))
+      (λ h. do_convert_term p (subst (λ X. Prim T M G (plain (equal_types X C))) (sym (expression_true A B h)) q))
   do_conversion x z y e p q = nothing e
 
   pub do_equation_conversion : (x z y : Statement) → row.equation_conversion x z ≡ Some y → Prim T M G x → Prim T M G z → Prim T M G y
   do_equation_conversion (plain (equal_terms s t A)) (plain (equal_types B C)) y e p q = from_when (Prim T M G) (equal_expressions A B) (plain (equal_terms s t C)) y e
-      (λ h. do_convert_equation p (subst (λ X. Prim T M G (plain (equal_types X C))) (sym (expr_true A B h)) q))
+      (λ h. do_convert_equation p (subst (λ X. Prim T M G (plain (equal_types X C))) (sym (expression_true A B h)) q))
   do_equation_conversion x z y e p q = nothing e
 
   do_side : (x y : Statement) → Side x y → Prim T M G x → Prim T M G y
@@ -134,5 +134,5 @@ module _ (T : List Rule) (so : Sound T) (M : List (ℕ × Statement)) (G : List 
   do_term_equation_boundary (plain (is_type A)) (plain (has_type s B)) (plain (has_type t C)) y e p q r =
       from_when (Prim T M G) (equal_expressions B A && equal_expressions C A) (plain (term_equation_goal s t A)) y e (λ h.
       let k : (equal_expressions B A ≡ true) × (equal_expressions C A ≡ true) = both (equal_expressions B A) (equal_expressions C A) h in
-      do_for_terms p (subst (λ X. Prim T M G (plain (has_type s X))) (expr_true B A k.0) q) (subst (λ X. Prim T M G (plain (has_type t X))) (expr_true C A k.1) r))
+      do_for_terms p (subst (λ X. Prim T M G (plain (has_type s X))) (expression_true B A k.0) q) (subst (λ X. Prim T M G (plain (has_type t X))) (expression_true C A k.1) r))
   do_term_equation_boundary x u v y e p q r = nothing e

@@ -13,7 +13,8 @@ use Rattle.ft_sound.specs.Soundness.{EntriesDerivable, MemberHolds, MembersHold,
 use Rattle.ft_items.proofs.SetLemmas.{wrong, both, not_true, precedes_trans, irreflexive, all_after}
 use Rattle.ft_sound.proofs.Valid.{Declares, Proper, Valid, WellFormed, scoped_rules, up, mentions}
 use Rattle.ft_items.proofs.Lists.{good_split}
-use Rattle.ft_sound.proofs.Good.{entry_valid, no_reason, allowed, well_formed_add, well_formed_all, well_formed_empty}
+use Rattle.ft_sound.proofs.Good.{entry_valid}
+use Rattle.ft_sound.proofs.Reasons.{no_reason, allowed, well_formed_add, well_formed_all, well_formed_empty}
 
 -- the store before an entry, and the entry in it
 abbrev pub Before : Store → Entry → Type 0

@@ -16,7 +16,7 @@ use Rattle.ft_laws.proofs.Acts.{Uses_mono}
 use Rattle.ft_laws.proofs.Finitary.{more_rules, Sound, scoped}
 use Rattle.ft_laws.proofs.Admissible.{finitary_sound}
 use Rattle.ft_items.specs.Sets.{Atom, met, var, insert, union, unions, Has, Within, Ascending}
-use Rattle.ft_items.specs.Store.{Assertion, Annotation, Declared, Store, nth, with_boundary, mets_in, with_annotation, vars_in, Derivable}
+use Rattle.ft_items.specs.Store.{Assertion, Annotation, Declared, Store, nth, with_boundary, boundaries_in, with_annotation, annotations_in, Derivable}
 use Rattle.ft_items.specs.Rows.{statements, sets}
 use Rattle.ft_items.proofs.SetLemmas.{has_insert, insert_old, has_union, union_left, union_right, ascending_insert, ascending_union}
 
@@ -27,21 +27,21 @@ MetIn W S m b = (d : Declared) × Has (met m) S × (nth W.metavariables m ≡ So
 abbrev pub VarIn : Store → List Atom → ℕ → Expression → Type 0
 VarIn W S v A = (d : Annotation) × Has (var v) S × (look_up W.variables v ≡ Some d) × (d.annotation ≡ A)
 
-pub look_mets : (W : Store) (S : List Atom) (m : ℕ) (b : Statement) → look_up (mets_in W S) m ≡ Some b → MetIn W S m b
+pub look_mets : (W : Store) (S : List Atom) (m : ℕ) (b : Statement) → look_up (boundaries_in W S) m ≡ Some b → MetIn W S m b
 look_mets W [] m b q = nothing q
 look_mets W (met n ∷ S) m b q = go (nth W.metavariables n) refl (look_mets W S m b) q
   where
     later : MetIn W S m b → MetIn W (met n ∷ S) m b
     later h = (h.0, inr h.1, h.2, h.3)
 
-    go : (o : Option Declared) → nth W.metavariables n ≡ o → (look_up (mets_in W S) m ≡ Some b → MetIn W S m b) → look_up (with_boundary n o (mets_in W S)) m ≡ Some b → MetIn W (met n ∷ S) m b
+    go : (o : Option Declared) → nth W.metavariables n ≡ o → (look_up (boundaries_in W S) m ≡ Some b → MetIn W S m b) → look_up (with_boundary n o (boundaries_in W S)) m ≡ Some b → MetIn W (met n ∷ S) m b
     go None e ih q = later (ih q)
     go (Some d) e ih q = by_test (MetIn W (met n ∷ S) m b) m n
-        (λ p. (d, inl (ap met p), subst (λ z. nth W.metavariables z ≡ Some d) (sym p) e, found m (n, d.boundary) (mets_in W S) b p q))
-        (λ p. later (ih (past m (n, d.boundary) (mets_in W S) b p q)))
+        (λ p. (d, inl (ap met p), subst (λ z. nth W.metavariables z ≡ Some d) (sym p) e, found m (n, d.boundary) (boundaries_in W S) b p q))
+        (λ p. later (ih (past m (n, d.boundary) (boundaries_in W S) b p q)))
 look_mets W (var n ∷ S) m b q = let h : MetIn W S m b = look_mets W S m b q in (h.0, inr h.1, h.2, h.3)
 
-pub mets_look : (W : Store) (S : List Atom) (m : ℕ) (d : Declared) → Has (met m) S → nth W.metavariables m ≡ Some d → look_up (mets_in W S) m ≡ Some d.boundary
+pub mets_look : (W : Store) (S : List Atom) (m : ℕ) (d : Declared) → Has (met m) S → nth W.metavariables m ≡ Some d → look_up (boundaries_in W S) m ≡ Some d.boundary
 mets_look W [] m d h q = absurd h
 mets_look W (met n ∷ S) m d h q = go (nth W.metavariables n) refl (mets_look W S m d) h
   where
@@ -55,34 +55,34 @@ mets_look W (met n ∷ S) m d h q = go (nth W.metavariables n) refl (mets_look W
     both_some : (c : Declared) → Some c ≡ Some d → c ≡ d
     both_some c e = cc
 
-    go : (o : Option Declared) → nth W.metavariables n ≡ o → (Has (met m) S → nth W.metavariables m ≡ Some d → look_up (mets_in W S) m ≡ Some d.boundary) → Has (met m) (met n ∷ S) → look_up (with_boundary n o (mets_in W S)) m ≡ Some d.boundary
-    go None e ih h = by_test (look_up (mets_in W S) m ≡ Some d.boundary) m n
+    go : (o : Option Declared) → nth W.metavariables n ≡ o → (Has (met m) S → nth W.metavariables m ≡ Some d → look_up (boundaries_in W S) m ≡ Some d.boundary) → Has (met m) (met n ∷ S) → look_up (with_boundary n o (boundaries_in W S)) m ≡ Some d.boundary
+    go None e ih h = by_test (look_up (boundaries_in W S) m ≡ Some d.boundary) m n
         (λ p. nothing (sym e ∙ ap (nth W.metavariables) (sym p) ∙ q))
         (λ p. split p h (λ k. ih k q))
-    go (Some c) e ih h = by_test (look_up (with_boundary n (Some c) (mets_in W S)) m ≡ Some d.boundary) m n
-        (λ p. same m n (Some c.boundary) (look_up (mets_in W S) m) p ∙ ap (λ (x : Declared). Some x.boundary) (both_some c (sym e ∙ ap (nth W.metavariables) (sym p) ∙ q)))
-        (λ p. other m n (Some c.boundary) (look_up (mets_in W S) m) p ∙ split p h (λ k. ih k q))
+    go (Some c) e ih h = by_test (look_up (with_boundary n (Some c) (boundaries_in W S)) m ≡ Some d.boundary) m n
+        (λ p. same m n (Some c.boundary) (look_up (boundaries_in W S) m) p ∙ ap (λ (x : Declared). Some x.boundary) (both_some c (sym e ∙ ap (nth W.metavariables) (sym p) ∙ q)))
+        (λ p. other m n (Some c.boundary) (look_up (boundaries_in W S) m) p ∙ split p h (λ k. ih k q))
 mets_look W (var n ∷ S) m d (inl e) q = absurd (clash e)
   where
     clash : met m ≡ var n → ⊥
     clash e = cc
 mets_look W (var n ∷ S) m d (inr h) q = mets_look W S m d h q
 
-pub look_vars : (W : Store) (S : List Atom) (v : ℕ) (A : Expression) → look_up (vars_in W S) v ≡ Some A → VarIn W S v A
+pub look_vars : (W : Store) (S : List Atom) (v : ℕ) (A : Expression) → look_up (annotations_in W S) v ≡ Some A → VarIn W S v A
 look_vars W [] v A q = nothing q
 look_vars W (var n ∷ S) v A q = go (look_up W.variables n) refl (look_vars W S v A) q
   where
     later : VarIn W S v A → VarIn W (var n ∷ S) v A
     later h = (h.0, inr h.1, h.2, h.3)
 
-    go : (o : Option Annotation) → look_up W.variables n ≡ o → (look_up (vars_in W S) v ≡ Some A → VarIn W S v A) → look_up (with_annotation n o (vars_in W S)) v ≡ Some A → VarIn W (var n ∷ S) v A
+    go : (o : Option Annotation) → look_up W.variables n ≡ o → (look_up (annotations_in W S) v ≡ Some A → VarIn W S v A) → look_up (with_annotation n o (annotations_in W S)) v ≡ Some A → VarIn W (var n ∷ S) v A
     go None e ih q = later (ih q)
     go (Some d) e ih q = by_test (VarIn W (var n ∷ S) v A) v n
-        (λ p. (d, inl (ap var p), subst (λ z. look_up W.variables z ≡ Some d) (sym p) e, found v (n, d.annotation) (vars_in W S) A p q))
-        (λ p. later (ih (past v (n, d.annotation) (vars_in W S) A p q)))
+        (λ p. (d, inl (ap var p), subst (λ z. look_up W.variables z ≡ Some d) (sym p) e, found v (n, d.annotation) (annotations_in W S) A p q))
+        (λ p. later (ih (past v (n, d.annotation) (annotations_in W S) A p q)))
 look_vars W (met n ∷ S) v A q = let h : VarIn W S v A = look_vars W S v A q in (h.0, inr h.1, h.2, h.3)
 
-pub vars_look : (W : Store) (S : List Atom) (v : ℕ) (d : Annotation) → Has (var v) S → look_up W.variables v ≡ Some d → look_up (vars_in W S) v ≡ Some d.annotation
+pub vars_look : (W : Store) (S : List Atom) (v : ℕ) (d : Annotation) → Has (var v) S → look_up W.variables v ≡ Some d → look_up (annotations_in W S) v ≡ Some d.annotation
 vars_look W [] v d h q = absurd h
 vars_look W (var n ∷ S) v d h q = go (look_up W.variables n) refl (vars_look W S v d) h
   where
@@ -96,13 +96,13 @@ vars_look W (var n ∷ S) v d h q = go (look_up W.variables n) refl (vars_look W
     both_some : (c : Annotation) → Some c ≡ Some d → c ≡ d
     both_some c e = cc
 
-    go : (o : Option Annotation) → look_up W.variables n ≡ o → (Has (var v) S → look_up W.variables v ≡ Some d → look_up (vars_in W S) v ≡ Some d.annotation) → Has (var v) (var n ∷ S) → look_up (with_annotation n o (vars_in W S)) v ≡ Some d.annotation
-    go None e ih h = by_test (look_up (vars_in W S) v ≡ Some d.annotation) v n
+    go : (o : Option Annotation) → look_up W.variables n ≡ o → (Has (var v) S → look_up W.variables v ≡ Some d → look_up (annotations_in W S) v ≡ Some d.annotation) → Has (var v) (var n ∷ S) → look_up (with_annotation n o (annotations_in W S)) v ≡ Some d.annotation
+    go None e ih h = by_test (look_up (annotations_in W S) v ≡ Some d.annotation) v n
         (λ p. nothing (sym e ∙ ap (look_up W.variables) (sym p) ∙ q))
         (λ p. split p h (λ k. ih k q))
-    go (Some c) e ih h = by_test (look_up (with_annotation n (Some c) (vars_in W S)) v ≡ Some d.annotation) v n
-        (λ p. same v n (Some c.annotation) (look_up (vars_in W S) v) p ∙ ap (λ (x : Annotation). Some x.annotation) (both_some c (sym e ∙ ap (look_up W.variables) (sym p) ∙ q)))
-        (λ p. other v n (Some c.annotation) (look_up (vars_in W S) v) p ∙ split p h (λ k. ih k q))
+    go (Some c) e ih h = by_test (look_up (with_annotation n (Some c) (annotations_in W S)) v ≡ Some d.annotation) v n
+        (λ p. same v n (Some c.annotation) (look_up (annotations_in W S) v) p ∙ ap (λ (x : Annotation). Some x.annotation) (both_some c (sym e ∙ ap (look_up W.variables) (sym p) ∙ q)))
+        (λ p. other v n (Some c.annotation) (look_up (annotations_in W S) v) p ∙ split p h (λ k. ih k q))
 vars_look W (met n ∷ S) v d (inl e) q = absurd (clash e)
   where
     clash : var v ≡ met n → ⊥
@@ -110,12 +110,12 @@ vars_look W (met n ∷ S) v d (inl e) q = absurd (clash e)
 vars_look W (met n ∷ S) v d (inr h) q = vars_look W S v d h q
 
 -- a larger set has larger maps
-pub extends : (W : Store) (S R : List Atom) → Within S R → Extends (mets_in W S) (mets_in W R)
+pub extends : (W : Store) (S R : List Atom) → Within S R → Extends (boundaries_in W S) (boundaries_in W R)
 extends W S R w m b q =
     let h : MetIn W S m b = look_mets W S m b q in
     mets_look W R m h.0 (w (met m) h.1) h.2 ∙ ap Some h.3
 
-pub grows : (W : Store) (S R : List Atom) → Within S R → Grows (vars_in W S) (vars_in W R)
+pub grows : (W : Store) (S R : List Atom) → Within S R → Grows (annotations_in W S) (annotations_in W R)
 grows W S R w v A q =
     let h : VarIn W S v A = look_vars W S v A q in
     vars_look W R v h.0 (w (var v) h.1) h.2 ∙ ap Some h.3
@@ -171,9 +171,9 @@ proper_unions W (p ∷ ps) h = proper_union W p.set (unions (sets ps)) h.0.prope
 
 -- over a larger set
 pub up : (W : Store) → ScopedTheory W.rules → (x : Statement) (S R : List Atom) → Within S R → Derivable W x S → Derivable W x R
-up W sc x S R w p = weaken W.rules sc (mets_in W S) (mets_in W R) (vars_in W S) (vars_in W R) x (extends W S R w) (grows W S R w) p
+up W sc x S R w p = weaken W.rules sc (boundaries_in W S) (boundaries_in W R) (annotations_in W S) (annotations_in W R) x (extends W S R w) (grows W S R w) p
 
-pub up_all : (W : Store) → ScopedTheory W.rules → (ps : List Assertion) (R : List Atom) → Within (unions (sets ps)) R → AllValid W ps → Trees (Step W.rules) (sequents (mets_in W R) (vars_in W R) (statements ps))
+pub up_all : (W : Store) → ScopedTheory W.rules → (ps : List Assertion) (R : List Atom) → Within (unions (sets ps)) R → AllValid W ps → Trees (Step W.rules) (sequents (boundaries_in W R) (annotations_in W R) (statements ps))
 up_all W sc [] R w h = none
 up_all W sc (p ∷ ps) R w h = more
     (up W sc p.statement p.set R (λ a k. w a (union_left a p.set (unions (sets ps)) k)) h.0.derivable)
@@ -187,12 +187,12 @@ later_closed W X S l c a h = let r : (R : List Atom) × Declares W a R × Within
     go (met m) R d = (d.0, l.metavariables m d.0 d.1, d.2)
     go (var v) R d = (d.0, l.variables v d.0 d.1, d.2)
 
-pub later_mets : (W X : Store) (S : List Atom) → Later W X → Extends (mets_in W S) (mets_in X S)
+pub later_mets : (W X : Store) (S : List Atom) → Later W X → Extends (boundaries_in W S) (boundaries_in X S)
 later_mets W X S l m b q =
     let h : MetIn W S m b = look_mets W S m b q in
     mets_look X S m h.0 h.1 (l.metavariables m h.0 h.2) ∙ ap Some h.3
 
-pub later_vars : (W X : Store) (S : List Atom) → Later W X → Grows (vars_in W S) (vars_in X S)
+pub later_vars : (W X : Store) (S : List Atom) → Later W X → Grows (annotations_in W S) (annotations_in X S)
 later_vars W X S l v A q =
     let h : VarIn W S v A = look_vars W S v A q in
     vars_look X S v h.0 h.1 (l.variables v h.0 h.2) ∙ ap Some h.3
@@ -200,8 +200,8 @@ later_vars W X S l v A q =
 pub later_valid : (W X : Store) (x : Statement) (S : List Atom) → ScopedTheory X.rules → Later W X → Valid W x S → Valid X x S
 later_valid W X x S sc l v = record {
   proper = record { ascending = v.proper.ascending; closed = later_closed W X S l v.proper.closed };
-  derivable = weaken X.rules sc (mets_in W S) (mets_in X S) (vars_in W S) (vars_in X S) x (later_mets W X S l) (later_vars W X S l)
-      (more_rules W.rules X.rules l.rules (sequent (mets_in W S) (vars_in W S) x) v.derivable);
+  derivable = weaken X.rules sc (boundaries_in W S) (boundaries_in X S) (annotations_in W S) (annotations_in X S) x (later_mets W X S l) (later_vars W X S l)
+      (more_rules W.rules X.rules l.rules (sequent (boundaries_in W S) (annotations_in W S) x) v.derivable);
 }
 
 -- what a good list's store has
@@ -220,10 +220,10 @@ scoped_rules W F = scoped W.rules (sound_rules W F)
 
 -- a statement mentions only atoms of its set
 pub mentions : (W : Store) (x : Statement) (S : List Atom) → Derivable W x S → StatementMentionsOnly (λ v. Has (var v) S) (λ m k. Has (met m) S) x
-mentions W x S p = stmt_mono x (Fine (mets_in W S) (vars_in W S)) (λ k. MentionsOnly (λ v. Has (var v) S) (λ m k. Has (met m) S)) zero
-    (λ k e f. Uses_mono e (InVars (vars_in W S)) (λ v. Has (var v) S) (InMets (mets_in W S)) (λ m k. Has (met m) S)
+mentions W x S p = stmt_mono x (Fine (boundaries_in W S) (annotations_in W S)) (λ k. MentionsOnly (λ v. Has (var v) S) (λ m k. Has (met m) S)) zero
+    (λ k e f. Uses_mono e (InVars (annotations_in W S)) (λ v. Has (var v) S) (InMets (boundaries_in W S)) (λ m k. Has (met m) S)
     (λ v h. (look_vars W S v h.0 h.1).1) (λ m k h. (look_mets W S m h.0 h.1).1) f.1)
-    (scope W.rules (sequent (mets_in W S) (vars_in W S) x) p)
+    (scope W.rules (sequent (boundaries_in W S) (annotations_in W S) x) p)
 
 pub global : (W : Store) (x : Statement) (S : List Atom) → Derivable W x S → ((v : ℕ) → Has (var v) S → ⊥) → IsVariableFree x
 global W x S p n = stmt_mono x (λ k. MentionsOnly (λ v. Has (var v) S) (λ m k. Has (met m) S)) (λ k. MentionsOnly (λ v. ⊥) (λ m k. Unit {0})) zero

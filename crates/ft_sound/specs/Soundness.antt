@@ -1,4 +1,6 @@
--- What holds of each good list.
+-- What holds of each good list of items: its entries are derivable, their contexts well formed, its rules a finitary theory;
+-- and what the verdict tells.
+-- After the soundness of context-free theories in Haselwarter and Bauer, "Finitary type theories with and without contexts".
 use Rattle.std.specs.Prelude.{ℕ, Some, None, ◌≡◌, ◌≢◌, ◌↔◌, List, [], ◌∷◌, ◌++◌, length}
 use Rattle.ft_theory.specs.Statements.{is_type, plain, StatementMentionsOnly}
 use Rattle.ft_theory.specs.Rules.{look_up}
@@ -8,84 +10,85 @@ use Rattle.ft_items.specs.Item.{Name, Entry, Item, entry}
 use Rattle.ft_items.specs.Store.{Annotation, Declared, Store, nth, Derivable, store_of}
 use Rattle.ft_items.specs.Good.{Reject, reason, Allowed, Good, Counts, counts, Accepted, Rejected, verdict}
 
--- each entry of a list, with the store of the items before it
+-- P holds of each entry of the list, with the store of the items before it
 abbrev pub EachEntry : (Store → Entry → Type 0) → List Item → Type 0
 EachEntry P items = (before after : List Item) (e : Entry) → items ≡ before ++ (entry e ∷ after) → P (store_of before) e
 
--- the sequent of each entry has a tree of primitive steps, over the rules before the entry
+-- In a good list the sequent of each entry is derivable by primitive steps, over the rules before the entry.
 abbrev pub EntriesDerivable : Type 0
 EntriesDerivable = (items : List Item) → Good items → EachEntry (λ W e. Derivable W e.statement e.set) items
 
--- a member of a context: its annotation is derivable over the members before it
+-- a member of a context is declared, and its boundary or its type is derivable over the members done before it
 abbrev pub MemberHolds : Store → List Atom → Atom → Type 0
 MemberHolds W done (met m) = (d : Declared) × (nth W.metavariables m ≡ Some d) × Derivable W d.boundary done
 MemberHolds W done (var v) = (d : Annotation) × (look_up W.variables v ≡ Some d) × Derivable W (plain (is_type d.annotation)) done
 
--- each of these members, after those before it
+-- each of these members holds over those done before it
 abbrev pub MembersHold : Store → List Atom → List Atom → Type 0
 MembersHold W done [] = Unit {0}
 MembersHold W done (a ∷ S) = MemberHolds W done a × MembersHold W (done ++ (a ∷ [])) S
 
--- the context of each entry is well formed
+-- In a good list the context of each entry is well formed: its metavariables first and then its variables, by number, each
+-- holds over those before it.
 abbrev pub ContextsWellFormed : Type 0
 ContextsWellFormed = (items : List Item) → Good items → EachEntry (λ W e. MembersHold W [] e.set) items
 
--- the conclusion mentions only atoms of its set
+-- In a good list the statement of each entry mentions only atoms of its set.
 abbrev pub AtomsInSet : Type 0
 AtomsInSet = (items : List Item) → Good items → EachEntry (λ W e. StatementMentionsOnly (λ v. Has (var v) e.set) (λ m k. Has (met m) e.set) e.statement) items
 
--- with an atom the set of its annotation stands in the set
+-- the atom is declared, and the set of its boundary or type is within the set
 abbrev pub HasItsSet : Store → List Atom → Atom → Type 0
 HasItsSet W S (met m) = (d : Declared) × (nth W.metavariables m ≡ Some d) × Within d.set S
 HasItsSet W S (var v) = (d : Annotation) × (look_up W.variables v ≡ Some d) × Within d.set S
 
--- the sets of entries are closed
+-- In a good list the set of each entry has, with an atom, the set of that atom's boundary or type.
 abbrev pub SetsClosed : Type 0
 SetsClosed = (items : List Item) → Good items → EachEntry (λ W e. (a : Atom) → Has a e.set → HasItsSet W e.set a) items
 
--- the rules form a finitary theory, at each level
+-- The rules of a good list form a finitary theory, whichever kinds of wide step are allowed.
 abbrev pub RulesFinitary : Type 0
 RulesFinitary = (items : List Item) → Good items → (k : ℕ) → FinitaryUpTo k (store_of items).rules
 
--- no two rules have one name
+-- the name differs from each of the others
 abbrev pub Differs : Name → List Name → Type 0
 Differs n [] = Unit {0}
 Differs n (m ∷ ms) = (n ≢ m) × Differs n ms
 
--- all of them differ
+-- no two of the names are the same
 abbrev pub AllDiffer : List Name → Type 0
 AllDiffer [] = Unit {0}
 AllDiffer (n ∷ ns) = Differs n ns × AllDiffer ns
 
--- each rule has a name, and the names differ
+-- In a good list each rule has a name, and the names differ.
 abbrev pub NamesDiffer : Type 0
 NamesDiffer = (items : List Item) → Good items → AllDiffer (store_of items).names × (length (store_of items).names ≡ length (store_of items).rules)
 
--- after a good list an item is allowed exactly where no reason against it is found
+-- After a good list an item is allowed exactly where there is no reason against it.
 abbrev pub AllowedWithoutReason : Type 0
 AllowedWithoutReason = (items : List Item) → Good items → (i : Item) → Allowed items i ↔ (reason items i ≡ None)
 
--- the verdict accepts exactly the good lists, with their counts
+-- What is accepted is good, and its counts are told.
 abbrev pub AcceptedAreGood : Type 0
 AcceptedAreGood = (items : List Item) (c : Counts) → verdict items ≡ Accepted c → Good items × (c ≡ counts items)
 
--- a good list is accepted
+-- A good list is accepted, with its counts.
 abbrev pub GoodAreAccepted : Type 0
 GoodAreAccepted = (items : List Item) → Good items → verdict items ≡ Accepted (counts items)
 
--- and else names the first item that isn't allowed, with its reason
+-- What is rejected has an item of the number told, after a good list, and the reason told is its first one.
 abbrev pub RejectedIsFirst : Type 0
 RejectedIsFirst = (items : List Item) (k : ℕ) (why : Reject) → verdict items ≡ Rejected k why
     → (before : List Item) × (i : Item) × (after : List Item) × (items ≡ before ++ (i ∷ after)) × (length before ≡ k) × Good before × (reason before i ≡ Some why)
 
--- the first item with a reason against it is the one named
+-- Where a good list is followed by an item with a reason against it, that item is the one named, whatever follows.
 abbrev pub FirstIsRejected : Type 0
 FirstIsRejected = (before after : List Item) (i : Item) (why : Reject) → Good before → reason before i ≡ Some why → verdict (before ++ (i ∷ after)) ≡ Rejected (length before) why
 
--- a list is good where each item, tested by itself after those before it, has no reason against it
+-- A list is good where each item, tested by itself after those before it, has no reason against it.
 abbrev pub NoReasonIsGood : Type 0
 NoReasonIsGood = (items : List Item) → ((before after : List Item) (i : Item) → items ≡ before ++ (i ∷ after) → reason before i ≡ None) → Good items
 
--- each entry of an accepted list is derivable by primitive steps, whatever the level
+-- In an accepted list the sequent of each entry is derivable by primitive steps, whatever level is told.
 abbrev pub AcceptedAreDerivable : Type 0
 AcceptedAreDerivable = (items : List Item) (c : Counts) → verdict items ≡ Accepted c → EachEntry (λ W e. Derivable W e.statement e.set) items

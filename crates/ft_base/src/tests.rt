@@ -33,7 +33,7 @@ fn a_name_is_a_name_token(rt: HostRuntime) -> Result<(), Fail> {
 fn names_are_compared_by_their_characters(rt: HostRuntime) -> Result<(), Fail> {
     let name = Name::new(rt.alloc(), "né")?.ok_or("no name")?;
     assert!(rt; name.chars() == ['n', 'é'].as_slice());
-    let same = Name::from_chars(rt.alloc(), name.chars())?;
+    let same = Name::from_chars(name.chars().to_vec(rt.alloc())?);
     assert!(rt; same == Some(name.copy()?));
     let other = Name::new(rt.alloc(), "nf")?.ok_or("no name")?;
     assert!(rt; other != name);

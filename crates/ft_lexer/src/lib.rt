@@ -1,0 +1,10 @@
+//! The tokens of a source.
+#![tactic(auto)]
+
+mod front;
+mod scan;
+mod token;
+
+pub use ft_base::Word;
+pub use scan::tokens;
+pub use token::{Kind, Mark, Token};

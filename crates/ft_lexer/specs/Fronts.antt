@@ -2,7 +2,7 @@
 use Rattle.std.specs.Prelude.{ℕ, zero, suc, ◌+◌, ◌-◌, ◌*◌, ◌==◌, ◌&&◌, ◌||◌, Bool, true, false, not, if◌then◌else◌, nat_lt, List, [], ◌∷◌, take, Option, Some, None}
 use Rattle.std.specs.Char.{is_ascii_digit}
 use Rattle.unicode_ident.specs.Ident.{is_xid_continue}
-use Rattle.ft_base.specs.Names.{starts_name, is_lone_underscore}
+use Rattle.ft_base.specs.Names.{starts_name, is_name_token}
 use Rattle.ft_base.specs.Words.{word_of}
 use Rattle.ft_base.specs.declared.word.Word.{Word as AnyWord}
 use Rattle.ft_lexer.specs.declared.token.Kind.{Kind}
@@ -27,14 +27,14 @@ begins_comment c (d ∷ cs) = c == 45 && d == 45
 abbrev pub is_no_line_feed : ℕ → Bool
 is_no_line_feed c = not (c == 10)
 
--- characters that a name may have: a lone underscore is a mark, and a word is that word
-abbrev pub word_or_name : Option AnyWord → List ℕ → Kind
-word_or_name (Some w) spelling = Word w
-word_or_name None spelling = Name spelling
+-- characters that begin as a name and go on as one are that name where they are a name token; else they are one of the words,
+-- or the lone underscore, which is a mark
+abbrev pub word_or_mark : Option AnyWord → Kind
+word_or_mark (Some w) = Word w
+word_or_mark None = Mark mark.Underscore
 
 abbrev pub name_kind : List ℕ → Kind
-name_kind spelling =
-    if is_lone_underscore spelling then Mark mark.Underscore else word_or_name (word_of spelling) spelling
+name_kind spelling = if is_name_token spelling then Name spelling else word_or_mark (word_of spelling)
 
 -- the number that decimal digits write after those of n
 abbrev pub decimal_value : ℕ → List ℕ → ℕ

@@ -1,11 +1,10 @@
 //! What stands at the front of a list of characters.
 
-ghost use Rattle.std.specs.Prelude.{◌≡◌, ◌≤◌, ◌<◌, ◌+◌, ◌∷◌, ◌^◌, IfOk, length, suc, nat_lt, Some, None, IsTrue, if◌then◌else◌};
-ghost use Rattle.std.specs.List.{list_all};
+ghost use Rattle.std.specs.Prelude.{◌≡◌, ◌≤◌, ◌<◌, ◌+◌, ◌-◌, ◌∷◌, ◌^◌, IfOk, length, suc, nat_lt, Some, None, IsTrue, if◌then◌else◌};
 ghost use Rattle.unicode_ident.specs.Ident.{is_xid_continue as continues};
 ghost use Rattle.std.specs.Char.{is_ascii_digit};
 ghost use Rattle.ft_base.specs.Names.{starts_name};
-ghost use Rattle.ft_lexer.specs.Fronts.{run, is_space, begins_comment, decimal_value, mark_kind, is_no_line_feed, name_kind, number_kind, mark_front, front};
+ghost use Rattle.ft_lexer.specs.Fronts.{run, is_space, word_or_mark, begins_comment, decimal_value, mark_kind, is_no_line_feed, name_kind, number_kind, mark_front, front};
 
 use crate::token::{Kind, Mark};
 use ft_base::limits::MAX_SOURCE_NUMBER;
@@ -105,24 +104,36 @@ fn digit_run(text: &[char]) -> usize
 
 // What a run of characters is that begins as a name and goes on as one.
 fn name(alloc: Global, first: char, rest: &[char]) -> Result<Kind, Memory>
-    requires starts { IsTrue (starts_name first) }
-    requires goes_on { IsTrue (list_all continues rest.now) }
     ensures { IfOk result (λ k. k ≡ name_kind (first ∷ rest.now)) }
 {
     let mut spelling = Vec::new(alloc);
     spelling.push(first)?;
     spelling.extend_from_slice(rest)?;
-    if let Some(word) = Word::of(&spelling) {
-        return Ok(Kind::Word(word));
-    }
+    Ok(name_or_word(spelling))
+}
+
+fn name_or_word(spelling: Vec<char>) -> Kind
+    ensures { result ≡ name_kind spelling.items }
+{
+    let word = Word::of(&spelling);
     match Name::from_chars(spelling) {
-        Some(name) => Ok(Kind::Name(name)),
-        None => Ok(Kind::Mark(Mark::Underscore)),
+        Some(name) => Kind::Name(name),
+        None => word_or_underscore(word),
+    }
+}
+
+fn word_or_underscore(word: Option<Word>) -> Kind
+    ensures { result ≡ word_or_mark word }
+{
+    match word {
+        Some(word) => Kind::Word(word),
+        None => Kind::Mark(Mark::Underscore),
     }
 }
 
 // What a run of digits is.
 fn number(first: char, rest: &[char]) -> Kind
+    requires { IsTrue (is_ascii_digit first) }
     ensures { result ≡ number_kind (first ∷ rest.now) }
 {
     if first == '0' && !rest.is_empty() {

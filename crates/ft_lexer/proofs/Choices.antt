@@ -1,5 +1,5 @@
 -- Choices by tests, and runs of characters.
-use Rattle.std.proofs.Common.{◌≡◌, ◌≤◌, ◌+◌, refl, ℕ, zero, suc, List, [], ◌∷◌, ◌++◌, length, take, drop, Bool, true, false, not, ◌&&◌, ◌||◌, IsTrue, if◌then◌else◌, arith}
+use Rattle.std.proofs.Common.{◌≡◌, ◌≤◌, refl, ℕ, suc, List, [], ◌∷◌, ◌++◌, length, take, drop, Bool, true, false, ◌&&◌, ◌||◌, IsTrue, if◌then◌else◌, arith}
 use Rattle.std.proofs.lemmas.Bool.{eqb-true}
 use Rattle.std.specs.List.{list_all}
 use Rattle.ft_lexer.specs.Fronts.{run, is_no_line_feed}
@@ -9,6 +9,20 @@ use Rattle.ft_lexer.specs.Made.{IsLineEnd}
 pub if_both : {X : Type 0} (P : X → Type 0) (b : Bool) (x y : X) → (b ≡ true → P x) → (b ≡ false → P y) → P (if b then x else y)
 if_both P true x y first second = first refl
 if_both P false x y first second = second refl
+
+pub if_true : {X : Type 0} (x y : X) (b : Bool) → b ≡ true → (if b then x else y) ≡ x
+if_true x y b e = rw e refl
+
+pub if_false : {X : Type 0} (x y : X) (b : Bool) → b ≡ false → (if b then x else y) ≡ y
+if_false x y b e = rw e refl
+
+pub false_unless : (b : Bool) → (b ≡ true → ⊥) → b ≡ false
+false_unless true no_more = absurd (no_more refl)
+false_unless false no_more = refl
+
+pub and_false : (b : Bool) → (b && false) ≡ false
+and_false true = refl
+and_false false = refl
 
 pub and_left : (a b : Bool) → (a && b) ≡ true → a ≡ true
 and_left true b e = refl

@@ -1,4 +1,4 @@
-use Rattle.std.proofs.Common.{◌≡◌, ◌≤◌, ◌<◌, ◌+◌, ◌-◌, ◌*◌, ap, refl, ℕ, List, [], ◌∷◌, Option, Some, None, Bool, true, false, if◌then◌else◌, nat_lt, arith}
+use Rattle.std.proofs.Common.{◌≡◌, ◌≤◌, ◌<◌, ◌+◌, ◌-◌, ◌*◌, ap, refl, ℕ, List, [], ◌∷◌, Some, None, Bool, true, false, if◌then◌else◌, nat_lt, arith}
 use Rattle.ft_lexer.specs.declared.token.Kind.{Kind}
 use Rattle.ft_lexer.specs.declared.token.Kind.TheVariants.{Name}
 use Rattle.ft_lexer.specs.Fronts.{decimal_value}

@@ -1,17 +1,17 @@
 -- A text is made of its tokens.
-use Rattle.std.proofs.Common.{◌≡◌, ◌≤◌, ◌<◌, ◌+◌, ◌-◌, ◌∙◌, sym, ap, refl, subst, ℕ, zero, suc, List, [], ◌∷◌, ◌++◌, length, take, drop, Option, Some, None, Bool, true, false, not, ◌&&◌, ◌==◌, IsTrue, if◌then◌else◌, arith}
+use Rattle.std.proofs.Common.{◌≡◌, ◌≤◌, ◌<◌, ◌+◌, ◌∙◌, sym, ap, refl, subst, ℕ, zero, suc, List, [], ◌∷◌, ◌++◌, length, take, drop, Option, Some, None, true, false, ◌==◌, arith}
 use Rattle.std.specs.List.{list_all}
 use Rattle.std.specs.Str.{all_ascii_digits}
 use Rattle.std.specs.Char.{len_utf8, is_ascii_digit}
 use Rattle.std.proofs.lemmas.Bool.{eqb-true}
-use Rattle.std.proofs.lemmas.List.{length-append, length-drop, take-append-drop}
+use Rattle.std.proofs.lemmas.List.{length-drop, take-append-drop}
 use Rattle.std.proofs.lemmas.Str.{len_utf8_bounds}
 use Rattle.unicode_ident.specs.Ident.{is_xid_continue}
 use Rattle.ft_base.specs.Names.{starts_name}
 use Rattle.ft_lexer.specs.declared.token.Kind.{Kind}
 use Rattle.ft_lexer.specs.declared.token.Kind.TheVariants.{Name, Number, Word, Mark, Bad, End}
 use Rattle.ft_lexer.specs.declared.token.Token.{Token}
-use Rattle.ft_lexer.specs.Fronts.{run, is_space, begins_comment, is_no_line_feed, name_kind, number_kind, mark_front, front}
+use Rattle.ft_lexer.specs.Fronts.{run, is_space, begins_comment, is_no_line_feed, name_kind, number_kind, front}
 use Rattle.ft_lexer.specs.Tokens.{width, token_at, tokens_from, tokens_of}
 use Rattle.ft_lexer.specs.Made.{IsSpelled, IsMadeOf, at_end, space, comment, token, is_end, is_ended, IsRising}
 use Rattle.ft_lexer.proofs.Choices.{if_both, and_left, and_right, run-le, list_all-take-run, line_end}
@@ -81,12 +81,14 @@ front-is c cs =
     (λ _. mark_front-spelled c cs))))
 
 -- one piece before the rest
-joined : (kind : Option Kind) (n : ℕ) (text : List ℕ) (at : ℕ) (tokens : List Token) → IsPiece kind n text
-    → IsMadeOf (at + width (take n text)) (drop n text) tokens → IsMadeOf at text (token_at at kind (at + width (take n text)) ++ tokens)
-joined None n text at tokens piece made = piece at tokens made
-joined (Some kind) n text at tokens spelled made =
-    subst (λ cs. IsMadeOf at cs (record { kind = kind; start = at; end = at + width (take n text) } ∷ tokens)) (take-append-drop n text)
-    (token at kind (take n text) (drop n text) tokens spelled made)
+piece_joined : (kind : Option Kind) (n : ℕ) (c : ℕ) (cs : List ℕ) (at : ℕ) (tokens : List Token) → 0 < n → IsPiece kind n (c ∷ cs)
+    → IsMadeOf (at + width (take n (c ∷ cs))) (drop n (c ∷ cs)) tokens
+    → IsMadeOf at (c ∷ cs) (token_at at kind (at + width (take n (c ∷ cs))) ++ tokens)
+piece_joined kind zero c cs at tokens some piece made = absurd (omega arith)
+piece_joined None (suc n) c cs at tokens some piece made = piece at tokens made
+piece_joined (Some kind) (suc n) c cs at tokens some spelled made =
+    subst (λ ds. IsMadeOf at (c ∷ ds) (record { kind = kind; start = at; end = at + width (c ∷ take n cs) } ∷ tokens)) (take-append-drop n cs)
+    (token at kind c (take n cs) (drop n cs) tokens spelled made)
 
 made_from : (most at : ℕ) (cs : List ℕ) → length cs ≤ most → IsMadeOf at cs (tokens_from at 0 cs)
 made_from most at [] within = at_end at
@@ -98,7 +100,66 @@ made_from (suc most) at (c ∷ cs) within =
     let there = at + width (take n text) in
     let shorter : length (drop n text) ≤ most = omega (arith, length-drop n text, is.0) in
     subst (IsMadeOf at text) (sym (tokens_step at c cs (front c cs).0 n refl is.0 is.1))
-    (joined (front c cs).0 n text at (tokens_from there 0 (drop n text)) is.2 (made_from most there (drop n text) shorter))
+    (piece_joined (front c cs).0 n c cs at (tokens_from there 0 (drop n text)) is.0 is.2 (made_from most there (drop n text) shorter))
 
 pub tokens_of-made : (text : List ℕ) → IsMadeOf 0 text (tokens_of text)
 tokens_of-made text = made_from (length text) 0 text (omega arith)
+
+-- ---- what follows for the tokens
+
+is_end-spelled : (kind : Kind) (spelling : List ℕ) → IsSpelled kind spelling → is_end kind ≡ false
+is_end-spelled (Name name) spelling is = refl
+is_end-spelled (Number n) spelling is = refl
+is_end-spelled (Word w) spelling is = refl
+is_end-spelled (Mark m) spelling is = refl
+is_end-spelled Bad spelling is = refl
+is_end-spelled End spelling is = absurd is
+
+is_ended-more : (t : Token) (ts : List Token) → is_end t.kind ≡ false → is_ended ts ≡ true → is_ended (t ∷ ts) ≡ true
+is_ended-more t [] other ended = cc
+is_ended-more t (u ∷ us) other ended = rw other ended
+
+pub is_ended-made : (at : ℕ) (text : List ℕ) (tokens : List Token) → IsMadeOf at text tokens → is_ended tokens ≡ true
+is_ended-made _ _ _ (at_end at) = refl
+is_ended-made _ _ _ (space at c rest tokens is made) = is_ended-made (at + len_utf8 c) rest tokens made
+is_ended-made _ _ _ (comment at line rest tokens all ends made) = is_ended-made (at + width (45 ∷ 45 ∷ line)) rest tokens made
+is_ended-made _ _ _ (token at kind c cs rest tokens spelled made) =
+    is_ended-more (record { kind = kind; start = at; end = at + width (c ∷ cs) }) tokens (is_end-spelled kind (c ∷ cs) spelled) (is_ended-made (at + width (c ∷ cs)) rest tokens made)
+
+IsRising-lower : (lower low : ℕ) (tokens : List Token) (high : ℕ) → lower ≤ low → IsRising low tokens high → IsRising lower tokens high
+IsRising-lower lower low [] high le rises = omega arith
+IsRising-lower lower low (t ∷ ts) high le rises = (omega (arith, rises.0), rises.1, rises.2, rises.3)
+
+width-append : (before after : List ℕ) → width (before ++ after) ≡ width before + width after
+width-append [] after = omega arith
+width-append (c ∷ cs) after = omega (arith, width-append cs after)
+
+pub IsRising-made : (at : ℕ) (text : List ℕ) (tokens : List Token) → IsMadeOf at text tokens → IsRising at tokens (at + width text)
+IsRising-made _ _ _ (at_end at) = (omega arith, omega arith, λ other. cc, omega arith)
+IsRising-made _ _ _ (space at c rest tokens is made) =
+    let further : at + len_utf8 c + width rest ≡ at + width (c ∷ rest) = omega arith in
+    IsRising-lower at (at + len_utf8 c) tokens _ (omega arith)
+    (subst (IsRising (at + len_utf8 c) tokens) further (IsRising-made (at + len_utf8 c) rest tokens made))
+IsRising-made _ _ _ (comment at line rest tokens all ends made) =
+    let there = at + width (45 ∷ 45 ∷ line) in
+    let further : there + width rest ≡ at + width (45 ∷ 45 ∷ line ++ rest) = omega (arith, width-append (45 ∷ 45 ∷ line) rest) in
+    IsRising-lower at there tokens _ (omega arith) (subst (IsRising there tokens) further (IsRising-made there rest tokens made))
+IsRising-made _ _ _ (token at kind c cs rest tokens spelled made) =
+    let there = at + width (c ∷ cs) in
+    let further : there + width rest ≡ at + width (c ∷ cs ++ rest) = omega (arith, width-append (c ∷ cs) rest) in (
+      omega arith,
+      omega arith,
+      λ other. omega (arith, (len_utf8_bounds c).0),
+      subst (IsRising there tokens) further (IsRising-made there rest tokens made),
+    )
+
+pub tokens_of-ended : (text : List ℕ) → is_ended (tokens_of text) ≡ true
+tokens_of-ended text = is_ended-made 0 text (tokens_of text) (tokens_of-made text)
+
+pub tokens_of-rising : (text : List ℕ) → IsRising 0 (tokens_of text) (width text)
+tokens_of-rising text =
+    let whole : 0 + width text ≡ width text = omega arith in
+    subst (IsRising 0 (tokens_of text)) whole (IsRising-made 0 text (tokens_of text) (tokens_of-made text))
+
+pub is_ended_of : (tokens : List Token) (text : List ℕ) → tokens ≡ tokens_of text → is_ended tokens ≡ true
+is_ended_of tokens text is = ap is_ended is ∙ tokens_of-ended text

@@ -1,9 +1,8 @@
 -- What stands at the front of a text is spelled as it is told.
-use Rattle.std.proofs.Common.{rules, ◌≡◌, ◌≤◌, ◌<◌, ◌+◌, ◌∙◌, sym, ap, refl, subst, ℕ, zero, suc, List, [], ◌∷◌, ◌++◌, length, take, drop, Option, Some, None, Bool, true, false, not, ◌&&◌, ◌||◌, ◌==◌, is_some, is_none, nat_lt, nat_le, IsTrue, if◌then◌else◌, find, arith}
+use Rattle.std.proofs.Common.{rules, ◌≡◌, ◌≤◌, ◌<◌, ◌+◌, ◌∙◌, sym, ap, refl, subst, ℕ, List, [], ◌∷◌, length, take, Option, Some, None, Bool, true, false, not, ◌&&◌, ◌||◌, ◌==◌, is_some, is_none, nat_lt, if◌then◌else◌, find, arith}
 use Rattle.std.specs.Prelude.{decimal, slice_index}
 use Rattle.std.specs.List.{list_all}
 use Rattle.std.specs.Str.{bytes_eq, all_ascii_digits}
-use Rattle.std.specs.Char.{is_ascii_digit}
 use Rattle.std.proofs.lemmas.Bool.{eqb-true}
 use Rattle.std.proofs.lemmas.Fmt.{decimal-digits_value}
 use Rattle.std.proofs.lemmas.Str.Parse.{IsNumeralModel, numerals_by_fold}
@@ -12,10 +11,10 @@ use Rattle.ft_base.specs.declared.word.Word.{Word as AnyWord}
 use Rattle.ft_base.specs.Words.{words, spelling_of, word_of}
 use Rattle.ft_base.specs.Names.{starts_name, is_lone_underscore, is_name_token}
 use Rattle.ft_lexer.specs.declared.token.Kind.{Kind}
-use Rattle.ft_lexer.specs.declared.token.Kind.TheVariants.{Name, Number, Word, Mark, Bad, End}
+use Rattle.ft_lexer.specs.declared.token.Kind.TheVariants.{Name, Number, Mark, Bad}
 use Rattle.ft_lexer.specs.declared.token.Mark.{Mark as AnyMark}
 use Rattle.ft_lexer.specs.declared.token.Mark.TheVariants as mark
-use Rattle.ft_lexer.specs.Fronts.{run, word_or_mark, name_kind, decimal_value, has_leading_zero, number_kind, mark_kind, mark_front}
+use Rattle.ft_lexer.specs.Fronts.{word_or_mark, name_kind, decimal_value, has_leading_zero, number_kind, mark_kind, mark_front}
 use Rattle.ft_lexer.specs.Made.{IsSpelled, mark_spelling}
 use Rattle.ft_lexer.proofs.Choices.{if_both, and_left, and_right, or_left, or_right, IsTrue-from}
 

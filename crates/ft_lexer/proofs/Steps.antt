@@ -1,15 +1,15 @@
-use Rattle.std.proofs.Common.{◌≡◌, ◌≤◌, ◌<◌, ◌+◌, ◌-◌, ◌∙◌, ◌++◌, sym, ap, refl, subst, zero, suc, ℕ, List, [], ◌∷◌, length, take, drop, Option, Some, None, append_assoc, arith}
+use Rattle.std.proofs.Common.{◌≡◌, ◌≤◌, ◌<◌, ◌+◌, ◌-◌, ◌∙◌, ◌++◌, sym, ap, refl, zero, suc, ℕ, List, [], ◌∷◌, length, take, drop, Option, append_assoc, arith}
 use Rattle.std.specs.Char.{len_utf8}
 use Rattle.std.proofs.Math.Seq.{take-length}
 use Rattle.std.specs.Str.{chars, IsUtf8}
-use Rattle.std.specs.Prelude.{encode_utf8, slice_index}
+use Rattle.std.specs.Prelude.{slice_index}
 use Rattle.std.proofs.lemmas.Str.{length-encode, chars_from_encodes}
 use Rattle.std.proofs.lemmas.List.{length-append, drop_more, drop-drop, length-drop}
 use Rattle.std.proofs.Math.Utf8.{encode, encodes}
 use Rattle.ft_lexer.specs.declared.token.Kind.{Kind}
 use Rattle.ft_lexer.specs.declared.token.Token.{Token}
 use Rattle.ft_lexer.specs.Fronts.{front}
-use Rattle.ft_lexer.specs.Tokens.{width, token_at, tokens_from, tokens_of}
+use Rattle.ft_lexer.specs.Tokens.{width, token_at, tokens_from}
 
 -- passing over the characters of a token that was told
 pub tokens_skip : (at k : ℕ) (cs : List ℕ) → k ≤ length cs → tokens_from at k cs ≡ tokens_from (at + width (take k cs)) 0 (drop k cs)

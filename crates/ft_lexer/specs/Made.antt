@@ -29,14 +29,13 @@ mark_spelling mark.Star = codes "*"
 mark_spelling mark.At = codes "@"
 mark_spelling mark.Underscore = codes "_"
 
--- the characters spell a token of this kind; a bad one may be any characters, but not none
+-- the characters spell a token of this kind; a bad one may be any characters
 abbrev pub IsSpelled : Kind → List ℕ → Type 0
 IsSpelled (Name name) spelling = (spelling ≡ name) × IsTrue (is_name_token name)
 IsSpelled (Number n) spelling = (spelling ≡ decimal n) × (n ≤ 65535)
 IsSpelled (Word w) spelling = spelling ≡ spelling_of w
 IsSpelled (Mark m) spelling = spelling ≡ mark_spelling m
-IsSpelled Bad [] = ⊥
-IsSpelled Bad (c ∷ cs) = Unit {0}
+IsSpelled Bad spelling = Unit {0}
 IsSpelled End spelling = ⊥
 
 -- nothing follows, or a line feed
@@ -50,7 +49,7 @@ pub data IsMadeOf : ℕ → List ℕ → List Token → Type 0 where
   at_end : (at : ℕ) → IsMadeOf at [] (record { kind = End; start = at; end = at } ∷ [])
   space : (at c : ℕ) (rest : List ℕ) (tokens : List Token) → IsTrue (is_space c) → IsMadeOf (at + len_utf8 c) rest tokens → IsMadeOf at (c ∷ rest) tokens
   comment : (at : ℕ) (line rest : List ℕ) (tokens : List Token) → IsTrue (list_all is_no_line_feed line) → IsLineEnd rest → IsMadeOf (at + width (codes "--" ++ line)) rest tokens → IsMadeOf at (codes "--" ++ line ++ rest) tokens
-  token : (at : ℕ) (kind : Kind) (spelling rest : List ℕ) (tokens : List Token) → IsSpelled kind spelling → IsMadeOf (at + width spelling) rest tokens → IsMadeOf at (spelling ++ rest) (record { kind = kind; start = at; end = at + width spelling } ∷ tokens)
+  token : (at : ℕ) (kind : Kind) (c : ℕ) (cs rest : List ℕ) (tokens : List Token) → IsSpelled kind (c ∷ cs) → IsMadeOf (at + width (c ∷ cs)) rest tokens → IsMadeOf at (c ∷ cs ++ rest) (record { kind = kind; start = at; end = at + width (c ∷ cs) } ∷ tokens)
 
 -- whether a kind is `End`
 abbrev pub is_end : Kind → Bool

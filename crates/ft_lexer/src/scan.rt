@@ -1,8 +1,9 @@
 //! The tokens of a text.
 
-ghost use Rattle.std.specs.Prelude.{◌≡◌, ◌<◌, ◌^◌, ◌++◌, IfOk, OnOk};
+ghost use Rattle.std.specs.Prelude.{◌≡◌, ◌<◌, ◌^◌, ◌++◌, IfOk, OnOk, IsTrue};
 ghost use Rattle.std.specs.Str.{chars as chars_of};
 ghost use Rattle.ft_lexer.specs.Tokens.{width, token_at, tokens_from, tokens_of};
+ghost use Rattle.ft_lexer.specs.Made.{is_ended};
 
 use crate::front::front_of;
 use crate::token::{Kind, Token};
@@ -12,7 +13,8 @@ use std::alloc::Global;
 /// The tokens of the text in their order, with the bytes of the text at which each begins and ends. White space and comments
 /// belong to none. The last one, and no other, is `End`.
 pub fn tokens(alloc: Global, text: &str) -> Result<Vec<Token>, Memory>
-    ensures { IfOk result (λ v. v.items ≡ tokens_of (chars_of text.now)) }
+    ensures tokens { IfOk result (λ v. v.items ≡ tokens_of (chars_of text.now)) }
+    ensures ended { IfOk result (λ v. IsTrue (is_ended v.items)) }
 {
     let chars: Vec<char> = text.chars().collect(alloc)?;
     scan_of(alloc, &chars)

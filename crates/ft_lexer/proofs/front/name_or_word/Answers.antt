@@ -1,4 +1,4 @@
-use Rattle.std.proofs.Common.{rules, ◌≡◌, ◌∙◌, sym, ap}
+use Rattle.std.proofs.Common.{rules, ◌≡◌, ◌∙◌, sym}
 use Rattle.ft_base.specs.Names.{is_name_token}
 use Rattle.ft_base.specs.Words.{word_of}
 use Rattle.ft_lexer.specs.Fronts.{word_or_mark}

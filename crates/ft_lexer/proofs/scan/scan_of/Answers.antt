@@ -1,8 +1,7 @@
-use Rattle.std.proofs.Common.{rules, ◌≡◌, ◌∙◌, ◌+◌, ap, subst, ◌≤◌, arith, length, take, drop}
+use Rattle.std.proofs.Common.{rules, ◌≡◌, ◌∙◌, ◌+◌, subst, ◌≤◌, arith, length, drop}
 use Rattle.std.specs.Prelude.{slice_index}
-use Rattle.std.proofs.lemmas.List.{length-drop, get_or_default}
+use Rattle.std.proofs.lemmas.List.{get_or_default}
 use Rattle.ft_lexer.specs.Fronts.{front}
-use Rattle.ft_lexer.specs.Tokens.{width}
 use Rattle.ft_lexer.proofs.Steps.{lex_step, part_at, width_parts, width_next, range_from}
 use Rattle.ft_lexer.proofs.scan.scan_of.Goals as goal
 

@@ -14,25 +14,26 @@ abbrev pub run : (ℕ → Bool) → List ℕ → ℕ
 run passes [] = 0
 run passes (c ∷ cs) = if passes c then suc (run passes cs) else 0
 
--- white space: space, tab, carriage return and line feed
+-- whether white space: space, tab, carriage return and line feed
 abbrev pub is_space : ℕ → Bool
 is_space c = c == 32 || c == 9 || c == 13 || c == 10
 
--- two hyphens begin a comment
+-- whether the characters begin with the two hyphens of a comment
 abbrev pub begins_comment : ℕ → List ℕ → Bool
 begins_comment c [] = false
 begins_comment c (d ∷ cs) = c == 45 && d == 45
 
--- a comment goes on up to a line feed
+-- whether a comment goes on over the character
 abbrev pub is_no_line_feed : ℕ → Bool
 is_no_line_feed c = not (c == 10)
 
--- characters that begin as a name and go on as one are that name where they are a name token; else they are one of the words,
--- or the lone underscore, which is a mark
+-- the word that was found, or else the underscore
 abbrev pub word_or_mark : Option AnyWord → Kind
 word_or_mark (Some w) = Word w
 word_or_mark None = Mark mark.Underscore
 
+-- characters that begin as a name and go on as one are that name where they are a name token; else they are one of the words,
+-- or the lone underscore, which is a mark
 abbrev pub name_kind : List ℕ → Kind
 name_kind spelling = if is_name_token spelling then Name spelling else word_or_mark (word_of spelling)
 
@@ -41,13 +42,13 @@ abbrev pub decimal_value : ℕ → List ℕ → ℕ
 decimal_value n [] = n
 decimal_value n (d ∷ ds) = decimal_value (10 * n + (d - 48)) ds
 
--- a zero that other digits follow
+-- whether the digits are a zero and others behind it
 abbrev pub has_leading_zero : List ℕ → Bool
 has_leading_zero [] = false
 has_leading_zero (d ∷ []) = false
 has_leading_zero (d ∷ e ∷ ds) = d == 48
 
--- a run of digits is a number where it has no leading zero and is at most 65,535
+-- what a run of digits is: a number where it has no leading zero and is at most 65,535
 abbrev pub number_kind : List ℕ → Kind
 number_kind digits =
     if has_leading_zero digits || nat_lt 65535 (decimal_value 0 digits) then Bad else Number (decimal_value 0 digits)

@@ -13,3 +13,6 @@ pub use name::Name;
 pub use text::Text;
 pub use units::Units;
 pub use word::Word;
+
+#[cfg(test)]
+mod tests;

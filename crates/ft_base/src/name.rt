@@ -65,15 +65,18 @@ impl Name {
         ensures { IfOk result (λ n. n ≡ (if is_name_token (chars_of text.now) then Some (chars_of text.now) else None)) }
     {
         let chars: Vec<char> = text.chars().collect(alloc)?;
-        Ok(name_of(chars))
+        Ok(Name::from_chars(chars))
     }
 
-    /// The name with these characters, or None where they are no name token.
-    pub fn from_chars(alloc: Global, chars: &[char]) -> Result<Option<Name>, Memory>
-        ensures { IfOk result (λ n. n ≡ (if is_name_token chars.now then Some chars.now else None)) }
+    /// The characters as a name, or None where they are no name token. It takes no memory.
+    pub fn from_chars(chars: Vec<char>) -> Option<Name>
+        ensures { result ≡ (if is_name_token chars.items then Some chars.items else None) }
     {
-        let chars = Vec::from_slice(alloc, chars)?;
-        Ok(name_of(chars))
+        if is_token(&chars) {
+            Some(Name { chars })
+        } else {
+            None
+        }
     }
 
     /// The characters. It takes no memory.
@@ -91,17 +94,6 @@ impl Name {
         Ok(Name {
             chars: self.chars.clone()?,
         })
-    }
-}
-
-// The characters as a name, or None where they are no name token.
-fn name_of(chars: Vec<char>) -> Option<Name>
-    ensures { result ≡ (if is_name_token chars.items then Some chars.items else None) }
-{
-    if is_token(&chars) {
-        Some(Name { chars })
-    } else {
-        None
     }
 }
 

@@ -4,7 +4,8 @@ ghost use Rattle.std.specs.Prelude.{◌≡◌, find};
 ghost use Rattle.std.specs.Str.{bytes_eq};
 ghost use Rattle.ft_base.specs.Words.{word_of, spelling_of};
 
-/// The words that are no names. Each variant is named by its word, with `Word` behind it where Rust or the prelude has that name.
+/// The words that are no names. Each variant is named by its word, with a capital first letter; those of `type`, `true`, `false`,
+/// `some` and `none` have `Word` behind that.
 #[derive(Clone, Copy, Debug, PartialEq, Eq, Drop)]
 pub enum Word {
     Rule,

@@ -1,4 +1,4 @@
-use Rattle.std.proofs.Common.{◌≡◌, ◌++◌, drop, take, length}
+use Rattle.std.proofs.Common.{◌≡◌, ◌++◌, drop, take}
 use Rattle.std.specs.Prelude.{encode_utf8_all}
 use Rattle.ft_base.proofs.text.Text.push_chars.Given as goal
 

@@ -4,6 +4,7 @@ ghost use Rattle.ft_outside.specs.declared.errors.ReadErr.TheVariants as reading
 ghost use Rattle.ft_outside.specs.declared.errors.WriteErr.TheVariants as writing;
 
 use crate::Failed;
+use ft_base::Memory;
 use std::alloc::{AllocError, AllocFailed};
 use thiserror::Error;
 
@@ -35,6 +36,14 @@ impl From<Failed> for ReadErr {
     }
 }
 
+impl From<Memory> for ReadErr {
+    ghost from_gives = { λ _ e. e ≡ reading.Memory };
+
+    fn from(_: Memory) -> ReadErr {
+        ReadErr::Memory
+    }
+}
+
 impl From<AllocError> for ReadErr {
     ghost from_gives = { λ _ e. e ≡ reading.Memory };
 
@@ -48,6 +57,14 @@ impl From<Failed> for WriteErr {
 
     fn from(_: Failed) -> WriteErr {
         WriteErr::Fault
+    }
+}
+
+impl From<Memory> for WriteErr {
+    ghost from_gives = { λ _ e. e ≡ writing.Memory };
+
+    fn from(_: Memory) -> WriteErr {
+        WriteErr::Memory
     }
 }
 

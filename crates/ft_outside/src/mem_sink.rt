@@ -4,7 +4,8 @@ ghost use Rattle.ft_outside.specs.InMemory.{Outgoing, IsListed, IsFull};
 ghost use Rattle.ft_outside.specs.Outside.{Rose, Appends, raised};
 
 use crate::{Failed, Sink};
-use std::alloc::{AllocError, Global};
+use ft_base::Memory;
+use std::alloc::Global;
 use std::marker::Model;
 
 /// A sink that holds so many bytes and takes them in pieces. Its calls have numbers from 1, and those whose numbers are
@@ -45,7 +46,7 @@ impl MemSink {
         room: usize,
         piece: usize,
         fail_at: Vec<u64>,
-    ) -> Result<MemSink, AllocError>
+    ) -> Result<MemSink, Memory>
         requires { 0 < piece }
         ensures { IfOk result (λ sink. sink ≡ record {
           written = [];

@@ -4,7 +4,7 @@ use Rattle.std.proofs.Math.Seq.{take-add}
 use Rattle.std.proofs.lemmas.List.{take-append-drop, drop-drop, length-drop}
 use Rattle.std.proofs.Math.Seq.{take-length}
 use Rattle.std.specs.Prelude.{Result, Ok, Err, OnErr}
-use Rattle.ft_outside.specs.Outside.{Gives, GivesSome, Appends, raised, CountsOn}
+use Rattle.ft_outside.specs.Outside.{Gives, GivesSome, Appends, raised_count, CountsOn}
 
 -- a piece, and the next one
 pub appends_next : (w w1 w2 : Option (List ℕ)) (xs : List ℕ) (a n : ℕ) → Appends w (take a xs) w1 → Appends w1 (take n (drop a xs)) w2 → Appends w (take (a + n) xs) w2
@@ -35,7 +35,7 @@ gives_none (Some r) = refl
 pub counts_none : (n : ℕ) → CountsOn n 0 n
 counts_none n = inl (omega arith)
 
-pub counts_next : (from by n at now : ℕ) → CountsOn from by at → now ≡ raised at n → CountsOn from (by + n) now
+pub counts_next : (from by n at now : ℕ) → CountsOn from by at → now ≡ raised_count at n → CountsOn from (by + n) now
 counts_next from by n at now h e = grind arith
 
 pub on_err-gives : {T E : Type 0} (r : Result T E) (l l1 l2 : Option (List ℕ)) (xs ys : List ℕ) → Gives l xs l1 → Gives l1 ys l2 → OnErr r (GivesSome l l2)

@@ -1,9 +1,9 @@
 -- Sources and sinks in memory, and the counts of adapters, as their callers see them.
 use Rattle.std.specs.Prelude.{◌≡◌, ◌<◌, ℕ, List, Option, None, Contains, length}
-use Rattle.ft_outside.specs.Outside.{raised}
+use Rattle.ft_outside.specs.Outside.{raised_count}
 
 -- a source in memory
-pub record Incoming : Type 0 where
+pub record SourceState : Type 0 where
   -- the bytes still to come
   pub rest : List ℕ
   -- the most bytes that one call gives
@@ -18,7 +18,7 @@ pub record Incoming : Type 0 where
   pub faults : ℕ
 
 -- a sink in memory
-pub record Outgoing : Type 0 where
+pub record SinkState : Type 0 where
   -- the bytes that were written
   pub written : List ℕ
   -- the most bytes that it holds
@@ -38,13 +38,13 @@ pub record Counts : Type 0 where
   pub faults : ℕ
 
 -- what an adapter tells of its bytes
-abbrev pub untold : Option (List ℕ)
-untold = None
+abbrev pub untold_bytes : Option (List ℕ)
+untold_bytes = None
 
 -- the next call's number is listed among those that fail
 abbrev pub IsListed : List ℕ → ℕ → Type 0
-IsListed fail_at calls = Contains fail_at (raised calls 1)
+IsListed fail_at calls = Contains fail_at (raised_count calls 1)
 
 -- bytes are handed in, and there is no room for one of them
-abbrev pub IsFull : Outgoing → List ℕ → Type 0
+abbrev pub IsFull : SinkState → List ℕ → Type 0
 IsFull sink bytes = (0 < length bytes) × (length sink.written ≡ sink.room)

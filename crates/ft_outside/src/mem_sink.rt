@@ -1,7 +1,7 @@
 //! A sink in memory, whose calls fail where that is asked for.
 ghost use Rattle.std.specs.Prelude.{◌≡◌, ◌≤◌, ◌<◌, ◌+◌, ◌-◌, ◌++◌, ◌↔◌, ◌⊎◌, [], IfOk, OnErr, IsErr, Some, length, min, take, vec_capacity};
-ghost use Rattle.ft_outside.specs.InMemory.{Outgoing, IsListed, IsFull};
-ghost use Rattle.ft_outside.specs.Outside.{Rose, Appends, raised};
+ghost use Rattle.ft_outside.specs.InMemory.{SinkState, IsListed, IsFull};
+ghost use Rattle.ft_outside.specs.Outside.{Rose, Appends, raised_count};
 
 use crate::{Failed, Sink};
 use ft_base::Memory;
@@ -22,9 +22,9 @@ pub struct MemSink {
 
 impl Model for MemSink {
     ghost use Rattle.std.specs.Prelude.{◌≡◌, ◌≤◌, ◌<◌, [], length, vec_capacity};
-    ghost use Rattle.ft_outside.specs.InMemory.{Outgoing};
+    ghost use Rattle.ft_outside.specs.InMemory.{SinkState};
 
-    ghost Value = { Outgoing };
+    ghost Value = { SinkState };
 
     ghost view = { λ s. record {
       written = s.bytes.items;
@@ -107,11 +107,11 @@ impl Sink for MemSink {
             (self.old.room - length self.old.written)) }
         ensures ok { IfOk result (λ n. self.new ≡ record self.old {
           written = self.old.written ++ take n bytes.now;
-          calls = raised self.old.calls 1;
+          calls = raised_count self.old.calls 1;
         }) }
         ensures err { OnErr result (self.new ≡ record self.old {
-          calls = raised self.old.calls 1;
-          faults = raised self.old.faults 1;
+          calls = raised_count self.old.calls 1;
+          faults = raised_count self.old.faults 1;
         }) }
         ensures room { length self.new.written ≤ self.new.room }
     {

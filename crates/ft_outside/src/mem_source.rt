@@ -1,7 +1,7 @@
 //! A source in memory, whose calls fail where that is asked for.
 ghost use Rattle.std.specs.Prelude.{◌≡◌, ◌≤◌, ◌<◌, ◌-◌, ◌↔◌, [], IfOk, OnErr, IsErr, Some, drop, length, min, take};
-ghost use Rattle.ft_outside.specs.InMemory.{Incoming, IsListed};
-ghost use Rattle.ft_outside.specs.Outside.{Rose, Gives, IsAtEnd, raised};
+ghost use Rattle.ft_outside.specs.InMemory.{SourceState, IsListed};
+ghost use Rattle.ft_outside.specs.Outside.{Rose, Gives, IsAtEnd, raised_count};
 
 use crate::{Failed, Source};
 use std::marker::Model;
@@ -21,9 +21,9 @@ pub struct MemSource {
 
 impl Model for MemSource {
     ghost use Rattle.std.specs.Prelude.{◌≡◌, ◌≤◌, ◌<◌, [], drop, length};
-    ghost use Rattle.ft_outside.specs.InMemory.{Incoming};
+    ghost use Rattle.ft_outside.specs.InMemory.{SourceState};
 
-    ghost Value = { Incoming };
+    ghost Value = { SourceState };
 
     ghost view = { λ s. record {
       rest = drop s.at s.bytes.items;
@@ -85,7 +85,7 @@ impl Source for MemSource {
     fn read(&mut self, buf: &mut [u8]) -> Result<usize, Failed>
         ensures bound { IfOk result (λ n. n ≤ length buf.new) }
         ensures bytes { IfOk result (λ n. Gives (Some self.old.rest) (take n buf.new) (Some self.new.rest)) }
-        ensures taken { IfOk result (λ n. self.new.taken ≡ raised self.old.taken n) }
+        ensures taken { IfOk result (λ n. self.new.taken ≡ raised_count self.old.taken n) }
         ensures end { IfOk result (λ n. n ≡ 0 → 0 < length buf.old → IsAtEnd (Some self.new.rest)) }
 
         ensures rose { OnErr result (Rose self.old.faults self.new.faults) }
@@ -99,12 +99,12 @@ impl Source for MemSource {
         ensures count { IfOk result (λ n. n ≡ min (min (length buf.old) self.old.piece) (length self.old.rest)) }
         ensures ok { IfOk result (λ n. self.new ≡ record self.old {
           rest = drop n self.old.rest;
-          calls = raised self.old.calls 1;
-          taken = raised self.old.taken n;
+          calls = raised_count self.old.calls 1;
+          taken = raised_count self.old.taken n;
         }) }
         ensures err { OnErr result (self.new ≡ record self.old {
-          calls = raised self.old.calls 1;
-          faults = raised self.old.faults 1;
+          calls = raised_count self.old.calls 1;
+          faults = raised_count self.old.faults 1;
         }) }
         ensures quiet { self.new.fail_at ≡ [] → self.new.faults ≡ 0 }
     {

@@ -1,7 +1,7 @@
 //! Adapters over real streams. They count, and tell nothing of the bytes.
 ghost use Rattle.std.specs.Prelude.{◌≡◌, ◌≤◌, ◌<◌, IfOk, OnOk, OnErr, length, take};
-ghost use Rattle.ft_outside.specs.InMemory.{untold};
-ghost use Rattle.ft_outside.specs.Outside.{Rose, Gives, Appends, IsAtEnd, raised};
+ghost use Rattle.ft_outside.specs.InMemory.{untold_bytes};
+ghost use Rattle.ft_outside.specs.Outside.{Rose, Gives, Appends, IsAtEnd, raised_count};
 
 use crate::{Failed, Sink, Source};
 use std::io::{Read, Write};
@@ -36,7 +36,7 @@ impl<R: Read> StdSource<R> {
 }
 
 impl<R: Read> Source for StdSource<R> {
-    ghost left = { λ _. untold };
+    ghost left = { λ _. untold_bytes };
 
     ghost taken = { λ s. s.taken };
 
@@ -44,18 +44,18 @@ impl<R: Read> Source for StdSource<R> {
 
     fn read(&mut self, buf: &mut [u8]) -> Result<usize, Failed>
         ensures bound { IfOk result (λ n. n ≤ length buf.new) }
-        ensures bytes { IfOk result (λ n. Gives untold (take n buf.new) untold) }
-        ensures taken { IfOk result (λ n. self.new.taken ≡ raised self.old.taken n) }
-        ensures end { IfOk result (λ n. n ≡ 0 → 0 < length buf.old → IsAtEnd untold) }
+        ensures bytes { IfOk result (λ n. Gives untold_bytes (take n buf.new) untold_bytes) }
+        ensures taken { IfOk result (λ n. self.new.taken ≡ raised_count self.old.taken n) }
+        ensures end { IfOk result (λ n. n ≡ 0 → 0 < length buf.old → IsAtEnd untold_bytes) }
 
         ensures rose { OnErr result (Rose self.old.faults self.new.faults) }
-        ensures left { OnErr result (untold ≡ untold) }
+        ensures left { OnErr result (untold_bytes ≡ untold_bytes) }
         ensures same { OnErr result (self.new.taken ≡ self.old.taken) }
 
         ensures faults { self.old.faults ≤ self.new.faults }
 
         // Beyond what each source promises:
-        ensures counted { OnErr result (self.new.faults ≡ raised self.old.faults 1) }
+        ensures counted { OnErr result (self.new.faults ≡ raised_count self.old.faults 1) }
         ensures uncounted { OnOk result (self.new.faults ≡ self.old.faults) }
     {
         match self.inner.read(buf) {
@@ -96,23 +96,23 @@ impl<W: Write> StdSink<W> {
 }
 
 impl<W: Write> Sink for StdSink<W> {
-    ghost written = { λ _. untold };
+    ghost written = { λ _. untold_bytes };
 
     ghost faults = { λ s. s };
 
     fn write(&mut self, bytes: &[u8]) -> Result<usize, Failed>
         ensures bound { IfOk result (λ n. n ≤ length bytes.now) }
         ensures some { IfOk result (λ n. 0 < length bytes.now → 0 < n) }
-        ensures bytes { IfOk result (λ n. Appends untold (take n bytes.now) untold) }
+        ensures bytes { IfOk result (λ n. Appends untold_bytes (take n bytes.now) untold_bytes) }
 
         ensures rose { OnErr result (Rose self.old self.new) }
-        ensures same { OnErr result (untold ≡ untold) }
+        ensures same { OnErr result (untold_bytes ≡ untold_bytes) }
 
         ensures faults { self.old ≤ self.new }
 
         // Beyond what each sink promises:
         ensures taken { IfOk result (λ n. 0 < n) }
-        ensures counted { OnErr result (self.new ≡ raised self.old 1) }
+        ensures counted { OnErr result (self.new ≡ raised_count self.old 1) }
         ensures uncounted { OnOk result (self.new ≡ self.old) }
     {
         if let Ok(n) = self.inner.write(bytes)

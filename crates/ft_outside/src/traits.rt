@@ -1,6 +1,6 @@
 //! Sources and sinks: bytes that come in, and bytes that go out.
 ghost use Rattle.std.specs.Prelude.{◌≡◌, ◌≤◌, ◌<◌, ℕ, List, Option, length, take, IfOk, OnErr};
-ghost use Rattle.ft_outside.specs.Outside.{Rose, Gives, Appends, raised, IsAtEnd};
+ghost use Rattle.ft_outside.specs.Outside.{Rose, Gives, Appends, raised_count, IsAtEnd};
 
 /// A call of a source or a sink failed.
 #[derive(Clone, Copy, Debug, Drop, PartialEq, Eq)]
@@ -22,7 +22,7 @@ pub trait Source {
     fn read(&mut self, buf: &mut [u8]) -> Result<usize, Failed>
         ensures bound { IfOk result (λ n. n ≤ length buf.new) }
         ensures bytes { IfOk result (λ n. Gives (left self.old) (take n buf.new) (left self.new)) }
-        ensures taken { IfOk result (λ n. taken self.new ≡ raised (taken self.old) n) }
+        ensures taken { IfOk result (λ n. taken self.new ≡ raised_count (taken self.old) n) }
         ensures end { IfOk result (λ n. n ≡ 0 → 0 < length buf.old → IsAtEnd (left self.new)) }
 
         ensures rose { OnErr result (Rose (faults self.old) (faults self.new)) }

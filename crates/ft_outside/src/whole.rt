@@ -1,6 +1,6 @@
 //! Whole texts in and out.
-ghost use Rattle.std.specs.Prelude.{◌≡◌, ◌≤◌, ◌<◌, ◌+◌, ◌⊎◌, ℕ, length, take, IfOk, OnOk, IfSome, OnErr, IsErrOf};
-ghost use Rattle.ft_outside.specs.Outside.{Rose, CountsOn, Gives, GivesSome, Appends, IsAtEnd, most};
+ghost use Rattle.std.specs.Prelude.{◌≡◌, ◌≤◌, ◌<◌, ◌+◌, ◌⊎◌, length, IfOk, OnOk, IfSome, OnErr, IsErrOf};
+ghost use Rattle.ft_outside.specs.Outside.{Rose, CountsOn, Gives, GivesSome, Appends, AppendsPrefix, IsAtEnd, greatest_count};
 
 use crate::{Failed, ReadErr, Sink, Source};
 use std::alloc::Global;
@@ -16,7 +16,7 @@ pub fn read_source<I: Source>(alloc: Global, src: &mut I, max: usize) -> Result<
     ensures taken { IfOk result (λ v. CountsOn (I.taken src.old) (length v.items) (I.taken src.new)) }
 
     ensures fault { IsErrOf result ReadErr.Fault → Rose (I.faults src.old) (I.faults src.new) }
-    ensures too_long { IsErrOf result ReadErr.TooLong → (I.taken src.old + max < I.taken src.new) ⊎ (I.taken src.new ≡ most) }
+    ensures too_long { IsErrOf result ReadErr.TooLong → (I.taken src.old + max < I.taken src.new) ⊎ (I.taken src.new ≡ greatest_count) }
     ensures longer { IsErrOf result ReadErr.TooLong → IfSome (I.left src.old) (λ xs. max < length xs) }
     ensures within { OnOk result (IfSome (I.left src.old) (λ xs. length xs ≤ max)) }
     ensures front { OnErr result (GivesSome (I.left src.old) (I.left src.new)) }
@@ -42,7 +42,7 @@ pub fn read_source<I: Source>(alloc: Global, src: &mut I, max: usize) -> Result<
 pub fn write_all<O: Sink>(sink: &mut O, bytes: &[u8]) -> Result<(), Failed>
     ensures ok { OnOk result (Appends (O.written sink.old) bytes.now (O.written sink.new)) }
     ensures rose { OnErr result (Rose (O.faults sink.old) (O.faults sink.new)) }
-    ensures front { OnErr result ((n : ℕ) × (n ≤ length bytes.now) × Appends (O.written sink.old) (take n bytes.now) (O.written sink.new)) }
+    ensures front { OnErr result (AppendsPrefix (O.written sink.old) bytes.now (O.written sink.new)) }
     ensures faults { O.faults sink.old ≤ O.faults sink.new }
 {
     let mut at = 0;

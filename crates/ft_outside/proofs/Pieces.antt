@@ -1,0 +1,43 @@
+-- Pieces of what is left and of what was written.
+use Rattle.std.proofs.Common.{◌≡◌, ◌∙◌, sym, ap, refl, ◌+◌, ◌++◌, ℕ, List, [], Option, Some, None, inl, take, drop, option_map, ◌-◌, append_assoc, length, arith}
+use Rattle.std.proofs.Math.Seq.{take-add}
+use Rattle.std.proofs.lemmas.List.{take-append-drop, drop-drop, length-drop}
+use Rattle.std.proofs.Math.Seq.{take-length}
+use Rattle.std.specs.Prelude.{Result, Ok, Err, OnErr}
+use Rattle.ft_outside.specs.Outside.{Gives, GivesSome, Appends, raised_count, CountsOn}
+
+-- a piece, and the next one
+pub appends_next : (w w1 w2 : Option (List ℕ)) (xs : List ℕ) (a n : ℕ) → Appends w (take a xs) w1 → Appends w1 (take n (drop a xs)) w2 → Appends w (take (a + n) xs) w2
+appends_next None w1 w2 xs a n h k = k ∙ ap (option_map (λ old. old ++ take n (drop a xs))) h
+appends_next (Some w) w1 w2 xs a n h k =
+    k ∙ ap (option_map (λ old. old ++ take n (drop a xs))) h
+    ∙ ap Some (append_assoc w (take a xs) (take n (drop a xs)) ∙ ap (λ p. w ++ p) (sym (take-add a n xs)))
+
+pub gives_next : (l l1 l2 : Option (List ℕ)) (xs ys : List ℕ) → Gives l xs l1 → Gives l1 ys l2 → Gives l (xs ++ ys) l2
+gives_next l l1 None xs ys h k = h ∙ ap (option_map (λ rest. xs ++ rest)) k
+gives_next l l1 (Some r) xs ys h k =
+    h ∙ ap (option_map (λ rest. xs ++ rest)) k ∙ ap Some (sym (append_assoc xs ys r))
+
+pub gives_front : (xs piece : List ℕ) (at n : ℕ) → piece ≡ take n (drop at xs) → Some (drop at xs) ≡ Some (piece ++ drop (at + n) xs)
+gives_front xs piece at n h = ap Some (sym (rw h (ap (λ r. take n (drop at xs) ++ r) (sym (drop-drop n at xs)) ∙ take-append-drop n (drop at xs))))
+
+-- `&xs[at..]`
+pub range_from : (xs : List ℕ) (at : ℕ) → take (length xs - at) (drop at xs) ≡ drop at xs
+range_from xs at = ap (λ n. take n (drop at xs)) (sym (length-drop at xs)) ∙ take-length (drop at xs)
+
+pub appends_from : (w w1 w2 : Option (List ℕ)) (xs : List ℕ) (a n : ℕ) → Appends w (take a xs) w1 → Appends w1 (take n (take (length xs - a) (drop a xs))) w2 → Appends w (take (a + n) xs) w2
+appends_from w w1 w2 xs a n h k = appends_next w w1 w2 xs a n h (rw (← range_from xs a) k)
+
+pub gives_none : (l : Option (List ℕ)) → Gives l [] l
+gives_none None = refl
+gives_none (Some r) = refl
+
+pub counts_none : (n : ℕ) → CountsOn n 0 n
+counts_none n = inl (omega arith)
+
+pub counts_next : (from by n at now : ℕ) → CountsOn from by at → now ≡ raised_count at n → CountsOn from (by + n) now
+counts_next from by n at now h e = grind arith
+
+pub on_err-gives : {T E : Type 0} (r : Result T E) (l l1 l2 : Option (List ℕ)) (xs ys : List ℕ) → Gives l xs l1 → Gives l1 ys l2 → OnErr r (GivesSome l l2)
+on_err-gives (Ok _) l l1 l2 xs ys h k = tt
+on_err-gives (Err _) l l1 l2 xs ys h k = (xs ++ ys, gives_next l l1 l2 xs ys h k)

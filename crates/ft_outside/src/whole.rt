@@ -1,0 +1,53 @@
+//! Whole texts in and out.
+ghost use Rattle.std.specs.Prelude.{◌≡◌, ◌≤◌, ◌<◌, ◌+◌, ◌⊎◌, length, IfOk, OnOk, IfSome, OnErr, IsErrOf};
+ghost use Rattle.ft_outside.specs.Outside.{Rose, CountsOn, Gives, GivesSome, Appends, AppendsPrefix, IsAtEnd, greatest_count};
+
+use crate::{Failed, ReadErr, Sink, Source};
+use std::alloc::Global;
+
+/// All the bytes up to the end of the input, at most `max`. After an error the source has given some of its bytes.
+#[tactic(auto, using(crate::proofs::Pieces::gives_none, crate::proofs::Pieces::counts_none, crate::proofs::Pieces::gives_next, crate::proofs::Pieces::counts_next))]
+pub fn read_source<I: Source>(alloc: Global, src: &mut I, max: usize) -> Result<Vec<u8>, ReadErr>
+    requires { max < usize.MAX }
+
+    ensures bytes { IfOk result (λ v. Gives (I.left src.old) v.items (I.left src.new)) }
+    ensures end { OnOk result (IsAtEnd (I.left src.new)) }
+    ensures short { IfOk result (λ v. length v.items ≤ max) }
+    ensures taken { IfOk result (λ v. CountsOn (I.taken src.old) (length v.items) (I.taken src.new)) }
+
+    ensures fault { IsErrOf result ReadErr.Fault → Rose (I.faults src.old) (I.faults src.new) }
+    ensures too_long { IsErrOf result ReadErr.TooLong → (I.taken src.old + max < I.taken src.new) ⊎ (I.taken src.new ≡ greatest_count) }
+    ensures longer { IsErrOf result ReadErr.TooLong → IfSome (I.left src.old) (λ xs. max < length xs) }
+    ensures within { OnOk result (IfSome (I.left src.old) (λ xs. length xs ≤ max)) }
+    ensures front { OnErr result (GivesSome (I.left src.old) (I.left src.new)) }
+
+    ensures faults { I.faults src.old ≤ I.faults src.new }
+{
+    let mut out = Vec::new(alloc);
+    let mut buf = [0u8; 4096];
+    'reading: loop {
+        let want = (max - out.len() + 1).min(4096);
+        let n = src.read(&mut buf[..want])?;
+        if n == 0 {
+            return Ok(out);
+        }
+        if n > max - out.len() {
+            return Err(ReadErr::TooLong);
+        }
+        out.extend_from_slice(&buf[..n])?;
+    }
+}
+
+/// Writes all the bytes.
+pub fn write_all<O: Sink>(sink: &mut O, bytes: &[u8]) -> Result<(), Failed>
+    ensures ok { OnOk result (Appends (O.written sink.old) bytes.now (O.written sink.new)) }
+    ensures rose { OnErr result (Rose (O.faults sink.old) (O.faults sink.new)) }
+    ensures front { OnErr result (AppendsPrefix (O.written sink.old) bytes.now (O.written sink.new)) }
+    ensures faults { O.faults sink.old ≤ O.faults sink.new }
+{
+    let mut at = 0;
+    while at < bytes.len() {
+        at += sink.write(&bytes[at..])?;
+    }
+    Ok(())
+}

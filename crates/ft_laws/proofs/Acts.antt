@@ -198,17 +198,17 @@ mutual
 
 -- what is mentioned, by a weaker condition
 mutual
-  pub Uses_mono : (e : Expression) (f f' : ℕ → Type 0) (d d' : ℕ → ℕ → Type 0) → ((v : ℕ) → f v → f' v) → ((m k : ℕ) → d m k → d' m k) → MentionsOnly f d e → MentionsOnly f' d' e
-  Uses_mono (bound k) f f' d d' p q u = tt
-  Uses_mono (free v) f f' d d' p q u = p v u
-  Uses_mono (symbol s a) f f' d d' p q u = Uses_mono-arguments a f f' d d' p q u
-  Uses_mono (meta m a) f f' d d' p q u = (q m (count a) u.0, Uses_mono-terms a f f' d d' p q u.1)
+  pub MentionsOnly_mono : (e : Expression) (f f' : ℕ → Type 0) (d d' : ℕ → ℕ → Type 0) → ((v : ℕ) → f v → f' v) → ((m k : ℕ) → d m k → d' m k) → MentionsOnly f d e → MentionsOnly f' d' e
+  MentionsOnly_mono (bound k) f f' d d' p q u = tt
+  MentionsOnly_mono (free v) f f' d d' p q u = p v u
+  MentionsOnly_mono (symbol s a) f f' d d' p q u = Uses_mono-arguments a f f' d d' p q u
+  MentionsOnly_mono (meta m a) f f' d d' p q u = (q m (count a) u.0, Uses_mono-terms a f f' d d' p q u.1)
 
   Uses_mono-arguments : (a : Arguments) (f f' : ℕ → Type 0) (d d' : ℕ → ℕ → Type 0) → ((v : ℕ) → f v → f' v) → ((m k : ℕ) → d m k → d' m k) → ArgumentsMentionOnly f d a → ArgumentsMentionOnly f' d' a
   Uses_mono-arguments no_arguments f f' d d' p q u = tt
-  Uses_mono-arguments (with_body n e a) f f' d d' p q u = (Uses_mono e f f' d d' p q u.0, Uses_mono-arguments a f f' d d' p q u.1)
+  Uses_mono-arguments (with_body n e a) f f' d d' p q u = (MentionsOnly_mono e f f' d d' p q u.0, Uses_mono-arguments a f f' d d' p q u.1)
   Uses_mono-arguments (dummy n a) f f' d d' p q u = Uses_mono-arguments a f f' d d' p q u
 
   Uses_mono-terms : (a : Terms) (f f' : ℕ → Type 0) (d d' : ℕ → ℕ → Type 0) → ((v : ℕ) → f v → f' v) → ((m k : ℕ) → d m k → d' m k) → TermsMentionOnly f d a → TermsMentionOnly f' d' a
   Uses_mono-terms no_terms f f' d d' p q u = tt
-  Uses_mono-terms (also e a) f f' d d' p q u = (Uses_mono e f f' d d' p q u.0, Uses_mono-terms a f f' d d' p q u.1)
+  Uses_mono-terms (also e a) f f' d d' p q u = (MentionsOnly_mono e f f' d d' p q u.0, Uses_mono-terms a f f' d d' p q u.1)

@@ -10,9 +10,9 @@ use Rattle.std.specs.Prelude.{◌++◌}
 use Rattle.ft_laws.specs.Instances.{statement_at}
 use Rattle.ft_laws.proofs.Induction.{AllOf, induct}
 use Rattle.ft_laws.proofs.Steps.{do_convert_term}
-use Rattle.ft_laws.proofs.Fresh.{some_path}
+use Rattle.ft_laws.proofs.Fresh.{Some_injective}
 use Rattle.ft_laws.proofs.Scope.{object-at, domain_count-at}
-use Rattle.ft_laws.proofs.Statements.{domain_count-map, domain_count-opened, object-map, equation-map, object_core-map}
+use Rattle.ft_laws.proofs.Statements.{domain_count-map, domain_count-opened, object-map, equation-map, object_goal-map}
 use Rattle.ft_laws.proofs.Commute.{ScopedTheory}
 use Rattle.ft_laws.proofs.Traverse.{Grows_refl, under_abstraction}
 use Rattle.ft_laws.proofs.Substitute.{weaken, substitute}
@@ -91,7 +91,7 @@ right_term_typings T sc M G (also s a) (also t c) (abstracted A x) (abstracted B
     (equal_opened T sc M G G A B x y s t e (Grows_refl G) (inr p)) ts)
 
 unique : (T : List Rule) (r : ℕ) (R S : Rule) → rule_at T r ≡ Some R → rule_at T r ≡ Some S → R ≡ S
-unique T r R S p q = some_path R S (sym p ∙ q)
+unique T r R S p q = Some_injective R S (sym p ∙ q)
 
 pub admissible : (T : List Rule) → Sound T → (n : ℕ) (ps : List Sequent) (c : Sequent) → WideStep T n ps c → Trees (Step T) ps → Tree (Step T) c
 admissible T so n ps c (weakening {M} {N} {G} {H} x e s) (more p none) = weaken T (scoped T so) M N G H x e s p
@@ -124,7 +124,7 @@ admissible T so n ps c (equal_instances {M} {G} r R a b q f f' o) ts =
     let L : Prim T M G (plain (fill_goal ci (symbol r a))) = node (sequent M G (plain ci) ∷ sequents M G (filled_premises (instance_of P a) P a)) (symbol_rule r R a q f o) (more bl w.0) in
     let S : Prim T M G (plain (fill_goal cj (symbol r b))) = node (sequent M G (plain cj) ∷ sequents M G (filled_premises (instance_of P b) P b)) (symbol_rule r R b q f' o) (more (transport T sc M zero G (plain ci) (plain cj) refl e bl) dr) in
     node (sequent M G (plain (fill_goal ci (symbol r a))) ∷ sequent M G (plain (fill_goal ci (symbol r b))) ∷ sequents M G (equated_premises (instance_of P a) P a b)) (congruence r R a b q f f' o)
-    (more L (more (back_here T M G ci cj (symbol r b) (object_core-map R.conclusion (act free (instance_of P a)) o) (object_core-map R.conclusion (act free (instance_of P b)) o) (equal_here T M G (plain ci) (plain cj) e) S) w.1))
+    (more L (more (back_here T M G ci cj (symbol r b) (object_goal-map R.conclusion (act free (instance_of P a)) o) (object_goal-map R.conclusion (act free (instance_of P b)) o) (equal_here T M G (plain ci) (plain cj) e) S) w.1))
 admissible T so n ps c (convert_premise {M} {G} r R qs rs m k a b h q e f f') (more p ts) =
     let sc : ScopedTheory T = scoped T so in
     let w : Trees (Step T) (sequents M G (filled_premises (instance_of qs a) qs a)) × Trees (Step T) (sequents M G (equated_premises (instance_of qs a) qs a b)) = split (Step T) M G (filled_premises (instance_of qs a) qs a) (equated_premises (instance_of qs a) qs a b) ts in
@@ -158,13 +158,13 @@ admissible T so n ps c (argument_in_term {M} {G} r R a A x q m) (more p none) =
     pick (Step T) M G x (filled_premises (instance_of R.premises a) R.premises a) m (subst (λ S. Trees (Step T) (sequents M G (filled_premises (instance_of S.premises a) S.premises a))) (unique T r h.0 R h.1 q) h.2)
 admissible T so n ps c (term_in_type {M} {G} m b a x q i) (more p none) =
     let h : OfType T M G (meta m a) = origin T (scoped T so) (sequent M G (plain (is_type (meta m a)))) p in
-    pick (Step T) M G x (term_typings b a) i (subst (λ z. Trees (Step T) (sequents M G (term_typings z a))) (some_path h.0 b (sym h.1 ∙ q)) h.2)
+    pick (Step T) M G x (term_typings b a) i (subst (λ z. Trees (Step T) (sequents M G (term_typings z a))) (Some_injective h.0 b (sym h.1 ∙ q)) h.2)
 admissible T so n ps c (term_in_term {M} {G} m b a A x q i) (more p none) =
     let h : OfTerm T M G (meta m a) A = origin T (scoped T so) (sequent M G (plain (has_type (meta m a) A))) p in
-    pick (Step T) M G x (term_typings b a) i (subst (λ z. Trees (Step T) (sequents M G (term_typings z a))) (some_path h.0 b (sym h.1 ∙ q)) h.2)
+    pick (Step T) M G x (term_typings b a) i (subst (λ z. Trees (Step T) (sequents M G (term_typings z a))) (Some_injective h.0 b (sym h.1 ∙ q)) h.2)
 admissible T so n ps c (natural_variable {M} {G} v N A q) (more p none) =
     let h : OfTerm T M G (free v) A = origin T (scoped T so) (sequent M G (plain (has_type (free v) A))) p in
-    subst (λ z. Prim T M G (plain (equal_types z A))) (some_path h.0 N (sym h.1 ∙ q)) h.2
+    subst (λ z. Prim T M G (plain (equal_types z A))) (Some_injective h.0 N (sym h.1 ∙ q)) h.2
 admissible T so n ps c (natural_symbol {M} {G} r R a N A q e) (more p none) =
     let h : OfTerm T M G (symbol r a) A = origin T (scoped T so) (sequent M G (plain (has_type (symbol r a) A))) p in
     subst (λ z. Prim T M G (plain (equal_types z A))) (type_in (h.3) N (sym h.4 ∙ ap (λ S. conclusion_at S a) (unique T r h.0 R h.1 q) ∙ e)) h.5
@@ -183,7 +183,7 @@ admissible T so n ps c (natural_symbol {M} {G} r R a N A q e) (more p none) =
         get (term_equation_goal s t A) = A
 admissible T so n ps c (natural_metavariable {M} {G} m b a N A q e) (more p none) =
     let h : OfTerm T M G (meta m a) A = origin T (scoped T so) (sequent M G (plain (has_type (meta m a) A))) p in
-    subst (λ z. Prim T M G (plain (equal_types z A))) (ap get (sym h.4 ∙ ap (λ z. at z a) (some_path h.0 b (sym h.1 ∙ q)) ∙ e)) h.5
+    subst (λ z. Prim T M G (plain (equal_types z A))) (ap get (sym h.4 ∙ ap (λ z. at z a) (Some_injective h.0 b (sym h.1 ∙ q)) ∙ e)) h.5
   where
     type_of_claim : Claim → Expression
     type_of_claim (term_goal A) = A
@@ -222,7 +222,7 @@ rule_before (S ∷ T) U zero R q = q
 rule_before (S ∷ T) U (suc r) R q = rule_before T U r R q
 
 rule_last : (T : List Rule) (S : Rule) (r : ℕ) (R : Rule) → rule_at (T ++ (S ∷ [])) r ≡ Some R → (rule_at T r ≡ Some R) ⊎ (S ≡ R)
-rule_last [] S zero R q = inr (some_path S R q)
+rule_last [] S zero R q = inr (Some_injective S R q)
 rule_last [] S (suc r) R q = nothing q
 rule_last (Q ∷ T) S zero R q = inl q
 rule_last (Q ∷ T) S (suc r) R q = rule_last T S r R q

@@ -4,10 +4,10 @@ use Rattle.ft_theory.specs.Expressions.{Expression, bound, free, Arguments, no_a
 use Rattle.ft_theory.specs.Statements.{Claim, is_type, has_type, equal_types, equal_terms, type_goal, term_goal, type_equation_goal, term_equation_goal, Statement, plain, abstracted, map_claim, AllOfClaim, StatementMentionsOnly, act_statement, opened, domain_count, at, fill, equate, IsObjectGoal, IsEquationGoal, IsObject, IsEquation}
 use Rattle.ft_theory.specs.Rules.{Rule, rule_at, instance_of, FitsPremises, filled_premises, equated_premises, term_typings, term_equations, conclusion_at}
 use Rattle.ft_theory.specs.Steps.{IsVariableFree}
-use Rattle.ft_laws.proofs.Acts.{IsClosedMap, after, after_at, Uses_mono}
+use Rattle.ft_laws.proofs.Acts.{IsClosedMap, after, after_at, MentionsOnly_mono}
 use Rattle.ft_laws.proofs.ClosedActs.{Closed-act}
 use Rattle.ft_laws.proofs.Opens.{test_true}
-use Rattle.ft_laws.proofs.Statements.{act-opened, domain-act, act-act_statement, act_stmt_agree, fill-map, equate-map, stmt_mono}
+use Rattle.ft_laws.proofs.Statements.{act-opened, domain-act, act-act_statement, act_statement_agree, fill-map, equate-map, AllOfStatement_mono}
 
 abbrev pub acts : (ℕ → Expression) → (ℕ → ℕ → Option Expression) → List Statement → List Statement
 acts g i [] = []
@@ -109,9 +109,9 @@ pub boundary-act : (all : List (ℕ × Statement)) (b : Statement) (a : Argument
 unfolding act
 boundary-act all b a g i m f u =
     act-act_statement b g free i (instance_of all a) m
-    ∙ act_stmt_agree b g free (after g i (instance_of all a)) (instance_of all (act_arguments g i a))
-    (stmt_mono b (λ l. MentionsOnly (λ v. ⊥) (Covered all)) (λ l. MentionsOnly (λ v. g v ≡ free v) (λ m k. after g i (instance_of all a) m k ≡ instance_of all (act_arguments g i a) m k)) zero
-    (λ l e. Uses_mono e (λ v. ⊥) (λ v. g v ≡ free v) (Covered all) (λ m k. after g i (instance_of all a) m k ≡ instance_of all (act_arguments g i a) m k) (λ v h. absurd h) (λ m k c. instance_of-act all a g i m k f c)) u)
+    ∙ act_statement_agree b g free (after g i (instance_of all a)) (instance_of all (act_arguments g i a))
+    (AllOfStatement_mono b (λ l. MentionsOnly (λ v. ⊥) (Covered all)) (λ l. MentionsOnly (λ v. g v ≡ free v) (λ m k. after g i (instance_of all a) m k ≡ instance_of all (act_arguments g i a) m k)) zero
+    (λ l e. MentionsOnly_mono e (λ v. ⊥) (λ v. g v ≡ free v) (Covered all) (λ m k. after g i (instance_of all a) m k ≡ instance_of all (act_arguments g i a) m k) (λ v h. absurd h) (λ m k c. instance_of-act all a g i m k f c)) u)
 
 pub conclusion-act : (R : Rule) (a : Arguments) (g : ℕ → Expression) (i : ℕ → ℕ → Option Expression) → IsClosedMap g i → FitsPremises R.premises a → ScopedRule R → map_claim (act g i) (conclusion_at R a) ≡ conclusion_at R (act_arguments g i a)
 conclusion-act R a g i m f s = ap (λ x. claim_of x) (boundary-act R.premises (plain R.conclusion) a g i m f s.1)
@@ -144,6 +144,6 @@ equated_premises-act all (p ∷ ps) whole (dummy n a) (dummy l b) g i m f s f' f
 
 -- a boundary without free variables
 pub variable_free-act : (b : Statement) (g : ℕ → Expression) (i : ℕ → ℕ → Option Expression) → IsVariableFree b → act_statement g i b ≡ act_statement free i b
-variable_free-act b g i u = act_stmt_agree b g free i i
-    (stmt_mono b (λ l. MentionsOnly (λ v. ⊥) (λ m k. Unit {0})) (λ l. MentionsOnly (λ v. g v ≡ free v) (λ m k. i m k ≡ i m k)) zero
-    (λ l e. Uses_mono e (λ v. ⊥) (λ v. g v ≡ free v) (λ m k. Unit {0}) (λ m k. i m k ≡ i m k) (λ v h. absurd h) (λ m k h. refl)) u)
+variable_free-act b g i u = act_statement_agree b g free i i
+    (AllOfStatement_mono b (λ l. MentionsOnly (λ v. ⊥) (λ m k. Unit {0})) (λ l. MentionsOnly (λ v. g v ≡ free v) (λ m k. i m k ≡ i m k)) zero
+    (λ l e. MentionsOnly_mono e (λ v. ⊥) (λ v. g v ≡ free v) (λ m k. Unit {0}) (λ m k. i m k ≡ i m k) (λ v h. absurd h) (λ m k h. refl)) u)

@@ -13,7 +13,7 @@ use Rattle.ft_laws.specs.Instances.{LawGeneralInstance, LawRightInstance, LawGen
 use Rattle.ft_laws.proofs.Induction.{AllOf, induct}
 use Rattle.ft_laws.proofs.Acts.{no_bodies}
 use Rattle.ft_laws.proofs.Scope.{scope, Fine}
-use Rattle.ft_laws.proofs.Statements.{stmt_mono, closed-opened, object-map, domain_count-map}
+use Rattle.ft_laws.proofs.Statements.{AllOfStatement_mono, closed-opened, object-map, domain_count-map}
 use Rattle.ft_laws.proofs.Peel.{peel, Peeled}
 use Rattle.ft_laws.proofs.Steps.{do_variable, do_symmetric_types, do_transitive_types}
 use Rattle.ft_laws.proofs.Commute.{ScopedTheory, act-fill}
@@ -35,8 +35,8 @@ derivable_is_primitive T f M G x = law 7 T f M G x
 
 pub law_scope : LawScope
 law_scope T M G x p = (
-  stmt_mono x (Fine M G) ClosedAt zero (λ l e h. h.0) (scope T (sequent M G x) p),
-  stmt_mono x (Fine M G) (λ l. MentionsOnly (HasVariable G) (IsObjectPremise M)) zero (λ l e h. h.1) (scope T (sequent M G x) p),
+  AllOfStatement_mono x (Fine M G) ClosedAt zero (λ l e h. h.0) (scope T (sequent M G x) p),
+  AllOfStatement_mono x (Fine M G) (λ l. MentionsOnly (HasVariable G) (IsObjectPremise M)) zero (λ l e h. h.1) (scope T (sequent M G x) p),
 )
 
 pub law_renaming : LawRenaming

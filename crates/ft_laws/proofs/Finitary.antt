@@ -7,10 +7,10 @@ use Rattle.ft_theory.specs.Steps.{Sequent, sequent, Step, variable, metavariable
 use Rattle.ft_theory.specs.Derivability.{PremisesHold, RuleHolds}
 use Rattle.std.specs.Prelude.{◌++◌}
 use Rattle.ft_laws.proofs.Induction.{AllOf, induct}
-use Rattle.ft_laws.proofs.Acts.{Uses_mono}
+use Rattle.ft_laws.proofs.Acts.{MentionsOnly_mono}
 use Rattle.ft_laws.proofs.Opens.{by_test}
-use Rattle.ft_laws.proofs.Scope.{scope, Fine, InVars, InMets}
-use Rattle.ft_laws.proofs.Statements.{stmt_mono, AllOfClaim_mono}
+use Rattle.ft_laws.proofs.Scope.{scope, Fine, InVariables, InMetavariables}
+use Rattle.ft_laws.proofs.Statements.{AllOfStatement_mono, AllOfClaim_mono}
 use Rattle.ft_laws.proofs.Commute.{ScopedTheory, ScopedPremises, Covered}
 use Rattle.ft_laws.proofs.Substitute.{Extends}
 use Rattle.ft_laws.proofs.Rules.{look_before, found, past, nothing}
@@ -57,12 +57,12 @@ look_covered (p ∷ ps) m k b q o d = by_test (Covered (p ∷ ps) m k) m p.0
     (λ n. inr (look_covered ps m k b (past m p ps b n q) o d))
 
 scoped_expression : (M all : List (ℕ × Statement)) → Extends M all → (k : ℕ) (e : Expression) → Fine M [] k e → MentionsOnly (λ v. ⊥) (Covered all) e
-scoped_expression M all w k e f = Uses_mono e (InVars []) (λ v. ⊥) (InMets M) (Covered all) (λ v h. nothing h.1) (λ m k h. look_covered all m k h.0 (w m h.0 h.1) h.2 h.3) f.1
+scoped_expression M all w k e f = MentionsOnly_mono e (InVariables []) (λ v. ⊥) (InMetavariables M) (Covered all) (λ v h. nothing h.1) (λ m k h. look_covered all m k h.0 (w m h.0 h.1) h.2 h.3) f.1
 
 scoped_premises : (T : List Rule) (all M ps : List (ℕ × Statement)) → Extends (M ++ ps) all → PremisesHold (λ M x. Prim T M [] x) M ps → ScopedPremises all ps
 scoped_premises T all M [] w h = tt
 scoped_premises T all M (p ∷ ps) w h = (
-  stmt_mono p.1 (Fine M []) (λ l. MentionsOnly (λ v. ⊥) (Covered all)) zero (λ l e f. scoped_expression M all (λ m b r. w m b (look_before M (p ∷ ps) m b r)) l e f) (scope T (sequent M [] p.1) h.2),
+  AllOfStatement_mono p.1 (Fine M []) (λ l. MentionsOnly (λ v. ⊥) (Covered all)) zero (λ l e f. scoped_expression M all (λ m b r. w m b (look_before M (p ∷ ps) m b r)) l e f) (scope T (sequent M [] p.1) h.2),
   scoped_premises T all (M ++ (p ∷ [])) ps (λ m b r. w m b (ap (λ z. look_up z m) (sym (append_assoc M (p ∷ []) ps)) ∙ r)) h.3,
 )
 

@@ -7,7 +7,7 @@ use Rattle.ft_theory.specs.Steps.{Sequent, sequent, sequents, Step, variable, me
 use Rattle.ft_theory.specs.WideSteps.{weakening}
 use Rattle.ft_laws.specs.Counterexamples.{LawNeedsFinitary}
 use Rattle.ft_laws.proofs.Induction.{AllOf, induct}
-use Rattle.ft_laws.proofs.Fresh.{some_path}
+use Rattle.ft_laws.proofs.Fresh.{Some_injective}
 use Rattle.ft_laws.proofs.Steps.{do_variable, do_for_types}
 use Rattle.ft_laws.proofs.Peel.{Peeled, peel}
 use Rattle.ft_laws.proofs.Rules.{nothing}
@@ -85,9 +85,9 @@ linked_transitive A B C (inr l) (inl e) = subst (λ X. SameOrLinked A X) e (inr 
 linked_transitive A B C (inr l) (inr k) = inr (l.0, k.1)
 
 each_rule : (r : ℕ) (R : Rule) → rule_at free_theory r ≡ Some R → (elements_rule ≡ R) ⊎ ((dependent_rule ≡ R) ⊎ (free_rule ≡ R))
-each_rule zero R q = inl (some_path elements_rule R q)
-each_rule (suc zero) R q = inr (inl (some_path dependent_rule R q))
-each_rule (suc (suc zero)) R q = inr (inr (some_path free_rule R q))
+each_rule zero R q = inl (Some_injective elements_rule R q)
+each_rule (suc zero) R q = inr (inl (Some_injective dependent_rule R q))
+each_rule (suc (suc zero)) R q = inr (inr (Some_injective free_rule R q))
 each_rule (suc (suc (suc r))) R q = nothing q
 
 of_symbol : (r : ℕ) (R : Rule) (a : Arguments) → IsObjectGoal R.conclusion → (elements_rule ≡ R) ⊎ ((dependent_rule ≡ R) ⊎ (free_rule ≡ R)) → Linked (plain (fill_goal (conclusion_at R a) (symbol r a)))

@@ -74,8 +74,8 @@ pub fresh_absent : (G : List (ℕ × Expression)) (v : ℕ) → limit_of_variabl
 fresh_absent [] v h = refl
 fresh_absent (p ∷ G) v h = other v p.0 (Some p.1) (look_up G v) (λ e. grind (arith, e, h)) ∙ fresh_absent G v (omega arith)
 
-pub some_path : {A : Type 0} (x y : A) → Some x ≡ Some y → x ≡ y
-some_path x y e = ap (get x) e
+pub Some_injective : {A : Type 0} (x y : A) → Some x ≡ Some y → x ≡ y
+Some_injective x y e = ap (get x) e
   where
     get : {A : Type 0} → A → Option A → A
     get d None = d
@@ -87,5 +87,5 @@ fresh_unmentioned [] v h u B e = absurd (apart e)
     apart : None ≡ Some B → ⊥
     apart e = cc
 fresh_unmentioned (p ∷ G) v h u B e = by_test (Without v B) u p.0
-    (λ q. subst (Without v) (some_path p.1 B (sym (same u p.0 (Some p.1) (look_up G u) q) ∙ e)) (above p.1 v (omega arith)))
+    (λ q. subst (Without v) (Some_injective p.1 B (sym (same u p.0 (Some p.1) (look_up G u) q) ∙ e)) (above p.1 v (omega arith)))
     (λ q. fresh_unmentioned G v (omega arith) u B (sym (other u p.0 (Some p.1) (look_up G u) q) ∙ e))

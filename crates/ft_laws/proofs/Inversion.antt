@@ -8,7 +8,7 @@ use Rattle.ft_theory.specs.WideSteps.{Member, here, there}
 use Rattle.ft_laws.proofs.Induction.{AllOf, induct}
 use Rattle.ft_laws.proofs.Steps.{do_reflexive_type, do_transitive_types}
 use Rattle.ft_laws.proofs.Scope.{object-at, equation-at}
-use Rattle.ft_laws.proofs.Statements.{object_core-map, equation_core-map}
+use Rattle.ft_laws.proofs.Statements.{object_goal-map, equation_goal-map}
 use Rattle.ft_laws.proofs.Commute.{ScopedTheory}
 use Rattle.ft_laws.proofs.Substitute.{substitute_all}
 use Rattle.ft_laws.proofs.Sides.{parts}
@@ -116,9 +116,9 @@ origin T sc = induct (Step T) (λ c. From T c.metavariables c.variables c.statem
     step ps c (for_term B) ts h = tt
     step ps c (for_types B C) ts h = tt
     step ps c (for_terms s t B) ts h = tt
-    step ps c (symbol_rule {M} {G} r R a q f o) (more t ts) h = from_symbol T M G r R a q ts (conclusion_at R a) refl (object_core-map R.conclusion (act free (instance_of R.premises a)) o) t
-    step ps c (equation_rule {M} {G} r R a q f o) ts h = from_equation_goal T M G (conclusion_at R a) (bound zero) (equation_core-map R.conclusion (act free (instance_of R.premises a)) o)
-    step ps c (congruence {M} {G} r R a b q f f' o) ts h = from_equate_goal T M G (conclusion_at R a) (symbol r a) (symbol r b) (object_core-map R.conclusion (act free (instance_of R.premises a)) o)
+    step ps c (symbol_rule {M} {G} r R a q f o) (more t ts) h = from_symbol T M G r R a q ts (conclusion_at R a) refl (object_goal-map R.conclusion (act free (instance_of R.premises a)) o) t
+    step ps c (equation_rule {M} {G} r R a q f o) ts h = from_equation_goal T M G (conclusion_at R a) (bound zero) (equation_goal-map R.conclusion (act free (instance_of R.premises a)) o)
+    step ps c (congruence {M} {G} r R a b q f f' o) ts h = from_equate_goal T M G (conclusion_at R a) (symbol r a) (symbol r b) (object_goal-map R.conclusion (act free (instance_of R.premises a)) o)
 
 pub pick : (S : List Sequent → Sequent → Type 0) (M : List (ℕ × Statement)) (G : List (ℕ × Expression)) (x : Statement) (xs : List Statement) → Member x xs → Trees S (sequents M G xs) → Tree S (sequent M G x)
 pick S M G x xs (here y ys) (more t ts) = t

@@ -6,7 +6,7 @@ use Rattle.ft_theory.specs.Statements.{Claim, is_type, has_type, equal_types, ty
 use Rattle.ft_theory.specs.Rules.{Rule, rule_at, conclusion_at}
 use Rattle.ft_theory.specs.Steps.{sequent, Prim}
 use Rattle.ft_laws.specs.Examples.{nought, rule_nought, naturals, NothingFromIllFormedBoundary, NothingFromIllFormedEquation, NothingFromIllFormedAnnotation, NoAbsentVariable, NoLooseVariable, NoughtIsNoType, NoughtIsNotInNought}
-use Rattle.ft_laws.proofs.Fresh.{some_path}
+use Rattle.ft_laws.proofs.Fresh.{Some_injective}
 use Rattle.ft_laws.proofs.Scope.{scope}
 use Rattle.ft_laws.proofs.Commute.{ScopedTheory}
 use Rattle.ft_laws.proofs.Sides.{parts, boundary}
@@ -26,7 +26,7 @@ pub nothing_from_boundary : NothingFromIllFormedBoundary
 nothing_from_boundary T f M G m s a A n q p =
     let sc : ScopedTheory T = scoped T (finitary_sound 7 T f) in
     let h : OfTerm T M G (meta m no_terms) A = origin T sc (sequent M G (plain (has_type (meta m no_terms) A))) p in
-    let e : h.3 ≡ symbol s a = goal_type h.3 (symbol s a) (sym h.4 ∙ ap (λ b. at b no_terms) (some_path h.0 (plain (term_goal (symbol s a))) (sym h.1 ∙ q))) in
+    let e : h.3 ≡ symbol s a = goal_type h.3 (symbol s a) (sym h.4 ∙ ap (λ b. at b no_terms) (Some_injective h.0 (plain (term_goal (symbol s a))) (sym h.1 ∙ q))) in
     no_rule T sc M G s a n (subst (λ z. Prim T M G (plain (is_type z))) e (types_of T sc M G h.3 A h.5).0)
   where
     the_type : Claim → Expression
@@ -55,7 +55,7 @@ pub nothing_from_annotation : NothingFromIllFormedAnnotation
 nothing_from_annotation T f M G v s a A n q p =
     let sc : ScopedTheory T = scoped T (finitary_sound 7 T f) in
     let h : OfTerm T M G (free v) A = origin T sc (sequent M G (plain (has_type (free v) A))) p in
-    no_rule T sc M G s a n (subst (λ z. Prim T M G (plain (is_type z))) (some_path h.0 (symbol s a) (sym h.1 ∙ q)) (types_of T sc M G h.0 A h.2).0)
+    no_rule T sc M G s a n (subst (λ z. Prim T M G (plain (is_type z))) (Some_injective h.0 (symbol s a) (sym h.1 ∙ q)) (types_of T sc M G h.0 A h.2).0)
 
 pub no_absent_variable : NoAbsentVariable
 no_absent_variable T M G v A n p = nothing (sym n ∙ (scope T (sequent M G (plain (has_type (free v) A))) p).0.1.1)
@@ -73,7 +73,7 @@ naturals_scoped = scoped naturals (finitary_sound 7 naturals naturals_are_finita
 pub nought_is_no_type : NoughtIsNoType
 nought_is_no_type M G p =
     let h : OfType naturals M G nought = origin naturals naturals_scoped (sequent M G (plain (is_type nought))) p in
-    clash (ap (λ R. conclusion_at R no_arguments) (some_path rule_nought h.0 h.1) ∙ h.3)
+    clash (ap (λ R. conclusion_at R no_arguments) (Some_injective rule_nought h.0 h.1) ∙ h.3)
   where
     is_term : Claim → Type 0
     is_term (term_goal A) = Unit {0}

@@ -7,7 +7,7 @@ use Rattle.ft_theory.specs.Steps.{Sequent, sequent, sequents, Step, variable, me
 use Rattle.ft_theory.specs.Derivability.{Der, Finitary}
 use Rattle.ft_laws.specs.Counterexamples.{OpenMetavariable, with_open_boundary, SubstitutionNeedsVariableFree}
 use Rattle.ft_laws.proofs.Induction.{AllOf, induct}
-use Rattle.ft_laws.proofs.Fresh.{some_path}
+use Rattle.ft_laws.proofs.Fresh.{Some_injective}
 use Rattle.ft_laws.proofs.Opens.{by_test}
 use Rattle.ft_laws.proofs.Equal.{at_plain}
 use Rattle.ft_laws.proofs.Rules.{nothing, found, past}
@@ -132,9 +132,9 @@ not_expected : (M : List (ℕ × Statement)) (G : List (ℕ × Expression)) (m :
 not_expected M G m b e e' q h = subst Expected (sym (the_boundary M m b e q)) (h e e')
 
 each_rule : (r : ℕ) (R : Rule) → rule_at the_theory r ≡ Some R → (elements_rule ≡ R) ⊎ ((constant_rule ≡ R) ⊎ (dependent_rule ≡ R))
-each_rule zero R q = inl (some_path elements_rule R q)
-each_rule (suc zero) R q = inr (inl (some_path constant_rule R q))
-each_rule (suc (suc zero)) R q = inr (inr (some_path dependent_rule R q))
+each_rule zero R q = inl (Some_injective elements_rule R q)
+each_rule (suc zero) R q = inr (inl (Some_injective constant_rule R q))
+each_rule (suc (suc zero)) R q = inr (inr (Some_injective dependent_rule R q))
 each_rule (suc (suc (suc r))) R q = nothing q
 
 of_dependent : (M : List (ℕ × Statement)) (G : List (ℕ × Expression)) (a : Arguments) → M ≡ the_map → G ≡ [] → AllOf ExpectedIn (sequents M G (filled_premises (instance_of dependent_rule.premises a) dependent_rule.premises a)) → FirstIsSymbol a

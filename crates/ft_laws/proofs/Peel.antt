@@ -5,7 +5,7 @@ use Rattle.ft_theory.specs.Statements.{is_type, has_type, Statement, plain, abst
 use Rattle.ft_theory.specs.Rules.{look_up, Rule}
 use Rattle.ft_theory.specs.Steps.{sequent, Sequent, Unmentioned, Step, variable, metavariable, metavariable_equation, metavariable_congruence, abstraction, reflexive_type, reflexive_term, symmetric_types, symmetric_terms, transitive_types, transitive_terms, convert_term, convert_equation, for_type, for_term, for_types, for_terms, symbol_rule, equation_rule, congruence, Tree, Trees, node, none, more, Prim}
 use Rattle.ft_laws.proofs.Scope.{scope, Fine, domain_count-at}
-use Rattle.ft_laws.proofs.Statements.{opened-closed, stmt_mono}
+use Rattle.ft_laws.proofs.Statements.{opened-closed, AllOfStatement_mono}
 
 pub record Peeled (T : List Rule) (M : List (ℕ × Statement)) (G : List (ℕ × Expression)) (A : Expression) (y : Statement) : Type 0 where
   pub name : ℕ
@@ -40,7 +40,7 @@ peel T c A y (node ps s ts) e = last_step ps c s ts e
     last_step ps c (abstraction {M} {G} v B x n u) (more t (more t' none)) e =
         let p : B ≡ A = ap domain e in
         let q : close_statement v x ≡ y = ap tail e in
-        let back : opened (free v) (abstracted B (close_statement v x)) ≡ x = opened-closed x B v (stmt_mono x (Fine M ((v, B) ∷ G)) (λ l. ClosedAt l) zero (λ l e f. f.0) (scope T (sequent M ((v, B) ∷ G) x) t')) in
+        let back : opened (free v) (abstracted B (close_statement v x)) ≡ x = opened-closed x B v (AllOfStatement_mono x (Fine M ((v, B) ∷ G)) (λ l. ClosedAt l) zero (λ l e f. f.0) (scope T (sequent M ((v, B) ∷ G) x) t')) in
         record { name = v; absent = n; unmentioned = u; first = subst (λ B. Prim T M G (plain (is_type B))) p t; rest = subst₂ (λ B z. Prim T M ((v, B) ∷ G) (opened (free v) (abstracted B z))) p q (subst (λ z. Prim T M ((v, B) ∷ G) z) (sym back) t') }
     last_step ps c (reflexive_type B) ts e = flat c.statement A y refl e
     last_step ps c (reflexive_term t B) ts e = flat c.statement A y refl e

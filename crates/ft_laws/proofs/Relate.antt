@@ -9,10 +9,10 @@ use Rattle.ft_laws.proofs.Induction.{AllOf, induct}
 use Rattle.ft_laws.proofs.Acts.{IsClosedMap, count-act}
 use Rattle.ft_laws.proofs.Opens.{same, other, by_test}
 use Rattle.ft_laws.proofs.Steps.{do_symmetric_types, do_convert_term, do_convert_equation}
-use Rattle.ft_laws.proofs.Fresh.{some_path}
+use Rattle.ft_laws.proofs.Fresh.{Some_injective}
 use Rattle.ft_laws.proofs.Scope.{scope, Fine, FineStatement, FineTerms, object-at, equation-at, domain_count-at, Fine-term_typings}
 use Rattle.ft_laws.proofs.Peel.{domain_count-fill, domain_count-equate}
-use Rattle.ft_laws.proofs.Statements.{domain_count-map, object-map, object_core-map, equation-map, equation_core-map, act-opened, domain-act}
+use Rattle.ft_laws.proofs.Statements.{domain_count-map, object-map, object_goal-map, equation-map, equation_goal-map, act-opened, domain-act}
 use Rattle.ft_laws.proofs.Commute.{acts, act-fill, term_typings-act, ScopedTheory, conclusion-act, filled_premises-act, boundary-act, ScopedPremises, FitsPremises-act, variable_free-act}
 use Rattle.ft_laws.proofs.ClosedActs.{Closed-act}
 use Rattle.ft_laws.proofs.Traverse.{Grows, Grows_refl, applied, Maps, send, send_closed, send_without, absent_without, Maps_under, abstraction-act, traverse, metavariable-act, metavariable_equation-act, metavariable_pair-act, rule-act, rule_pair-act, fine_all, metavariable_right-act, Fine-term_equations}
@@ -148,7 +148,7 @@ under_pair T sc M G N H K g i h j v A s t m n u f gr rl =
       closed = send_closed h j v t m.closed cl.1;
       related = λ w B q. by_test (Paired T N K (send g v s w) (send h v t w) (act (send g v s) i B)) w v
           (λ e.
-          let AB : A ≡ B = some_path A B (sym (same w v (Some A) (look_up G w) e) ∙ q) in
+          let AB : A ≡ B = Some_injective A B (sym (same w v (Some A) (look_up G w) e) ∙ q) in
           let Ae : act (send g v s) i B ≡ act g i A = ap (act (send g v s) i) (sym AB) ∙ send_without A g i v s (absent_without M G v zero A n f) in
           subst (λ D. Paired T N K (send g v s w) (send h v t w) D) (sym Ae) (subst₂ (λ x y. Paired T N K x y (act g i A)) (sym (same w v s (g w) e)) (sym (same w v t (h w) e)) rl))
           (λ e.
@@ -272,8 +272,8 @@ relate T sc = induct (Step T) (Related T) step
         let cj : Claim = conclusion_at R ar in
         let gi : map_claim (act g i) (conclusion_at R a) ≡ ci = conclusion-act R a g i m.left.closed f (sc k R q) in
         let gj : map_claim (act h j) (conclusion_at R a) ≡ cj = conclusion-act R a h j m.closed f (sc k R q) in
-        let oi : IsObjectGoal ci = object_core-map R.conclusion (act free (instance_of R.premises al)) o in
-        let oj : IsObjectGoal cj = object_core-map R.conclusion (act free (instance_of R.premises ar)) o in
+        let oi : IsObjectGoal ci = object_goal-map R.conclusion (act free (instance_of R.premises al)) o in
+        let oj : IsObjectGoal cj = object_goal-map R.conclusion (act free (instance_of R.premises ar)) o in
         let e0 : EqualStatements T N H (plain ci) (plain cj) = subst₂ (λ x y. EqualStatements T N H (plain x) (plain y)) gi gj (r.0 N H g i h j m) in
         let ec : EqualClaims T N H ci cj = equal_here T N H (plain ci) (plain cj) e0 in
         let bl : Prim T N H (plain ci) = subst (λ z. Prim T N H (plain z)) gi (traverse T sc (sequent M G (plain (conclusion_at R a))) tb N H g i m.left) in
@@ -293,7 +293,7 @@ relate T sc = induct (Step T) (Related T) step
         let cj : Claim = conclusion_at R (act_arguments h j a) in
         let ec : EqualClaims T N H ci cj = equal_here T N H (plain ci) (plain cj) (subst₂ (λ x y. EqualStatements T N H (plain x) (plain y)) (conclusion-act R a g i m.left.closed f (sc k R q)) (conclusion-act R a h j m.closed f (sc k R q)) (r.0 N H g i h j m)) in
         subst₂ (λ x y. EqualStatements T N H (plain x) (plain y)) (sym (rule-act R a g i (bound zero) m.left.closed f (sc k R q))) (sym (rule-act R a h j (bound zero) m.closed f (sc k R q)))
-        (equal_plain T sc N H (fill_goal ci (bound zero)) (fill_goal cj (bound zero)) (equation_here_claim T N H ci cj (bound zero) (bound zero) (equation_core-map R.conclusion (act free (instance_of R.premises (act_arguments g i a))) o) (equation_core-map R.conclusion (act free (instance_of R.premises (act_arguments h j a))) o) ec))
+        (equal_plain T sc N H (fill_goal ci (bound zero)) (fill_goal cj (bound zero)) (equation_here_claim T N H ci cj (bound zero) (bound zero) (equation_goal-map R.conclusion (act free (instance_of R.premises (act_arguments g i a))) o) (equation_goal-map R.conclusion (act free (instance_of R.premises (act_arguments h j a))) o) ec))
     step ps c (congruence {M} {G} k R a b q f f' o) ts r N H g i h j m =
         let al : Arguments = act_arguments g i a in
         let ar : Arguments = act_arguments h j a in
@@ -306,4 +306,4 @@ relate T sc = induct (Step T) (Related T) step
         let y : EqualClaims T N H (fill_goal ci sl) (fill_goal cj sr) = equal_here T N H (plain (fill_goal ci sl)) (plain (fill_goal cj sr))
         (subst₂ (λ x y. EqualStatements T N H (plain x) (plain y)) (rule-act R a g i (symbol k b) m.left.closed f (sc k R q)) (rule-act R a h j (symbol k b) m.closed f (sc k R q)) (r.1.0 N H g i h j m)) in
         subst₂ (λ x y. EqualStatements T N H (plain x) (plain y)) (sym (rule_pair-act R a g i (symbol k a) (symbol k b) m.left.closed f (sc k R q))) (sym (rule_pair-act R a h j (symbol k a) (symbol k b) m.closed f (sc k R q)))
-        (equal_plain T sc N H (equate_goal ci (symbol k al) sl) (equate_goal cj (symbol k ar) sr) (pair_here_core T N H ci cj (symbol k al) (symbol k ar) sl sr (object_core-map R.conclusion (act free (instance_of R.premises al)) o) (object_core-map R.conclusion (act free (instance_of R.premises ar)) o) x y))
+        (equal_plain T sc N H (equate_goal ci (symbol k al) sl) (equate_goal cj (symbol k ar) sr) (pair_here_core T N H ci cj (symbol k al) (symbol k ar) sl sr (object_goal-map R.conclusion (act free (instance_of R.premises al)) o) (object_goal-map R.conclusion (act free (instance_of R.premises ar)) o) x y))

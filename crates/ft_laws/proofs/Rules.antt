@@ -9,7 +9,7 @@ use Rattle.std.specs.Prelude.{◌++◌, ◌&&◌}
 use Rattle.ft_laws.proofs.Acts.{ClosedBody}
 use Rattle.ft_laws.proofs.Opens.{same, other, by_test, test_true, test_false}
 use Rattle.ft_laws.proofs.Steps.{do_symmetric_types, do_symmetric_terms, do_convert_equation}
-use Rattle.ft_laws.proofs.Fresh.{some_path}
+use Rattle.ft_laws.proofs.Fresh.{Some_injective}
 use Rattle.ft_laws.proofs.Scope.{scope, Fine, AllOfStatement_head, Fine-filled_premises}
 use Rattle.ft_laws.proofs.Statements.{fill-map, domain_count-map, object-opened, object-map, equation-map, equation-opened}
 use Rattle.ft_laws.proofs.Commute.{ScopedTheory, not_both}
@@ -88,7 +88,7 @@ symmetric_equal T sc M (suc n) G (abstracted A x) (abstracted B y) z e =
 
 -- what an instance has for a premise
 pub found : {A : Type 0} (m : ℕ) (p : ℕ × A) (ps : List (ℕ × A)) (b : A) → m ≡ p.0 → look_up (p ∷ ps) m ≡ Some b → p.1 ≡ b
-found m p ps b e q = some_path p.1 b (sym (same m p.0 (Some p.1) (look_up ps m) e) ∙ q)
+found m p ps b e q = Some_injective p.1 b (sym (same m p.0 (Some p.1) (look_up ps m) e) ∙ q)
 
 pub past : {A : Type 0} (m : ℕ) (p : ℕ × A) (ps : List (ℕ × A)) (b : A) → m ≢ p.0 → look_up (p ∷ ps) m ≡ Some b → look_up ps m ≡ Some b
 past m p ps b n q = sym (other m p.0 (Some p.1) (look_up ps m) n) ∙ q
@@ -99,8 +99,8 @@ nothing {A} {b} e = absurd (clash e)
     clash : None ≡ Some b → ⊥
     clash e = cc
 
-pub inst_past : (m n k : ℕ) (p : ℕ × Statement) (ps : List (ℕ × Statement)) (e : Expression) (a : Arguments) → m ≢ p.0 → instance_of (p ∷ ps) (with_body n e a) m k ≡ instance_of ps a m k
-inst_past m n k p ps e a d = ap (λ b. cond (b && nat_eq k n) (Some e) (instance_of ps a m k)) (test_false m p.0 d)
+pub instance_past : (m n k : ℕ) (p : ℕ × Statement) (ps : List (ℕ × Statement)) (e : Expression) (a : Arguments) → m ≢ p.0 → instance_of (p ∷ ps) (with_body n e a) m k ≡ instance_of ps a m k
+instance_past m n k p ps e a d = ap (λ b. cond (b && nat_eq k n) (Some e) (instance_of ps a m k)) (test_false m p.0 d)
 
 instance_found : (m n k : ℕ) (p : ℕ × Statement) (ps : List (ℕ × Statement)) (e : Expression) (a : Arguments) → m ≡ p.0 → k ≡ n → instance_of (p ∷ ps) (with_body n e a) m k ≡ Some e
 instance_found m n k p ps e a d d' = ap₂ (λ b c. cond (b && c) (Some e) (instance_of ps a m k)) (test_true m p.0 d) (test_true k n d')
@@ -121,7 +121,7 @@ given_object_premise T N H i (p ∷ ps) (with_body n e a) m b f (more t ts) q o 
     (e, instance_found m n (domain_count b) p ps e a d (sym (ap domain_count B) ∙ sym f.0), subst (λ z. Prim T N H (fill (statement_at i z) e)) B t))
     (λ d.
     let r : (e' : Expression) × (instance_of ps a m (domain_count b) ≡ Some e') × Prim T N H (fill (statement_at i b) e') = given_object_premise T N H i ps a m b f.2 ts (past m p ps b d q) o in
-    (r.0, inst_past m n (domain_count b) p ps e a d ∙ r.1, r.2))
+    (r.0, instance_past m n (domain_count b) p ps e a d ∙ r.1, r.2))
 given_object_premise T N H i (p ∷ ps) (dummy n a) m b f (more t ts) q o = by_test ((e' : Expression) × (instance_of (p ∷ ps) (dummy n a) m (domain_count b) ≡ Some e') × Prim T N H (fill (statement_at i b) e')) m p.0
     (λ d. absurd (not_both b o (subst IsEquation (found m p ps b d q) f.1)))
     (λ d. given_object_premise T N H i ps a m b f.2 ts (past m p ps b d q) o)
@@ -150,7 +150,7 @@ given_two_premises T N H i (p ∷ ps) (with_body n e a) (with_body l h c) m b f 
     (e, h, instance_found m n (domain_count b) p ps e a d (sym (ap domain_count B) ∙ sym f.0), instance_found m l (domain_count b) p ps h c d (sym (ap domain_count B) ∙ sym f'.0), subst (λ z. Prim T N H (equate (statement_at i z) e h)) B t))
     (λ d.
     let r : (x y : Expression) × (instance_of ps a m (domain_count b) ≡ Some x) × (instance_of ps c m (domain_count b) ≡ Some y) × Prim T N H (equate (statement_at i b) x y) = given_two_premises T N H i ps a c m b f.2 f'.2 ts (past m p ps b d q) o in
-    (r.0, r.1, inst_past m n (domain_count b) p ps e a d ∙ r.2, inst_past m l (domain_count b) p ps h c d ∙ r.3, r.4))
+    (r.0, r.1, instance_past m n (domain_count b) p ps e a d ∙ r.2, instance_past m l (domain_count b) p ps h c d ∙ r.3, r.4))
 given_two_premises T N H i (p ∷ ps) (dummy n a) (dummy l c) m b f f' ts q o = by_test ((x y : Expression) × (instance_of (p ∷ ps) (dummy n a) m (domain_count b) ≡ Some x) × (instance_of (p ∷ ps) (dummy l c) m (domain_count b) ≡ Some y) × Prim T N H (equate (statement_at i b) x y)) m p.0
     (λ d. absurd (not_both b o (subst IsEquation (found m p ps b d q) f.1)))
     (λ d. given_two_premises T N H i ps a c m b f.2 f'.2 ts (past m p ps b d q) o)
@@ -215,7 +215,7 @@ whole_pair T sc M N H ps a c w f f' ts es = record {
   objects = λ m b q gl o.
       let r : (e : Expression) × (instance_of ps a m (domain_count b) ≡ Some e) × Prim T N H (fill (statement_at (instance_of ps a) b) e) = given_object_premise T N H (instance_of ps a) ps a m b f ts (w m b q) o in
       let s : (x y : Expression) × (instance_of ps a m (domain_count b) ≡ Some x) × (instance_of ps c m (domain_count b) ≡ Some y) × Prim T N H (equate (statement_at (instance_of ps a) b) x y) = given_two_premises T N H (instance_of ps a) ps a c m b f f' es (w m b q) o in
-      let same : r.0 ≡ s.0 = some_path r.0 s.0 (sym r.1 ∙ s.2) in
+      let same : r.0 ≡ s.0 = Some_injective r.0 s.0 (sym r.1 ∙ s.2) in
       both_given s.0 s.1 s.2 s.3 (subst (λ e. Prim T N H (fill (statement_at (instance_of ps a) b) e)) same r.2) s.4;
 }
 

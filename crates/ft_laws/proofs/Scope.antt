@@ -6,26 +6,26 @@ use Rattle.ft_theory.specs.Rules.{look_up, Rule, instance_of, FitsPremises, fill
 use Rattle.ft_theory.specs.Steps.{Sequent, sequents, Step, variable, metavariable, metavariable_equation, metavariable_congruence, abstraction, reflexive_type, reflexive_term, symmetric_types, symmetric_terms, transitive_types, transitive_terms, convert_term, convert_equation, for_type, for_term, for_types, for_terms, symbol_rule, equation_rule, congruence, Tree, Prim}
 use Rattle.ft_laws.proofs.Induction.{AllOf, induct}
 use Rattle.ft_laws.proofs.Opens.{other, Closed-open, Closed-close, MentionsOnly-open, MentionsOnly-close}
-use Rattle.ft_laws.proofs.Statements.{AllOfStatement-map, AllOfStatement_shift, AllOfStatement_unshift, domain_count-map, domain_count-opened, equation-opened, equation_core-map, object-map, object-opened, object_core-map}
+use Rattle.ft_laws.proofs.Statements.{AllOfStatement-map, AllOfStatement_shift, AllOfStatement_unshift, domain_count-map, domain_count-opened, equation-opened, equation_goal-map, object-map, object-opened, object_goal-map}
 
 -- the map has a type for the variable
-abbrev pub InVars : List (ℕ × Expression) → ℕ → Type 0
-InVars G v = (A : Expression) × (look_up G v ≡ Some A)
+abbrev pub InVariables : List (ℕ × Expression) → ℕ → Type 0
+InVariables G v = (A : Expression) × (look_up G v ≡ Some A)
 
 -- the metavariable has an object boundary with that many domains
-abbrev pub InMets : List (ℕ × Statement) → ℕ → ℕ → Type 0
-InMets M m k = (b : Statement) × (look_up M m ≡ Some b) × IsObject b × (k ≡ domain_count b)
+abbrev pub InMetavariables : List (ℕ × Statement) → ℕ → ℕ → Type 0
+InMetavariables M m k = (b : Statement) × (look_up M m ≡ Some b) × IsObject b × (k ≡ domain_count b)
 
 -- The expression is closed but for k bound variables, and mentions only what the maps have. The same for lists of terms and of
 -- arguments, and for statements.
 abbrev pub Fine : List (ℕ × Statement) → List (ℕ × Expression) → ℕ → Expression → Type 0
-Fine M G k e = ClosedAt k e × MentionsOnly (InVars G) (InMets M) e
+Fine M G k e = ClosedAt k e × MentionsOnly (InVariables G) (InMetavariables M) e
 
 abbrev pub FineTerms : List (ℕ × Statement) → List (ℕ × Expression) → Terms → Type 0
-FineTerms M G a = ClosedTerms zero a × TermsMentionOnly (InVars G) (InMets M) a
+FineTerms M G a = ClosedTerms zero a × TermsMentionOnly (InVariables G) (InMetavariables M) a
 
 abbrev pub FineArguments : List (ℕ × Statement) → List (ℕ × Expression) → Arguments → Type 0
-FineArguments M G a = ClosedArguments zero a × ArgumentsMentionOnly (InVars G) (InMets M) a
+FineArguments M G a = ClosedArguments zero a × ArgumentsMentionOnly (InVariables G) (InMetavariables M) a
 
 abbrev pub FineStatement : List (ℕ × Statement) → List (ℕ × Expression) → Statement → Type 0
 FineStatement M G x = AllOfStatement (Fine M G) zero x
@@ -88,11 +88,11 @@ AllOfStatement-equation (plain c) P k h o a = AllOfClaim-equation c (P k) h o a
 AllOfStatement-equation (abstracted A x) P k h o a = (a.0, AllOfStatement-equation x P (suc k) h o a.1)
 
 -- under opening, closing and terms at domains
-pub InVars_add : (G : List (ℕ × Expression)) (v u : ℕ) (A : Expression) → u ≢ v → InVars ((v, A) ∷ G) u → InVars G u
+pub InVars_add : (G : List (ℕ × Expression)) (v u : ℕ) (A : Expression) → u ≢ v → InVariables ((v, A) ∷ G) u → InVariables G u
 InVars_add G v u A n h = (h.0, sym (other u v (Some A) (look_up G u) n) ∙ h.1)
 
 pub Fine-open : (M : List (ℕ × Statement)) (G : List (ℕ × Expression)) (k : ℕ) (t e : Expression) → Fine M G (suc k) e → Fine M G zero t → Fine M G k (open_at k t e)
-Fine-open M G k t e f h = (Closed-open e k t f.0 h.0, MentionsOnly-open e (InVars G) (InMets M) k t f.1 h.1)
+Fine-open M G k t e f h = (Closed-open e k t f.0 h.0, MentionsOnly-open e (InVariables G) (InMetavariables M) k t f.1 h.1)
 
 pub Fine-opened : (M : List (ℕ × Statement)) (G : List (ℕ × Expression)) (x : Statement) (t : Expression) → FineStatement M G x → Fine M G zero t → FineStatement M G (opened t x)
 Fine-opened M G (plain c) t f h = f
@@ -105,7 +105,7 @@ Fine-at M G (also t a) x f h = Fine-at M G a (opened t x) (Fine-opened M G x t f
 pub Fine-close : (M : List (ℕ × Statement)) (G : List (ℕ × Expression)) (v : ℕ) (A : Expression) (x : Statement) → FineStatement M ((v, A) ∷ G) x → AllOfStatement (Fine M G) (suc zero) (close_statement v x)
 Fine-close M G v A x f = AllOfStatement_unshift (close_statement v x) (Fine M G) zero
     (AllOfStatement-map x (λ l. close_at l v) (Fine M ((v, A) ∷ G)) (λ l. Fine M G (suc l)) zero
-    (λ l e p. (Closed-close e l v p.0, MentionsOnly-close e (InVars ((v, A) ∷ G)) (InVars G) (InMets M) l v (λ u n h. InVars_add G v u A n h) p.1)) f)
+    (λ l e p. (Closed-close e l v p.0, MentionsOnly-close e (InVariables ((v, A) ∷ G)) (InVariables G) (InMetavariables M) l v (λ u n h. InVars_add G v u A n h) p.1)) f)
 
 pub Fine-term_typings : (M : List (ℕ × Statement)) (G : List (ℕ × Expression)) (a : Terms) (x : Statement) → AllOf (λ c. FineStatement c.metavariables c.variables c.statement) (sequents M G (term_typings x a)) → FineTerms M G a
 Fine-term_typings M G no_terms x h = (tt, tt)
@@ -167,5 +167,5 @@ scope T = induct (Step T) (λ c. FineStatement c.metavariables c.variables c.sta
     step ps c (symbol_rule {M} {G} r R a q f o) h =
         AllOfClaim-fill (conclusion_at R a) (Fine M G zero) (symbol r a) h.0 (Fine-filled_premises M G (instance_of R.premises a) R.premises a f h.1)
     step ps c (equation_rule {M} {G} r R a q f o) h =
-        AllOfClaim-equation (conclusion_at R a) (Fine M G zero) (bound zero) (equation_core-map R.conclusion (act free (instance_of R.premises a)) o) h.0
-    step ps c (congruence {M} {G} r R a b q f f' o) h = AllOfClaim-equate (conclusion_at R a) (Fine M G zero) (symbol r a) (symbol r b) (object_core-map R.conclusion (act free (instance_of R.premises a)) o) h.0 h.1.0
+        AllOfClaim-equation (conclusion_at R a) (Fine M G zero) (bound zero) (equation_goal-map R.conclusion (act free (instance_of R.premises a)) o) h.0
+    step ps c (congruence {M} {G} r R a b q f f' o) h = AllOfClaim-equate (conclusion_at R a) (Fine M G zero) (symbol r a) (symbol r b) (object_goal-map R.conclusion (act free (instance_of R.premises a)) o) h.0 h.1.0

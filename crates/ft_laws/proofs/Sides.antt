@@ -7,7 +7,7 @@ use Rattle.ft_theory.specs.Steps.{Sequent, sequent, Step, variable, metavariable
 use Rattle.ft_laws.proofs.Induction.{AllOf, induct}
 use Rattle.ft_laws.proofs.Steps.{do_convert_term, do_for_type, do_for_term, do_for_types, do_for_terms}
 use Rattle.ft_laws.proofs.Scope.{object-at, equation-at, domain_count-at}
-use Rattle.ft_laws.proofs.Statements.{object_core-map, equation_core-map}
+use Rattle.ft_laws.proofs.Statements.{object_goal-map, equation_goal-map}
 use Rattle.ft_laws.proofs.Commute.{ScopedTheory}
 use Rattle.ft_laws.proofs.Substitute.{substitute_all}
 
@@ -77,7 +77,7 @@ parts T c (node ps s ts) = last_step ps c s ts
     last_step ps c (for_terms s t B) (more p (more p' (more p'' none))) = (p, p', p'')
     last_step ps c (symbol_rule {M} {G} r R a q f o) ts = parts_fill_goal T M G (conclusion_at R a) (symbol r a)
     last_step ps c (equation_rule {M} {G} r R a q f o) ts = parts_fill_goal T M G (conclusion_at R a) (bound zero)
-    last_step ps c (congruence {M} {G} r R a b q f f' o) ts = parts_equate_goal T M G (conclusion_at R a) (symbol r a) (symbol r b) (object_core-map R.conclusion (act free (instance_of R.premises a)) o)
+    last_step ps c (congruence {M} {G} r R a b q f f' o) ts = parts_equate_goal T M G (conclusion_at R a) (symbol r a) (symbol r b) (object_goal-map R.conclusion (act free (instance_of R.premises a)) o)
 
 boundary-map_claim : (c : Claim) (f : Expression → Expression) → boundary_of_claim (map_claim f c) ≡ map_claim f (boundary_of_claim c)
 boundary-map_claim (is_type A) f = refl
@@ -168,8 +168,8 @@ boundary T sc = induct (Step T) (λ c. Prim T c.metavariables c.variables (bound
     step ps c (for_types A B) (more t (more t' none)) h = do_for_types t t'
     step ps c (for_terms s t A) (more p (more p' (more p'' none))) h = do_for_terms p p' p''
     step ps c (symbol_rule {M} {G} r R a q f o) (more t ts) h =
-        subst (λ z. Prim T M G (plain z)) (sym (boundary-fill_goal (conclusion_at R a) (symbol r a) (inl (object_core-map R.conclusion (act free (instance_of R.premises a)) o)))) t
+        subst (λ z. Prim T M G (plain z)) (sym (boundary-fill_goal (conclusion_at R a) (symbol r a) (inl (object_goal-map R.conclusion (act free (instance_of R.premises a)) o)))) t
     step ps c (equation_rule {M} {G} r R a q f o) (more t ts) h =
-        subst (λ z. Prim T M G (plain z)) (sym (boundary-fill_goal (conclusion_at R a) (bound zero) (inr (equation_core-map R.conclusion (act free (instance_of R.premises a)) o)))) t
+        subst (λ z. Prim T M G (plain z)) (sym (boundary-fill_goal (conclusion_at R a) (bound zero) (inr (equation_goal-map R.conclusion (act free (instance_of R.premises a)) o)))) t
     step ps c (congruence {M} {G} r R a b q f f' o) (more t (more t' ts)) h =
-        both_sides T M G (conclusion_at R a) (symbol r a) (symbol r b) (object_core-map R.conclusion (act free (instance_of R.premises a)) o) t t' h.0
+        both_sides T M G (conclusion_at R a) (symbol r a) (symbol r b) (object_goal-map R.conclusion (act free (instance_of R.premises a)) o) t t' h.0

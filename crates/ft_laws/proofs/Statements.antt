@@ -73,9 +73,9 @@ pub AllOfStatement-map : (x : Statement) (f : ℕ → Expression → Expression)
 AllOfStatement-map (plain c) f P Q k p a = AllOfClaim-map c (f k) (P k) (Q k) (p k) a
 AllOfStatement-map (abstracted A x) f P Q k p a = (p k A a.0, AllOfStatement-map x f P Q (suc k) p a.1)
 
-pub stmt_mono : (x : Statement) (P Q : ℕ → Expression → Type 0) (k : ℕ) → ((l : ℕ) (e : Expression) → P l e → Q l e) → AllOfStatement P k x → AllOfStatement Q k x
-stmt_mono (plain c) P Q k p a = AllOfClaim_mono c (P k) (Q k) (p k) a
-stmt_mono (abstracted A x) P Q k p a = (p k A a.0, stmt_mono x P Q (suc k) p a.1)
+pub AllOfStatement_mono : (x : Statement) (P Q : ℕ → Expression → Type 0) (k : ℕ) → ((l : ℕ) (e : Expression) → P l e → Q l e) → AllOfStatement P k x → AllOfStatement Q k x
+AllOfStatement_mono (plain c) P Q k p a = AllOfClaim_mono c (P k) (Q k) (p k) a
+AllOfStatement_mono (abstracted A x) P Q k p a = (p k A a.0, AllOfStatement_mono x P Q (suc k) p a.1)
 
 pub AllOfStatement_shift : (x : Statement) (P : ℕ → Expression → Type 0) (k : ℕ) → AllOfStatement P (suc k) x → AllOfStatement (λ l. P (suc l)) k x
 AllOfStatement_shift (plain c) P k a = a
@@ -113,32 +113,32 @@ domain_count-opened (plain c) t k e = grind (arith, e)
 domain_count-opened (abstracted A x) t k e = domain_count-map x (λ l. open_at l t) zero ∙ omega (arith, e)
 
 -- object boundaries and equations stay what they are
-pub object_core-map : (c : Claim) (f : Expression → Expression) → IsObjectGoal c → IsObjectGoal (map_claim f c)
-object_core-map (is_type A) f o = o
-object_core-map (has_type t A) f o = o
-object_core-map (equal_types A B) f o = o
-object_core-map (equal_terms s t A) f o = o
-object_core-map type_goal f o = o
-object_core-map (term_goal A) f o = o
-object_core-map (type_equation_goal A B) f o = o
-object_core-map (term_equation_goal s t A) f o = o
+pub object_goal-map : (c : Claim) (f : Expression → Expression) → IsObjectGoal c → IsObjectGoal (map_claim f c)
+object_goal-map (is_type A) f o = o
+object_goal-map (has_type t A) f o = o
+object_goal-map (equal_types A B) f o = o
+object_goal-map (equal_terms s t A) f o = o
+object_goal-map type_goal f o = o
+object_goal-map (term_goal A) f o = o
+object_goal-map (type_equation_goal A B) f o = o
+object_goal-map (term_equation_goal s t A) f o = o
 
 pub object-map : (x : Statement) (f : ℕ → Expression → Expression) (k : ℕ) → IsObject x → IsObject (map_statement f k x)
-object-map (plain c) f k o = object_core-map c (f k) o
+object-map (plain c) f k o = object_goal-map c (f k) o
 object-map (abstracted A x) f k o = object-map x f (suc k) o
 
-pub equation_core-map : (c : Claim) (f : Expression → Expression) → IsEquationGoal c → IsEquationGoal (map_claim f c)
-equation_core-map (is_type A) f o = o
-equation_core-map (has_type t A) f o = o
-equation_core-map (equal_types A B) f o = o
-equation_core-map (equal_terms s t A) f o = o
-equation_core-map type_goal f o = o
-equation_core-map (term_goal A) f o = o
-equation_core-map (type_equation_goal A B) f o = o
-equation_core-map (term_equation_goal s t A) f o = o
+pub equation_goal-map : (c : Claim) (f : Expression → Expression) → IsEquationGoal c → IsEquationGoal (map_claim f c)
+equation_goal-map (is_type A) f o = o
+equation_goal-map (has_type t A) f o = o
+equation_goal-map (equal_types A B) f o = o
+equation_goal-map (equal_terms s t A) f o = o
+equation_goal-map type_goal f o = o
+equation_goal-map (term_goal A) f o = o
+equation_goal-map (type_equation_goal A B) f o = o
+equation_goal-map (term_equation_goal s t A) f o = o
 
 pub equation-map : (x : Statement) (f : ℕ → Expression → Expression) (k : ℕ) → IsEquation x → IsEquation (map_statement f k x)
-equation-map (plain c) f k o = equation_core-map c (f k) o
+equation-map (plain c) f k o = equation_goal-map c (f k) o
 equation-map (abstracted A x) f k o = equation-map x f (suc k) o
 
 pub object-opened : (x : Statement) (t : Expression) → IsObject x → IsObject (opened t x)
@@ -179,18 +179,18 @@ equate-map (plain c) f k h j = ap plain (equate_goal-map c (f k) h j) ∙ ap (λ
 equate-map (abstracted A x) f k h j = ap (abstracted (f k A)) (equate-map x f (suc k) h j ∙ ap (λ l. equate (map_statement f (suc k) x) (f l h) (f l j)) (omega arith))
 
 -- the head of an equation doesn't matter
-pub fill_core_any : (c : Claim) (h j : Expression) → IsEquationGoal c → fill_goal c h ≡ fill_goal c j
-fill_core_any (is_type A) h j o = refl
-fill_core_any (has_type t A) h j o = refl
-fill_core_any (equal_types A B) h j o = refl
-fill_core_any (equal_terms s t A) h j o = refl
-fill_core_any type_goal h j o = absurd o
-fill_core_any (term_goal A) h j o = absurd o
-fill_core_any (type_equation_goal A B) h j o = refl
-fill_core_any (term_equation_goal s t A) h j o = refl
+pub fill_goal_any : (c : Claim) (h j : Expression) → IsEquationGoal c → fill_goal c h ≡ fill_goal c j
+fill_goal_any (is_type A) h j o = refl
+fill_goal_any (has_type t A) h j o = refl
+fill_goal_any (equal_types A B) h j o = refl
+fill_goal_any (equal_terms s t A) h j o = refl
+fill_goal_any type_goal h j o = absurd o
+fill_goal_any (term_goal A) h j o = absurd o
+fill_goal_any (type_equation_goal A B) h j o = refl
+fill_goal_any (term_equation_goal s t A) h j o = refl
 
 pub fill_any : (x : Statement) (h j : Expression) → IsEquation x → fill x h ≡ fill x j
-fill_any (plain c) h j o = ap plain (fill_core_any c h j o)
+fill_any (plain c) h j o = ap plain (fill_goal_any c h j o)
 fill_any (abstracted A x) h j o = ap (abstracted A) (fill_any x h j o)
 
 -- what acts
@@ -212,8 +212,8 @@ act-act_statement x g h i j c =
     map_statement-map x (λ l. act g i) (λ l. act h j) zero
     ∙ map_statement_agree x (λ l e. act g i (act h j e)) (λ l. act (λ v. act g i (h v)) (after g i j)) (λ l e. Unit {0}) zero (λ l e u. act-act e g h i j c) (AllOfStatement_true x zero)
 
-pub act_stmt_agree : (x : Statement) (g h : ℕ → Expression) (i j : ℕ → ℕ → Option Expression) → StatementMentionsOnly (λ v. g v ≡ h v) (λ m k. i m k ≡ j m k) x → act_statement g i x ≡ act_statement h j x
-act_stmt_agree x g h i j u = map_statement_agree x (λ l. act g i) (λ l. act h j) (λ l. MentionsOnly (λ v. g v ≡ h v) (λ m k. i m k ≡ j m k)) zero (λ l e p. act_agree e g h i j p) u
+pub act_statement_agree : (x : Statement) (g h : ℕ → Expression) (i j : ℕ → ℕ → Option Expression) → StatementMentionsOnly (λ v. g v ≡ h v) (λ m k. i m k ≡ j m k) x → act_statement g i x ≡ act_statement h j x
+act_statement_agree x g h i j u = map_statement_agree x (λ l. act g i) (λ l. act h j) (λ l. MentionsOnly (λ v. g v ≡ h v) (λ m k. i m k ≡ j m k)) zero (λ l e p. act_agree e g h i j p) u
 
 pub act_statement_nothing : (x : Statement) → act_statement free no_bodies x ≡ x
 act_statement_nothing x =

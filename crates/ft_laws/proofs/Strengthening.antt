@@ -7,7 +7,7 @@ use Rattle.ft_theory.specs.Steps.{Sequent, sequent, sequents, Step, variable, me
 use Rattle.ft_theory.specs.Derivability.{Der, Finitary, RuleHolds}
 use Rattle.ft_laws.specs.Counterexamples.{NoStrengthening}
 use Rattle.ft_laws.proofs.Induction.{AllOf, induct}
-use Rattle.ft_laws.proofs.Fresh.{some_path}
+use Rattle.ft_laws.proofs.Fresh.{Some_injective}
 use Rattle.ft_laws.proofs.Steps.{do_variable, do_for_types}
 use Rattle.ft_laws.proofs.Rules.{nothing}
 use Rattle.ft_laws.proofs.Products.{by_step, by_rule}
@@ -73,10 +73,10 @@ abbrev SeparateIn : Sequent → Type 0
 SeparateIn c = c.metavariables ≡ [] → c.variables ≡ [] → Separate c.statement
 
 each_rule : (r : ℕ) (R : Rule) → rule_at absurd_theory r ≡ Some R → (type_rule ≡ R) ⊎ (absurd_rule ≡ R)
-each_rule zero R q = inl (some_path type_rule R q)
-each_rule (suc zero) R q = inl (some_path type_rule R q)
-each_rule (suc (suc zero)) R q = inl (some_path type_rule R q)
-each_rule (suc (suc (suc zero))) R q = inr (some_path absurd_rule R q)
+each_rule zero R q = inl (Some_injective type_rule R q)
+each_rule (suc zero) R q = inl (Some_injective type_rule R q)
+each_rule (suc (suc zero)) R q = inl (Some_injective type_rule R q)
+each_rule (suc (suc (suc zero))) R q = inr (Some_injective absurd_rule R q)
 each_rule (suc (suc (suc (suc r)))) R q = nothing q
 
 of_symbol : (r : ℕ) (R : Rule) (a : Arguments) → IsObjectGoal R.conclusion → (type_rule ≡ R) ⊎ (absurd_rule ≡ R) → Separate (plain (fill_goal (conclusion_at R a) (symbol r a)))

@@ -10,7 +10,7 @@ use Rattle.ft_laws.proofs.Opens.{same}
 use Rattle.ft_laws.proofs.Steps.{do_variable}
 use Rattle.ft_laws.proofs.Scope.{scope, Fine, FineStatement}
 use Rattle.ft_laws.proofs.Peel.{peel, Peeled}
-use Rattle.ft_laws.proofs.Statements.{act-opened, act_statement_nothing, act_nothing_statement, stmt_mono, domain_count-opened}
+use Rattle.ft_laws.proofs.Statements.{act-opened, act_statement_nothing, act_nothing_statement, AllOfStatement_mono, domain_count-opened}
 use Rattle.ft_laws.proofs.Commute.{ScopedTheory}
 use Rattle.ft_laws.proofs.Traverse.{Grows, Grows_refl, Maps, send, send_without_statement, absent_without, Maps_under, traverse}
 
@@ -68,7 +68,7 @@ substitute T sc M G A t y p q =
     let m : Maps T M ((v, A) ∷ G) M G s no_bodies =
     Maps_under T M G M G G free no_bodies v A t id u.absent u.unmentioned f.0 (Grows_refl G) ct
     (λ L g r. subst (λ D. Prim T M L (plain (has_type t D))) (sym AA) (weaken T sc M M G L (plain (has_type t A)) (λ m b q. q) g q)) in
-    let wy : AllOfStatement (λ l. Without v) (suc zero) y = stmt_mono y (Fine M G) (λ l. Without v) (suc zero) (λ l e h. absent_without M G v l e u.absent h) f.1 in
+    let wy : AllOfStatement (λ l. Without v) (suc zero) y = AllOfStatement_mono y (Fine M G) (λ l. Without v) (suc zero) (λ l e h. absent_without M G v l e u.absent h) f.1 in
     let path : act_statement s no_bodies (opened (free v) (abstracted A y)) ≡ opened t (abstracted A y) =
     act-opened (abstracted A y) s no_bodies (free v) m.closed tt (subst (ClosedAt zero) (sym sv) ct)
     ∙ ap (λ t. opened t (act_statement s no_bodies (abstracted A y))) sv

@@ -3,9 +3,9 @@ use Rattle.std.proofs.Common.{◌≡◌, ◌≢◌, ℕ, Option, Some, None, ref
 use mathlib.Core.Path.{fun_ext}
 use Rattle.ft_theory.specs.Expressions.{Expression, free, act, substitute, in_place_of, MentionsOnly, open_at, ClosedAt}
 use Rattle.ft_laws.specs.Syntax.{PutsClosed, SubstitutionAfterSubstitution, SubstitutionOfAbsent, OpenIsSubstitution, instance_after, InstanceOfInstance, IsObjectPremise, InstanceOfRuleInstance}
-use Rattle.ft_laws.proofs.Acts.{IsClosedMap, act-act, after, after_at, no_bodies, act_agree, act_nothing, Uses_mono}
+use Rattle.ft_laws.proofs.Acts.{IsClosedMap, act-act, after, after_at, no_bodies, act_agree, act_nothing, MentionsOnly_mono}
 use Rattle.ft_laws.proofs.Opens.{same, other, by_test, act-open}
-use Rattle.ft_laws.proofs.Statements.{stmt_mono}
+use Rattle.ft_laws.proofs.Statements.{AllOfStatement_mono}
 use Rattle.ft_laws.proofs.Commute.{Covered, boundary-act}
 use Rattle.ft_laws.proofs.Instances.{closed_map}
 use Rattle.ft_laws.proofs.Finitary.{look_covered}
@@ -19,7 +19,7 @@ substitution_after_substitution s t e c = act-act e s t no_bodies no_bodies (clo
 
 pub substitution_of_absent : SubstitutionOfAbsent
 substitution_of_absent v t e w =
-    act_agree e (in_place_of v t) free no_bodies no_bodies (Uses_mono e (λ u. u ≢ v) (λ u. in_place_of v t u ≡ free u) (λ m k. Unit {0}) (λ m k. no_bodies m k ≡ no_bodies m k) (λ u n. other u v t (free u) n) (λ m k h. refl) w)
+    act_agree e (in_place_of v t) free no_bodies no_bodies (MentionsOnly_mono e (λ u. u ≢ v) (λ u. in_place_of v t u ≡ free u) (λ m k. Unit {0}) (λ m k. no_bodies m k ≡ no_bodies m k) (λ u n. other u v t (free u) n) (λ m k h. refl) w)
     ∙ act_nothing e
 
 pub open_is_substitution : OpenIsSubstitution
@@ -52,5 +52,5 @@ instance_of_instance i j e c =
 pub instance_of_rule_instance : InstanceOfRuleInstance
 instance_of_rule_instance i ps a b c f u =
     boundary-act ps b a free i (closed_map i c) f
-    (stmt_mono b (λ l. MentionsOnly (λ v. ⊥) (IsObjectPremise ps)) (λ l. MentionsOnly (λ v. ⊥) (Covered ps)) 0
-    (λ l e. Uses_mono e (λ v. ⊥) (λ v. ⊥) (IsObjectPremise ps) (Covered ps) (λ v h. h) (λ m k h. look_covered ps m k h.0 h.1 h.2 h.3)) u)
+    (AllOfStatement_mono b (λ l. MentionsOnly (λ v. ⊥) (IsObjectPremise ps)) (λ l. MentionsOnly (λ v. ⊥) (Covered ps)) 0
+    (λ l e. MentionsOnly_mono e (λ v. ⊥) (λ v. ⊥) (IsObjectPremise ps) (Covered ps) (λ v h. h) (λ m k h. look_covered ps m k h.0 h.1 h.2 h.3)) u)

@@ -6,12 +6,12 @@ use Rattle.ft_theory.specs.Rules.{look_up, Rule, instance_of, FitsPremises, fill
 use Rattle.ft_theory.specs.Steps.{Sequent, sequent, sequents, IsVariableFree, Unmentioned, Step, variable, metavariable, metavariable_equation, metavariable_congruence, abstraction, reflexive_type, reflexive_term, symmetric_types, symmetric_terms, transitive_types, transitive_terms, convert_term, convert_equation, for_type, for_term, for_types, for_terms, symbol_rule, equation_rule, congruence, Tree, Trees, node, none, more, Prim}
 use Rattle.ft_laws.specs.Instances.{statement_at}
 use Rattle.ft_laws.proofs.Induction.{AllOf, induct}
-use Rattle.ft_laws.proofs.Acts.{IsClosedMap, act_agree, Uses_mono, count-act}
+use Rattle.ft_laws.proofs.Acts.{IsClosedMap, act_agree, MentionsOnly_mono, count-act}
 use Rattle.ft_laws.proofs.Opens.{same, other, by_test}
 use Rattle.ft_laws.proofs.Steps.{do_reflexive_type, do_reflexive_term, do_symmetric_types, do_symmetric_terms, do_transitive_types, do_transitive_terms, do_convert_term, do_convert_equation, do_for_type, do_for_term, do_for_types, do_for_terms, do_variable}
-use Rattle.ft_laws.proofs.Fresh.{limit_of_statement, limit_of_variables, above_statement, fresh_absent, fresh_unmentioned, some_path}
-use Rattle.ft_laws.proofs.Scope.{scope, Fine, FineStatement, FineTerms, InVars, InMets, Fine-term_typings, Fine-close}
-use Rattle.ft_laws.proofs.Statements.{act-opened, opened-closed, closed-opened, stmt_mono, fill_goal-map, equate_goal-map, map_statement_agree}
+use Rattle.ft_laws.proofs.Fresh.{limit_of_statement, limit_of_variables, above_statement, fresh_absent, fresh_unmentioned, Some_injective}
+use Rattle.ft_laws.proofs.Scope.{scope, Fine, FineStatement, FineTerms, InVariables, InMetavariables, Fine-term_typings, Fine-close}
+use Rattle.ft_laws.proofs.Statements.{act-opened, opened-closed, closed-opened, AllOfStatement_mono, fill_goal-map, equate_goal-map, map_statement_agree}
 use Rattle.ft_laws.proofs.Commute.{acts, act-fill, act-equate, act-at, term_typings-act, term_equations-act, ScopedTheory, ScopedRule, conclusion-act, filled_premises-act, equated_premises-act, FitsPremises-act, variable_free-act}
 
 -- the second map has all that the first has
@@ -37,14 +37,14 @@ abbrev pub send : (ℕ → Expression) → ℕ → Expression → ℕ → Expres
 send g v t u = cond (nat_eq u v) t (g u)
 
 pub send_without : (e : Expression) (g : ℕ → Expression) (i : ℕ → ℕ → Option Expression) (v : ℕ) (t : Expression) → Without v e → act (send g v t) i e ≡ act g i e
-send_without e g i v t w = act_agree e (send g v t) g i i (Uses_mono e (λ u. u ≢ v) (λ u. send g v t u ≡ g u) (λ m k. Unit {0}) (λ m k. i m k ≡ i m k) (λ u n. other u v t (g u) n) (λ m k h. refl) w)
+send_without e g i v t w = act_agree e (send g v t) g i i (MentionsOnly_mono e (λ u. u ≢ v) (λ u. send g v t u ≡ g u) (λ m k. Unit {0}) (λ m k. i m k ≡ i m k) (λ u n. other u v t (g u) n) (λ m k h. refl) w)
 
 pub send_without_statement : (x : Statement) (g : ℕ → Expression) (i : ℕ → ℕ → Option Expression) (v : ℕ) (t : Expression) (k : ℕ) → AllOfStatement (λ l. Without v) k x → map_statement (λ l. act (send g v t) i) k x ≡ map_statement (λ l. act g i) k x
 send_without_statement x g i v t k w = map_statement_agree x (λ l. act (send g v t) i) (λ l. act g i) (λ l. Without v) k (λ l e h. send_without e g i v t h) w
 
 -- what is scoped over G does not mention what G lacks
 pub absent_without : (M : List (ℕ × Statement)) (G : List (ℕ × Expression)) (v : ℕ) (k : ℕ) (e : Expression) → look_up G v ≡ None → Fine M G k e → Without v e
-absent_without M G v k e n f = Uses_mono e (InVars G) (λ u. u ≢ v) (InMets M) (λ m k. Unit {0}) (λ u h q. clash (sym n ∙ ap (look_up G) (sym q) ∙ h.1)) (λ m k h. tt) f.1
+absent_without M G v k e n f = MentionsOnly_mono e (InVariables G) (λ u. u ≢ v) (InMetavariables M) (λ m k. Unit {0}) (λ u h q. clash (sym n ∙ ap (look_up G) (sym q) ∙ h.1)) (λ m k h. tt) f.1
   where
     clash : {A : Expression} → None ≡ Some A → ⊥
     clash e = cc
@@ -70,7 +70,7 @@ Maps_under T M G N H K g i v A t m n u f s c h = record {
   closed = send_closed g i v t m.closed c;
   frees = λ w B q L s' p. by_test (Prim T N L (plain (has_type (send g v t w) (act (send g v t) i B)))) w v
       (λ e.
-      let AB : A ≡ B = some_path A B (sym (same w v (Some A) (look_up G w) e) ∙ q) in
+      let AB : A ≡ B = Some_injective A B (sym (same w v (Some A) (look_up G w) e) ∙ q) in
       let Ae : act (send g v t) i B ≡ act g i A = ap (act (send g v t) i) (sym AB) ∙ send_without A g i v t (absent_without M G v zero A n f) in
       subst₂ (λ z D. Prim T N L (plain (has_type z D))) (sym (same w v t (g w) e)) (sym Ae)
       (h L s' (subst (λ D. Prim T N L (plain (is_type D))) Ae p)))
@@ -151,8 +151,8 @@ abstraction-act M G g i v t A x m ct n f =
     let y : Statement = close_statement v x in
     let sv : s v ≡ t = same v v t (g v) refl in
     let fy : AllOfStatement (Fine M G) (suc zero) y = Fine-close M G v A x f in
-    let wy : AllOfStatement (λ l. Without v) (suc zero) y = stmt_mono y (Fine M G) (λ l. Without v) (suc zero) (λ l e h. absent_without M G v l e n h) fy in
-    let cx : ClosedStatement zero x = stmt_mono x (Fine M ((v, A) ∷ G)) (λ l. ClosedAt l) zero (λ l e h. h.0) f in
+    let wy : AllOfStatement (λ l. Without v) (suc zero) y = AllOfStatement_mono y (Fine M G) (λ l. Without v) (suc zero) (λ l e h. absent_without M G v l e n h) fy in
+    let cx : ClosedStatement zero x = AllOfStatement_mono x (Fine M ((v, A) ∷ G)) (λ l. ClosedAt l) zero (λ l e h. h.0) f in
     ap (act_statement s i) (sym (opened-closed x A v cx))
     ∙ act-opened (abstracted A y) s i (free v) (send_closed g i v t m ct) tt (subst (ClosedAt zero) (sym sv) ct)
     ∙ ap (λ t. opened t (act_statement s i (abstracted A y))) sv

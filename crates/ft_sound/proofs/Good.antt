@@ -6,7 +6,7 @@ use Rattle.ft_theory.specs.Rules.{look_up, Rule, rule_at}
 use Rattle.ft_theory.specs.Steps.{Prim}
 use Rattle.ft_theory.specs.Derivability.{DerUpTo, PremisesHold, RuleHolds, FinitaryAfter, FinitaryUpTo}
 use Rattle.ft_laws.proofs.Opens.{same, other, by_test}
-use Rattle.ft_laws.proofs.Fresh.{some_path}
+use Rattle.ft_laws.proofs.Fresh.{Some_injective}
 use Rattle.ft_laws.proofs.Rules.{nothing, look_before}
 use Rattle.ft_laws.proofs.Commute.{ScopedTheory}
 use Rattle.ft_laws.proofs.Finitary.{scoped}
@@ -35,7 +35,7 @@ unless_none false why next e = nothing (sym e)
 
 -- the last of a list
 pub nth_last : {A : Type 0} (xs : List A) (y : A) (n : ℕ) (x : A) → nth (xs ++ (y ∷ [])) n ≡ Some x → (nth xs n ≡ Some x) ⊎ ((n ≡ length xs) × (y ≡ x))
-nth_last [] y zero x e = inr (refl, some_path y x e)
+nth_last [] y zero x e = inr (refl, Some_injective y x e)
 nth_last [] y (suc n) x e = nothing e
 nth_last (z ∷ xs) y zero x e = inl e
 nth_last (z ∷ xs) y (suc n) x e = next (nth_last xs y n x e)
@@ -51,7 +51,7 @@ nth_below (y ∷ xs) (suc n) x e = let h : n < length xs = nth_below xs n x e in
 
 pub look_last : {A : Type 0} (xs : List (ℕ × A)) (v : ℕ) (a : A) (u : ℕ) (d : A) → look_up (xs ++ ((v, a) ∷ [])) u ≡ Some d → (look_up xs u ≡ Some d) ⊎ ((u ≡ v) × (a ≡ d))
 look_last {A} [] v a u d e = by_test ((look_up {A = A} [] u ≡ Some d) ⊎ ((u ≡ v) × (a ≡ d))) u v
-    (λ f. inr (f, some_path a d (sym (same u v (Some a) None f) ∙ e)))
+    (λ f. inr (f, Some_injective a d (sym (same u v (Some a) None f) ∙ e)))
     (λ n. nothing (sym (other u v (Some a) None n) ∙ e))
 look_last {A} (p ∷ xs) v a u d e = by_test ((look_up (p ∷ xs) u ≡ Some d) ⊎ ((u ≡ v) × (a ≡ d))) u p.0
     (λ f. inl (same u p.0 (Some p.1) (look_up xs u) f ∙ sym (same u p.0 (Some p.1) (look_up (xs ++ ((v, a) ∷ [])) u) f) ∙ e))

@@ -7,9 +7,9 @@ use Rattle.ft_theory.specs.Rules.{look_up, Rule, rule_at, instance_of, FitsPremi
 use Rattle.ft_theory.specs.Steps.{sequent, sequents, Step, Trees, none, more, Prim}
 use Rattle.ft_theory.specs.WideSteps.{Member, here, there, argument_in_type, argument_in_term, term_in_type, term_in_term, natural_variable, natural_symbol, natural_metavariable}
 use Rattle.ft_laws.proofs.Opens.{same, other, by_test}
-use Rattle.ft_laws.proofs.Fresh.{some_path}
+use Rattle.ft_laws.proofs.Fresh.{Some_injective}
 use Rattle.ft_laws.proofs.Rules.{nothing, whole_instance}
-use Rattle.ft_laws.proofs.Scope.{scope, InVars, InMets}
+use Rattle.ft_laws.proofs.Scope.{scope, InVariables, InMetavariables}
 use Rattle.ft_laws.proofs.Substitute.{weaken}
 use Rattle.ft_laws.proofs.Instances.{instantiate}
 use Rattle.ft_laws.proofs.Admissible.{admissible}
@@ -31,11 +31,11 @@ module _ (W : Store) (F : WellFormed W) where
     where
       at_place : (xs : List Statement) (i : ℕ) (y : Statement) → nth xs i ≡ Some y → Member y xs
       at_place [] i y e = nothing e
-      at_place (x ∷ xs) zero y e = subst (λ z. Member z (x ∷ xs)) (some_path x y e) (here x xs)
+      at_place (x ∷ xs) zero y e = subst (λ z. Member z (x ∷ xs)) (Some_injective x y e) (here x xs)
       at_place (x ∷ xs) (suc i) y e = there y x xs (at_place xs i y e)
 
   -- a metavariable that is derived with is declared, in the set
-  declared_meta : (S : List Atom) (m : ℕ) (d : Declared) → nth W.metavariables m ≡ Some d → (k : ℕ) → InMets (boundaries_in W S) m k → look_up (boundaries_in W S) m ≡ Some d.boundary
+  declared_meta : (S : List Atom) (m : ℕ) (d : Declared) → nth W.metavariables m ≡ Some d → (k : ℕ) → InMetavariables (boundaries_in W S) m k → look_up (boundaries_in W S) m ≡ Some d.boundary
   declared_meta S m d q k i = let h : MetIn W S m i.0 = look_mets W S m i.0 i.1 in mets_look W S m d h.1 q
 
   type_members : (S : List Atom) (e : Expression) (i : ℕ) (y : Statement) → row.from_one (row.arguments_of W e) i ≡ Some y → Derivable W (plain (is_type e)) S → Derivable W y S
@@ -99,7 +99,7 @@ module _ (W : Store) (F : WellFormed W) where
 
   -- the natural type
   boundary_type : (x : Statement) (N : Expression) → row.type_of_boundary x ≡ Some N → x ≡ plain (term_goal N)
-  boundary_type (plain (term_goal A)) N e = ap (λ B. plain (term_goal B)) (some_path A N e)
+  boundary_type (plain (term_goal A)) N e = ap (λ B. plain (term_goal B)) (Some_injective A N e)
   boundary_type x N e = nothing e
 
   abbrev claim_of : Statement → Claim
@@ -113,7 +113,7 @@ module _ (W : Store) (F : WellFormed W) where
       go : (o : Option Annotation) → look_up W.variables v ≡ o → option_map (λ (d : Annotation). d.annotation) o ≡ Some N → Derivable W (plain (equal_types N A)) S
       go None q e = nothing e
       go (Some d) q e =
-          let i : InVars (annotations_in W S) v = (scope W.rules (sequent (boundaries_in W S) (annotations_in W S) (plain (has_type (free v) A))) p).0.1 in
+          let i : InVariables (annotations_in W S) v = (scope W.rules (sequent (boundaries_in W S) (annotations_in W S) (plain (has_type (free v) A))) p).0.1 in
           let h : VarIn W S v i.0 = look_vars W S v i.0 i.1 in
           admissible W.rules (sound_rules W F) 7 (sequent (boundaries_in W S) (annotations_in W S) (plain (has_type (free v) A)) ∷ []) (sequent (boundaries_in W S) (annotations_in W S) (plain (equal_types N A)))
           (natural_variable v N A (vars_look W S v d h.1 q ∙ e)) (more p none)
@@ -135,7 +135,7 @@ module _ (W : Store) (F : WellFormed W) where
     where
       go : (o : Option Expression) → row.natural_type W t ≡ o → option_map (λ N. plain (equal_types N A)) o ≡ Some y → Derivable W y S
       go None q e = nothing e
-      go (Some N) q e = subst (λ z. Derivable W z S) (some_path (plain (equal_types N A)) y e) (natural_is S t A N q p)
+      go (Some N) q e = subst (λ z. Derivable W z S) (Some_injective (plain (equal_types N A)) y e) (natural_is S t A N q p)
   do_natural x y S e p = nothing e
 
   -- metavariables that are declared, with their numbers
@@ -147,7 +147,7 @@ module _ (W : Store) (F : WellFormed W) where
   pub premises_look : (ms : List (ℕ × Declared)) → AllDeclared ms → (m : ℕ) (d : Declared) → nth W.metavariables m ≡ Some d → Has (met m) (row.atoms ms) → look_up (premises_of ms) m ≡ Some d.boundary
   premises_look [] ds m d q k = absurd k
   premises_look (c ∷ ms) ds m d q k = by_test (look_up (premises_of (c ∷ ms)) m ≡ Some d.boundary) m c.0
-      (λ f. same m c.0 (Some c.1.boundary) (look_up (premises_of ms) m) f ∙ ap (λ (x : Declared). Some x.boundary) (some_path c.1 d (sym ds.0 ∙ ap (nth W.metavariables) (sym f) ∙ q)))
+      (λ f. same m c.0 (Some c.1.boundary) (look_up (premises_of ms) m) f ∙ ap (λ (x : Declared). Some x.boundary) (Some_injective c.1 d (sym ds.0 ∙ ap (nth W.metavariables) (sym f) ∙ q)))
       (λ n. other m c.0 (Some c.1.boundary) (look_up (premises_of ms) m) n ∙ premises_look ms ds.1 m d q (later n k))
     where
       later : m ≢ c.0 → (met m ≡ met c.0) ⊎ Has (met m) (row.atoms ms) → Has (met m) (row.atoms ms)

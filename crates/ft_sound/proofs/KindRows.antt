@@ -7,10 +7,10 @@ use Rattle.ft_theory.specs.Statements.{Claim, is_type, has_type, equal_types, eq
 use Rattle.ft_theory.specs.Rules.{Rule, rule_at, instance_of, filled_premises, term_typings, conclusion_at}
 use Rattle.ft_theory.specs.Steps.{Prim}
 use Rattle.ft_theory.specs.Derivability.{PremisesHold}
-use Rattle.ft_laws.proofs.Fresh.{some_path}
+use Rattle.ft_laws.proofs.Fresh.{Some_injective}
 use Rattle.ft_laws.proofs.Rules.{nothing}
 use Rattle.ft_laws.proofs.Finitary.{premise_at}
-use Rattle.ft_laws.proofs.Statements.{object_core-map}
+use Rattle.ft_laws.proofs.Statements.{object_goal-map}
 use Rattle.ft_items.specs.Equal.{equal_expressions, equal_statements, is_thesis_claim, is_thesis, is_object_goal, is_object, has_head, head, fits, heads, start_all, right_heads, typed, terms, paired, left_terms, right_terms}
 use Rattle.ft_items.specs.Item.{by_var, by_generic, by_meta, by_metacong, by_abs, by_subst, by_substeq, by_refl, by_sym, by_trans, by_conv, by_conveq, by_left, by_right, by_typeof, by_domain, by_boundary, by_widen, by_btype, by_bterm, by_beqty, by_beqtm, by_rule, by_rulewith, by_inst, by_cong, by_convprem, by_convback, by_arg, by_natural, by_metainst}
 use Rattle.ft_items.specs.Store.{Declared, Store, nth, Resolved, premises_of}
@@ -115,8 +115,8 @@ equal_substitution_kind (abstracted A x) (plain (equal_terms s t B)) y e =
 equal_substitution_kind x z y e = nothing e
 
 symmetry_kind : (x y : Statement) → row.symmetry x ≡ Some y → Thesis y
-symmetry_kind (plain (equal_types A B)) y e = subst Thesis (some_path (plain (equal_types B A)) y e) refl
-symmetry_kind (plain (equal_terms s t A)) y e = subst Thesis (some_path (plain (equal_terms t s A)) y e) refl
+symmetry_kind (plain (equal_types A B)) y e = subst Thesis (Some_injective (plain (equal_types B A)) y e) refl
+symmetry_kind (plain (equal_terms s t A)) y e = subst Thesis (Some_injective (plain (equal_terms t s A)) y e) refl
 symmetry_kind x y e = nothing e
 
 transitivity_kind : (x z y : Statement) → row.transitivity x z ≡ Some y → Thesis y
@@ -133,24 +133,24 @@ equation_conversion_kind (plain (equal_terms s t A)) (plain (equal_types B C)) y
 equation_conversion_kind x z y e = nothing e
 
 left_kind : (c d : Claim) → row.left_side c ≡ Some d → is_thesis_claim d ≡ true
-left_kind (equal_types A B) d e = subst (λ z. is_thesis_claim z ≡ true) (some_path (is_type A) d e) refl
-left_kind (equal_terms s t A) d e = subst (λ z. is_thesis_claim z ≡ true) (some_path (has_type s A) d e) refl
-left_kind (type_equation_goal A B) d e = subst (λ z. is_thesis_claim z ≡ true) (some_path (is_type A) d e) refl
-left_kind (term_equation_goal s t A) d e = subst (λ z. is_thesis_claim z ≡ true) (some_path (has_type s A) d e) refl
+left_kind (equal_types A B) d e = subst (λ z. is_thesis_claim z ≡ true) (Some_injective (is_type A) d e) refl
+left_kind (equal_terms s t A) d e = subst (λ z. is_thesis_claim z ≡ true) (Some_injective (has_type s A) d e) refl
+left_kind (type_equation_goal A B) d e = subst (λ z. is_thesis_claim z ≡ true) (Some_injective (is_type A) d e) refl
+left_kind (term_equation_goal s t A) d e = subst (λ z. is_thesis_claim z ≡ true) (Some_injective (has_type s A) d e) refl
 left_kind c d e = nothing e
 
 right_kind : (c d : Claim) → row.right_side c ≡ Some d → is_thesis_claim d ≡ true
-right_kind (equal_types A B) d e = subst (λ z. is_thesis_claim z ≡ true) (some_path (is_type B) d e) refl
-right_kind (equal_terms s t A) d e = subst (λ z. is_thesis_claim z ≡ true) (some_path (has_type t A) d e) refl
-right_kind (type_equation_goal A B) d e = subst (λ z. is_thesis_claim z ≡ true) (some_path (is_type B) d e) refl
-right_kind (term_equation_goal s t A) d e = subst (λ z. is_thesis_claim z ≡ true) (some_path (has_type t A) d e) refl
+right_kind (equal_types A B) d e = subst (λ z. is_thesis_claim z ≡ true) (Some_injective (is_type B) d e) refl
+right_kind (equal_terms s t A) d e = subst (λ z. is_thesis_claim z ≡ true) (Some_injective (has_type t A) d e) refl
+right_kind (type_equation_goal A B) d e = subst (λ z. is_thesis_claim z ≡ true) (Some_injective (is_type B) d e) refl
+right_kind (term_equation_goal s t A) d e = subst (λ z. is_thesis_claim z ≡ true) (Some_injective (has_type t A) d e) refl
 right_kind c d e = nothing e
 
 type_kind : (c d : Claim) → row.type_part c ≡ Some d → is_thesis_claim d ≡ true
-type_kind (has_type t A) d e = subst (λ z. is_thesis_claim z ≡ true) (some_path (is_type A) d e) refl
-type_kind (equal_terms s t A) d e = subst (λ z. is_thesis_claim z ≡ true) (some_path (is_type A) d e) refl
-type_kind (term_goal A) d e = subst (λ z. is_thesis_claim z ≡ true) (some_path (is_type A) d e) refl
-type_kind (term_equation_goal s t A) d e = subst (λ z. is_thesis_claim z ≡ true) (some_path (is_type A) d e) refl
+type_kind (has_type t A) d e = subst (λ z. is_thesis_claim z ≡ true) (Some_injective (is_type A) d e) refl
+type_kind (equal_terms s t A) d e = subst (λ z. is_thesis_claim z ≡ true) (Some_injective (is_type A) d e) refl
+type_kind (term_goal A) d e = subst (λ z. is_thesis_claim z ≡ true) (Some_injective (is_type A) d e) refl
+type_kind (term_equation_goal s t A) d e = subst (λ z. is_thesis_claim z ≡ true) (Some_injective (is_type A) d e) refl
 type_kind c d e = nothing e
 
 under_kind : (f : Claim → Option Claim) → ((c d : Claim) → f c ≡ Some d → is_thesis_claim d ≡ true) → (x y : Statement) → row.under_domains f x ≡ Some y → Thesis y
@@ -158,23 +158,23 @@ under_kind f h (plain c) y e = go (f c) refl e
   where
     go : (o : Option Claim) → f c ≡ o → option_map plain o ≡ Some y → Thesis y
     go None q e = nothing e
-    go (Some d) q e = subst Thesis (some_path (plain d) y e) (h c d q)
+    go (Some d) q e = subst Thesis (Some_injective (plain d) y e) (h c d q)
 under_kind f h (abstracted A x) y e = go (row.under_domains f x) refl e (under_kind f h x)
   where
     go : (o : Option Statement) → row.under_domains f x ≡ o → option_map (abstracted A) o ≡ Some y → ((z : Statement) → row.under_domains f x ≡ Some z → Thesis z) → Thesis y
     go None q e ih = nothing e
-    go (Some z) q e ih = subst Thesis (some_path (abstracted A z) y e) (ih z q)
+    go (Some z) q e ih = subst Thesis (Some_injective (abstracted A z) y e) (ih z q)
 
 domain_kind : (x y : Statement) → row.first_domain x ≡ Some y → Thesis y
 domain_kind (plain c) y e = nothing e
-domain_kind (abstracted A x) y e = subst Thesis (some_path (plain (is_type A)) y e) refl
+domain_kind (abstracted A x) y e = subst Thesis (Some_injective (plain (is_type A)) y e) refl
 
 term_boundary_kind : (x y : Statement) → row.term_boundary x ≡ Some y → is_thesis y ≡ false
-term_boundary_kind (plain (is_type A)) y e = subst (λ z. is_thesis z ≡ false) (some_path (plain (term_goal A)) y e) refl
+term_boundary_kind (plain (is_type A)) y e = subst (λ z. is_thesis z ≡ false) (Some_injective (plain (term_goal A)) y e) refl
 term_boundary_kind x y e = nothing e
 
 type_equation_boundary_kind : (x z y : Statement) → row.type_equation_boundary x z ≡ Some y → is_thesis y ≡ false
-type_equation_boundary_kind (plain (is_type A)) (plain (is_type B)) y e = subst (λ z. is_thesis z ≡ false) (some_path (plain (type_equation_goal A B)) y e) refl
+type_equation_boundary_kind (plain (is_type A)) (plain (is_type B)) y e = subst (λ z. is_thesis z ≡ false) (Some_injective (plain (type_equation_goal A B)) y e) refl
 type_equation_boundary_kind x z y e = nothing e
 
 term_equation_boundary_kind : (x u v y : Statement) → row.term_equation_boundary x u v ≡ Some y → is_thesis y ≡ false
@@ -198,7 +198,7 @@ typings_kind (also t a) x = (refl, typings_kind a (opened t x))
 
 place_kind : (xs : List Statement) (i : ℕ) (y : Statement) → AllTheses xs → nth xs i ≡ Some y → Thesis y
 place_kind [] i y h e = nothing e
-place_kind (x ∷ xs) zero y h e = subst Thesis (some_path x y e) h.0
+place_kind (x ∷ xs) zero y h e = subst Thesis (Some_injective x y e) h.0
 place_kind (x ∷ xs) (suc i) y h e = place_kind xs i y h.1 e
 
 from_one_kind : (xs : List Statement) (i : ℕ) (y : Statement) → AllTheses xs → row.from_one xs i ≡ Some y → Thesis y
@@ -229,7 +229,7 @@ natural_kind W (plain (has_type t A)) y e = go (row.natural_type W t) e
   where
     go : (o : Option Expression) → option_map (λ N. plain (equal_types N A)) o ≡ Some y → Thesis y
     go None e = nothing e
-    go (Some N) e = subst Thesis (some_path (plain (equal_types N A)) y e) refl
+    go (Some N) e = subst Thesis (Some_injective (plain (equal_types N A)) y e) refl
 natural_kind W x y e = nothing e
 
 moved_kind : (ps : List (ℕ × Statement)) (a c : Arguments) (later : List (ℕ × Statement)) (x y : Statement) → row.moved ps a c later x ≡ Some y → Thesis y
@@ -251,8 +251,8 @@ instance_kind W F r R q xs y e = from_when (λ z. is_thesis z ≡ false) (row.ar
         ∙ statement_boundary n.1 (premise_at (λ M x. Prim W.rules M [] x) [] ps n later (subst (PremisesHold (λ M x. Prim W.rules M [] x) []) (sym w) (sound_rules W F r R q).0)).0
 
 pub conclusion_kind : (W : Store) (F : WellFormed W) (s : Resolved) → Parts W F s → of_kind s ≡ true → (y : Statement) → conclusion W s ≡ Some y → is_thesis y ≡ concludes_thesis s
-conclusion_kind W F (by_var v) h k y e = subst Thesis (some_path (plain (has_type (free v.0) v.1.annotation)) y e) refl
-conclusion_kind W F (by_generic m) h k y e = subst Thesis (some_path (fill m.1.boundary (meta m.0 (bounds (domain_count m.1.boundary)))) y e) (fill_kind m.1.boundary (meta m.0 (bounds (domain_count m.1.boundary))))
+conclusion_kind W F (by_var v) h k y e = subst Thesis (Some_injective (plain (has_type (free v.0) v.1.annotation)) y e) refl
+conclusion_kind W F (by_generic m) h k y e = subst Thesis (Some_injective (fill m.1.boundary (meta m.0 (bounds (domain_count m.1.boundary)))) y e) (fill_kind m.1.boundary (meta m.0 (bounds (domain_count m.1.boundary))))
 conclusion_kind W F (by_meta m ps) h k y e = from_when Thesis (typed m.1.boundary (statements ps)) (fill (at m.1.boundary (terms (statements ps))) (meta m.0 (terms (statements ps)))) y e (λ t. fill_kind (at m.1.boundary (terms (statements ps))) (meta m.0 (terms (statements ps))))
 conclusion_kind W F (by_metacong m es) h k y e =
     let b : Statement = m.1.boundary in
@@ -271,10 +271,10 @@ conclusion_kind W F (by_left p) h k y e = under_kind row.left_side left_kind p.s
 conclusion_kind W F (by_right p) h k y e = under_kind row.right_side right_kind p.statement y e
 conclusion_kind W F (by_typeof p) h k y e = under_kind row.type_part type_kind p.statement y e
 conclusion_kind W F (by_domain p) h k y e = domain_kind p.statement y e
-conclusion_kind W F (by_boundary p) h k y e = subst (λ z. is_thesis z ≡ false) (some_path (boundary_of p.statement) y e) (boundary_of_kind p.statement)
+conclusion_kind W F (by_boundary p) h k y e = subst (λ z. is_thesis z ≡ false) (Some_injective (boundary_of p.statement) y e) (boundary_of_kind p.statement)
 conclusion_kind W F (by_widen p q) h k y e =
-    subst Thesis (some_path p.statement y e) (both (is_thesis p.statement) (all_theses (q ∷ [])) (both (all_theses (p ∷ q ∷ [])) true k).0).0
-conclusion_kind W F by_btype h k y e = subst (λ z. is_thesis z ≡ false) (some_path (plain type_goal) y e) refl
+    subst Thesis (Some_injective p.statement y e) (both (is_thesis p.statement) (all_theses (q ∷ [])) (both (all_theses (p ∷ q ∷ [])) true k).0).0
+conclusion_kind W F by_btype h k y e = subst (λ z. is_thesis z ≡ false) (Some_injective (plain type_goal) y e) refl
 conclusion_kind W F (by_bterm p) h k y e = term_boundary_kind p.statement y e
 conclusion_kind W F (by_beqty p q) h k y e = type_equation_boundary_kind p.statement q.statement y e
 conclusion_kind W F (by_beqtm p s t) h k y e = term_equation_boundary_kind p.statement s.statement t.statement y e
@@ -286,7 +286,7 @@ conclusion_kind W F (by_cong r ps es) h k y e =
     let l : Expression = symbol r.0 (heads (statements ps)) in
     let s : Expression = symbol r.0 (right_heads (statements ps) (statements es)) in
     from_when Thesis ((is_object_goal r.1.conclusion && row.are_arguments r.1.premises (statements ps)) && start_all (statements ps) (statements es)) (plain (equate_goal c l s)) y e
-    (λ t. equate_claim_kind c l s (object_core-map r.1.conclusion (act free (instance_of r.1.premises (heads (statements ps))))
+    (λ t. equate_claim_kind c l s (object_goal-map r.1.conclusion (act free (instance_of r.1.premises (heads (statements ps))))
     (object_claim_true r.1.conclusion (both (is_object_goal r.1.conclusion) (row.are_arguments r.1.premises (statements ps)) (both (is_object_goal r.1.conclusion && row.are_arguments r.1.premises (statements ps)) (start_all (statements ps) (statements es)) t).0).0)))
 conclusion_kind W F (by_convprem r ps es q) h k y e = moved_kind (row.first_premises r.1 (statements ps)) (heads (statements ps)) (right_heads (statements ps) (statements es)) (row.later_premises r.1 (statements ps)) q.statement y
     (cond_kind (row.are_arguments (row.first_premises r.1 (statements ps)) (statements ps) && start_all (statements ps) (statements es)) (row.moved (row.first_premises r.1 (statements ps)) (heads (statements ps)) (right_heads (statements ps) (statements es)) (row.later_premises r.1 (statements ps)) q.statement) y e)

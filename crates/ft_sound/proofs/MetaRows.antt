@@ -7,7 +7,7 @@ use Rattle.ft_theory.specs.Rules.{look_up, Rule, term_typings, term_equations}
 use Rattle.ft_theory.specs.Steps.{sequent, sequents, IsVariableFree, Unmentioned, Step, metavariable, metavariable_equation, abstraction, Trees, node, none, more, Prim}
 use Rattle.ft_theory.specs.WideSteps.{metavariable_at_equal_terms}
 use Rattle.ft_laws.proofs.Opens.{same, other, by_test}
-use Rattle.ft_laws.proofs.Fresh.{some_path, fresh_absent}
+use Rattle.ft_laws.proofs.Fresh.{Some_injective, fresh_absent}
 use Rattle.ft_laws.proofs.Commute.{ScopedTheory}
 use Rattle.ft_laws.proofs.Scope.{scope, equation-at}
 use Rattle.ft_laws.proofs.Statements.{fill-map, fill_any, domain_count-opened}
@@ -191,7 +191,7 @@ module _ (W : Store) (F : WellFormed W) where
       rests u c k e j = go (has_union (var u) d.set (without (var v) S) k)
         where
           same_set_of : (R : List Atom) → Declares W (var u) R → c.set ≡ R
-          same_set_of R de = ap (λ (x : Annotation). x.set) (some_path c de.0 (sym e ∙ de.1)) ∙ de.2
+          same_set_of R de = ap (λ (x : Annotation). x.set) (Some_injective c de.0 (sym e ∙ de.1)) ∙ de.2
 
           go : Has (var u) d.set ⊎ Has (var u) (without (var v) S) → ⊥
           go (inl k) = let r : (R : List Atom) × Declares W (var u) R × Within R d.set = D.proper.closed (var u) k in self (r.2 (var v) (subst (Has (var v)) (same_set_of r.0 r.1) j))
@@ -226,7 +226,7 @@ module _ (W : Store) (F : WellFormed W) where
       vars u A e =
           let i : VarIn W S u A = look_vars W S u A e in
           by_test (look_up ((v, d.annotation) ∷ annotations_in W R) u ≡ Some A) u v
-          (λ f. same u v (Some d.annotation) (look_up (annotations_in W R) u) f ∙ ap (λ (c : Annotation). Some c.annotation) (some_path d i.0 (sym q ∙ ap (look_up W.variables) (sym f) ∙ i.2)) ∙ ap Some i.3)
+          (λ f. same u v (Some d.annotation) (look_up (annotations_in W R) u) f ∙ ap (λ (c : Annotation). Some c.annotation) (Some_injective d i.0 (sym q ∙ ap (look_up W.variables) (sym f) ∙ i.2)) ∙ ap Some i.3)
           (λ n. other u v (Some d.annotation) (look_up (annotations_in W R) u) n
           ∙ vars_look W R u i.0 (union_right (var u) d.set (without (var v) S) (without_has (var u) (var v) S i.1 (λ (f : var u ≡ var v). n (cc)))) i.2 ∙ ap Some i.3)
 

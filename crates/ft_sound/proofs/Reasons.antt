@@ -4,7 +4,7 @@ use Rattle.std.proofs.lemmas.Bool.{ltb-true, lt-ltb}
 use Rattle.std.specs.Prelude.{option_map, option_and_then}
 use Rattle.ft_theory.specs.Statements.{is_type, Statement, plain}
 use Rattle.ft_theory.specs.Steps.{Prim}
-use Rattle.ft_laws.proofs.Fresh.{some_path}
+use Rattle.ft_laws.proofs.Fresh.{Some_injective}
 use Rattle.ft_laws.proofs.Rules.{nothing}
 use Rattle.ft_items.specs.Sets.{Atom, is_within, same_set, metavariables_only}
 use Rattle.ft_items.specs.Equal.{equal_statements, is_thesis, is_plain}
@@ -69,7 +69,7 @@ allowed_states W e h = go (resolve W e.step) refl h
     concluded : (s : Resolved) → resolve W e.step ≡ Some s → of_kind s ≡ true → (o : Option Statement) → conclusion W s ≡ o → option_map (λ x. record { statement = x; set = result_set s }) o ≡ Some E → StatesWhatItsStepGives W e
     concluded s q k None c h = nothing h
     concluded s q k (Some x) c h =
-        let i : record { statement = x; set = result_set s } ≡ E = some_path (record { statement = x; set = result_set s }) E h in
+        let i : record { statement = x; set = result_set s } ≡ E = Some_injective (record { statement = x; set = result_set s }) E h in
         (s, q, k, c ∙ ap Some (ap statement_of i), ap set_of i)
 
     tested : (s : Resolved) → resolve W e.step ≡ Some s → (b : Bool) → of_kind s ≡ b → cond b (option_map (λ x. record { statement = x; set = result_set s }) (conclusion W s)) None ≡ Some E → StatesWhatItsStepGives W e

@@ -7,7 +7,7 @@ use Rattle.ft_theory.specs.Rules.{Rule, rule_at, instance_of, FitsPremises, fill
 use Rattle.ft_theory.specs.Steps.{sequent, sequents, Step, Tree, Trees, node, none, more, Prim}
 use Rattle.ft_theory.specs.WideSteps.{WideStep, next_boundary, conclusion_boundary, object_instance, equation_instance, equal_instances, convert_premise, convert_back}
 use Rattle.ft_laws.proofs.Rules.{nothing}
-use Rattle.ft_laws.proofs.Statements.{fill_core_any, equation_core-map}
+use Rattle.ft_laws.proofs.Statements.{fill_goal_any, equation_goal-map}
 use Rattle.ft_laws.proofs.Finitary.{Sound}
 use Rattle.ft_laws.proofs.Admissible.{admissible}
 use Rattle.ft_items.specs.Equal.{equal_statements, is_object_goal, fits, head, heads, start_all, right_heads}
@@ -41,7 +41,7 @@ module _ (T : List Rule) (so : Sound T) (M : List (ℕ × Statement)) (G : List 
       go : IsObjectGoal R.conclusion ⊎ IsEquationGoal R.conclusion → Prim T M G (plain (fill_goal (conclusion_at R (heads xs)) (symbol r (heads xs))))
       go (inl o) = admissible T so 5 (sequents M G (filled_premises (instance_of R.premises (heads xs)) R.premises (heads xs))) (sequent M G (plain (fill_goal (conclusion_at R (heads xs)) (symbol r (heads xs)))))
           (object_instance r R (heads xs) q (fits_for R.premises xs h) o) (trees_for R.premises xs h ts)
-      go (inr o) = subst (λ c. Prim T M G (plain c)) (fill_core_any (conclusion_at R (heads xs)) (bound zero) (symbol r (heads xs)) (equation_core-map R.conclusion (act free (instance_of R.premises (heads xs))) o))
+      go (inr o) = subst (λ c. Prim T M G (plain c)) (fill_goal_any (conclusion_at R (heads xs)) (bound zero) (symbol r (heads xs)) (equation_goal-map R.conclusion (act free (instance_of R.premises (heads xs))) o))
           (admissible T so 5 (sequents M G (filled_premises (instance_of R.premises (heads xs)) R.premises (heads xs))) (sequent M G (plain (fill_goal (conclusion_at R (heads xs)) (bound zero))))
           (equation_instance r R (heads xs) q (fits_for R.premises xs h) o) (trees_for R.premises xs h ts))
 

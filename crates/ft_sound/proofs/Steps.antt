@@ -4,7 +4,7 @@ use Rattle.std.specs.Prelude.{option_map, option_and_then}
 use Rattle.ft_theory.specs.Statements.{Statement, abstracted, close_statement}
 use Rattle.ft_theory.specs.Rules.{look_up, Rule, rule_at}
 use Rattle.ft_theory.specs.Steps.{sequents, Step, Trees, Prim}
-use Rattle.ft_laws.proofs.Fresh.{some_path}
+use Rattle.ft_laws.proofs.Fresh.{Some_injective}
 use Rattle.ft_laws.proofs.Rules.{nothing}
 use Rattle.ft_laws.proofs.Steps.{do_for_type}
 use Rattle.ft_items.specs.Sets.{Atom, union, unions, Within}
@@ -95,39 +95,39 @@ module _ (W : Store) (F : WellFormed W) where
     where
       go : (o : Option Annotation) → look_up W.variables v ≡ o → option_map (λ d. (v, d)) o ≡ Some a → IsVariable W a
       go None q e = nothing e
-      go (Some d) q e = subst (IsVariable W) (some_path (v, d) a e) q
+      go (Some d) q e = subst (IsVariable W) (Some_injective (v, d) a e) q
 
   is_metavariable : (m : ℕ) (a : ℕ × Declared) → metavariable_named W m ≡ Some a → IsMetavariable W a
   is_metavariable m a e = go (nth W.metavariables m) refl e
     where
       go : (o : Option Declared) → nth W.metavariables m ≡ o → option_map (λ d. (m, d)) o ≡ Some a → IsMetavariable W a
       go None q e = nothing e
-      go (Some d) q e = subst (IsMetavariable W) (some_path (m, d) a e) q
+      go (Some d) q e = subst (IsMetavariable W) (Some_injective (m, d) a e) q
 
   is_rule : (r : ℕ) (a : ℕ × Rule) → rule_of W r ≡ Some a → IsRule W a
   is_rule r a e = go (rule_at W.rules r) refl e
     where
       go : (o : Option Rule) → rule_at W.rules r ≡ o → option_map (λ R. (r, R)) o ≡ Some a → IsRule W a
       go None q e = nothing e
-      go (Some R) q e = subst (IsRule W) (some_path (r, R) a e) q
+      go (Some R) q e = subst (IsRule W) (Some_injective (r, R) a e) q
 
   all_valid : (ps : List ℕ) (as' : List Assertion) → each (entry_named W) ps ≡ Some as' → AllValid W as'
-  all_valid [] as' e = subst (AllValid W) (some_path [] as' e) tt
+  all_valid [] as' e = subst (AllValid W) (Some_injective [] as' e) tt
   all_valid (p ∷ ps) as' e = go (entry_named W p) refl (each (entry_named W) ps) e (all_valid ps)
     where
       go : (o : Option Assertion) → entry_named W p ≡ o → (os : Option (List Assertion)) → option_and_then (λ b. option_map (λ bs. b ∷ bs) os) o ≡ Some as' → ((bs : List Assertion) → os ≡ Some bs → AllValid W bs) → AllValid W as'
       go None q os e ih = nothing e
       go (Some a) q None e ih = nothing e
-      go (Some a) q (Some bs) e ih = subst (AllValid W) (some_path (a ∷ bs) as' e) (F.entries p a q, ih bs refl)
+      go (Some a) q (Some bs) e ih = subst (AllValid W) (Some_injective (a ∷ bs) as' e) (F.entries p a q, ih bs refl)
 
   pub all_declared : (ms : List ℕ) (ds : List (ℕ × Declared)) → each (metavariable_named W) ms ≡ Some ds → AllDeclared W F ds
-  all_declared [] ds e = subst (AllDeclared W F) (some_path [] ds e) tt
+  all_declared [] ds e = subst (AllDeclared W F) (Some_injective [] ds e) tt
   all_declared (m ∷ ms) ds e = go (metavariable_named W m) refl (each (metavariable_named W) ms) e (all_declared ms)
     where
       go : (o : Option (ℕ × Declared)) → metavariable_named W m ≡ o → (os : Option (List (ℕ × Declared))) → option_and_then (λ b. option_map (λ bs. b ∷ bs) os) o ≡ Some ds → ((bs : List (ℕ × Declared)) → os ≡ Some bs → AllDeclared W F bs) → AllDeclared W F ds
       go None q os e ih = nothing e
       go (Some a) q None e ih = nothing e
-      go (Some a) q (Some bs) e ih = subst (AllDeclared W F) (some_path (a ∷ bs) ds e) (is_metavariable m a q, ih bs refl)
+      go (Some a) q (Some bs) e ih = subst (AllDeclared W F) (Some_injective (a ∷ bs) ds e) (is_metavariable m a q, ih bs refl)
 
   abbrev N : ℕ → Option Assertion
   N p = entry_named W p
@@ -157,7 +157,7 @@ module _ (W : Store) (F : WellFormed W) where
   resolved (by_domain p) r e = some_1 P by_domain (N p) r e (F.entries p)
   resolved (by_boundary p) r e = some_1 P by_boundary (N p) r e (F.entries p)
   resolved (by_widen p q) r e = some_2 P by_widen (N p) (N q) r e (λ a i b j. (F.entries p a i, F.entries q b j))
-  resolved by_btype r e = subst P (some_path by_btype r e) tt
+  resolved by_btype r e = subst P (Some_injective by_btype r e) tt
   resolved (by_bterm p) r e = some_1 P by_bterm (N p) r e (F.entries p)
   resolved (by_beqty p q) r e = some_2 P by_beqty (N p) (N q) r e (λ a i b j. (F.entries p a i, F.entries q b j))
   resolved (by_beqtm p q t) r e = some_3 P by_beqtm (N p) (N q) (N t) r e (λ a i b j c k. (F.entries p a i, F.entries q b j, F.entries t c k))
@@ -191,8 +191,8 @@ module _ (W : Store) (F : WellFormed W) where
   list ps R vs w = up_all W (scoped_rules W F) ps R w vs
 
   pub sound_step : (r : Resolved) → Parts W F r → (y : Statement) → conclusion W r ≡ Some y → Valid W y (result_set r)
-  sound_step (by_var v) h y e = subst (λ z. Valid W z (result_set (by_var v))) (some_path _ y e) (metas.do_var W F v.0 v.1 h)
-  sound_step (by_generic m) h y e = subst (λ z. Valid W z (result_set (by_generic m))) (some_path _ y e) (metas.do_generic W F m.0 m.1 h)
+  sound_step (by_var v) h y e = subst (λ z. Valid W z (result_set (by_var v))) (Some_injective _ y e) (metas.do_var W F v.0 v.1 h)
+  sound_step (by_generic m) h y e = subst (λ z. Valid W z (result_set (by_generic m))) (Some_injective _ y e) (metas.do_generic W F m.0 m.1 h)
   sound_step (by_meta m ps) h y e = metas.do_meta W F m.0 m.1 h.0 ps h.1 y e
   sound_step (by_metacong m es) h y e = metas.do_meta_congruence W F m.0 m.1 h.0 es h.1 y e
   sound_step (by_abs v p) h y e = from_when (λ z. Valid W z (result_set (by_abs v p))) (not (row.depends W.variables v.0 p.set)) (abstracted v.1.annotation (close_statement v.0 p.statement)) y e (λ t.
@@ -211,9 +211,9 @@ module _ (W : Store) (F : WellFormed W) where
   sound_step (by_right p) h y e = one p.statement y p.set h (structural.do_right W.rules (sound_rules W F) (M p.set) (G p.set) p.statement y e)
   sound_step (by_typeof p) h y e = one p.statement y p.set h (structural.do_typeof W.rules (sound_rules W F) (M p.set) (G p.set) p.statement y e)
   sound_step (by_domain p) h y e = one p.statement y p.set h (structural.do_domain W.rules (sound_rules W F) (M p.set) (G p.set) p.statement y e)
-  sound_step (by_boundary p) h y e = one p.statement y p.set h (λ a. subst (λ z. Derivable W z p.set) (some_path _ y e) (structural.do_boundary W.rules (sound_rules W F) (M p.set) (G p.set) p.statement a))
-  sound_step (by_widen p t) h y e = two p.statement t.statement y p.set t.set h.0 h.1 (λ a b. subst (λ z. Derivable W z (union p.set t.set)) (some_path p.statement y e) a)
-  sound_step by_btype h y e = subst (λ z. Valid W z []) (some_path _ y e) (record { proper = proper_empty W; derivable = do_for_type })
+  sound_step (by_boundary p) h y e = one p.statement y p.set h (λ a. subst (λ z. Derivable W z p.set) (Some_injective _ y e) (structural.do_boundary W.rules (sound_rules W F) (M p.set) (G p.set) p.statement a))
+  sound_step (by_widen p t) h y e = two p.statement t.statement y p.set t.set h.0 h.1 (λ a b. subst (λ z. Derivable W z (union p.set t.set)) (Some_injective p.statement y e) a)
+  sound_step by_btype h y e = subst (λ z. Valid W z []) (Some_injective _ y e) (record { proper = proper_empty W; derivable = do_for_type })
   sound_step (by_bterm p) h y e = one p.statement y p.set h (structural.do_term_boundary W.rules (sound_rules W F) (M p.set) (G p.set) p.statement y e)
   sound_step (by_beqty p t) h y e = two p.statement t.statement y p.set t.set h.0 h.1 (λ a b. structural.do_type_equation_boundary W.rules (sound_rules W F) (M (union p.set t.set)) (G (union p.set t.set)) p.statement t.statement y e a b)
   sound_step (by_beqtm p s t) h y e =

@@ -6,7 +6,7 @@ use Rattle.ft_theory.specs.Statements.{Claim, is_type, has_type, equal_types, eq
 use Rattle.ft_theory.specs.Rules.{Rule}
 use Rattle.ft_theory.specs.Steps.{sequent, none, more, Prim}
 use Rattle.ft_theory.specs.WideSteps.{SideOfClaim, type_of_term, left_type, right_type, type_of_terms, left_term, right_term, type_of_boundary, left_type_side, right_type_side, type_of_sides, left_term_side, right_term_side, Side, plain_side, under_domain, its_boundary, a_side, first_domain, equal_substitution, substitution}
-use Rattle.ft_laws.proofs.Fresh.{some_path}
+use Rattle.ft_laws.proofs.Fresh.{Some_injective}
 use Rattle.ft_laws.proofs.Rules.{nothing}
 use Rattle.ft_laws.proofs.Steps.{do_symmetric_types, do_symmetric_terms, do_transitive_types, do_transitive_terms, do_convert_term, do_convert_equation, do_for_term, do_for_types, do_for_terms}
 use Rattle.ft_laws.proofs.Equal.{reify}
@@ -20,28 +20,28 @@ use Rattle.ft_sound.proofs.EqualLemmas.{expression_true, refill, boundary_depth}
 
 -- from a test that held
 pub from_when : (P : Statement → Type 0) (b : Bool) (x y : Statement) → row.when b x ≡ Some y → (b ≡ true → P x) → P y
-from_when P true x y e h = subst P (some_path x y e) (h refl)
+from_when P true x y e h = subst P (Some_injective x y e) (h refl)
 from_when P false x y e h = nothing e
 
 left_is : (c d : Claim) → row.left_side c ≡ Some d → SideOfClaim c d
-left_is (equal_types A B) d e = subst (SideOfClaim (equal_types A B)) (some_path (is_type A) d e) (left_type A B)
-left_is (equal_terms s t A) d e = subst (SideOfClaim (equal_terms s t A)) (some_path (has_type s A) d e) (left_term s t A)
-left_is (type_equation_goal A B) d e = subst (SideOfClaim (type_equation_goal A B)) (some_path (is_type A) d e) (left_type_side A B)
-left_is (term_equation_goal s t A) d e = subst (SideOfClaim (term_equation_goal s t A)) (some_path (has_type s A) d e) (left_term_side s t A)
+left_is (equal_types A B) d e = subst (SideOfClaim (equal_types A B)) (Some_injective (is_type A) d e) (left_type A B)
+left_is (equal_terms s t A) d e = subst (SideOfClaim (equal_terms s t A)) (Some_injective (has_type s A) d e) (left_term s t A)
+left_is (type_equation_goal A B) d e = subst (SideOfClaim (type_equation_goal A B)) (Some_injective (is_type A) d e) (left_type_side A B)
+left_is (term_equation_goal s t A) d e = subst (SideOfClaim (term_equation_goal s t A)) (Some_injective (has_type s A) d e) (left_term_side s t A)
 left_is c d e = nothing e
 
 right_is : (c d : Claim) → row.right_side c ≡ Some d → SideOfClaim c d
-right_is (equal_types A B) d e = subst (SideOfClaim (equal_types A B)) (some_path (is_type B) d e) (right_type A B)
-right_is (equal_terms s t A) d e = subst (SideOfClaim (equal_terms s t A)) (some_path (has_type t A) d e) (right_term s t A)
-right_is (type_equation_goal A B) d e = subst (SideOfClaim (type_equation_goal A B)) (some_path (is_type B) d e) (right_type_side A B)
-right_is (term_equation_goal s t A) d e = subst (SideOfClaim (term_equation_goal s t A)) (some_path (has_type t A) d e) (right_term_side s t A)
+right_is (equal_types A B) d e = subst (SideOfClaim (equal_types A B)) (Some_injective (is_type B) d e) (right_type A B)
+right_is (equal_terms s t A) d e = subst (SideOfClaim (equal_terms s t A)) (Some_injective (has_type t A) d e) (right_term s t A)
+right_is (type_equation_goal A B) d e = subst (SideOfClaim (type_equation_goal A B)) (Some_injective (is_type B) d e) (right_type_side A B)
+right_is (term_equation_goal s t A) d e = subst (SideOfClaim (term_equation_goal s t A)) (Some_injective (has_type t A) d e) (right_term_side s t A)
 right_is c d e = nothing e
 
 type_is : (c d : Claim) → row.type_part c ≡ Some d → SideOfClaim c d
-type_is (has_type t A) d e = subst (SideOfClaim (has_type t A)) (some_path (is_type A) d e) (type_of_term t A)
-type_is (equal_terms s t A) d e = subst (SideOfClaim (equal_terms s t A)) (some_path (is_type A) d e) (type_of_terms s t A)
-type_is (term_goal A) d e = subst (SideOfClaim (term_goal A)) (some_path (is_type A) d e) (type_of_boundary A)
-type_is (term_equation_goal s t A) d e = subst (SideOfClaim (term_equation_goal s t A)) (some_path (is_type A) d e) (type_of_sides s t A)
+type_is (has_type t A) d e = subst (SideOfClaim (has_type t A)) (Some_injective (is_type A) d e) (type_of_term t A)
+type_is (equal_terms s t A) d e = subst (SideOfClaim (equal_terms s t A)) (Some_injective (is_type A) d e) (type_of_terms s t A)
+type_is (term_goal A) d e = subst (SideOfClaim (term_goal A)) (Some_injective (is_type A) d e) (type_of_boundary A)
+type_is (term_equation_goal s t A) d e = subst (SideOfClaim (term_equation_goal s t A)) (Some_injective (is_type A) d e) (type_of_sides s t A)
 type_is c d e = nothing e
 
 under_is : (f : Claim → Option Claim) → ((c d : Claim) → f c ≡ Some d → SideOfClaim c d) → (x y : Statement) → row.under_domains f x ≡ Some y → Side x y
@@ -49,12 +49,12 @@ under_is f h (plain c) y e = go (f c) refl e
   where
     go : (o : Option Claim) → f c ≡ o → option_map plain o ≡ Some y → Side (plain c) y
     go None q e = nothing e
-    go (Some d) q e = subst (Side (plain c)) (some_path (plain d) y e) (plain_side c d (h c d q))
+    go (Some d) q e = subst (Side (plain c)) (Some_injective (plain d) y e) (plain_side c d (h c d q))
 under_is f h (abstracted A x) y e = go (row.under_domains f x) refl e (under_is f h x)
   where
     go : (o : Option Statement) → row.under_domains f x ≡ o → option_map (abstracted A) o ≡ Some y → ((z : Statement) → row.under_domains f x ≡ Some z → Side x z) → Side (abstracted A x) y
     go None q e ih = nothing e
-    go (Some z) q e ih = subst (Side (abstracted A x)) (some_path (abstracted A z) y e) (under_domain A x z (ih z q))
+    go (Some z) q e ih = subst (Side (abstracted A x)) (Some_injective (abstracted A z) y e) (under_domain A x z (ih z q))
 
 module _ (T : List Rule) (so : Sound T) (M : List (ℕ × Statement)) (G : List (ℕ × Expression)) where
   pub do_substitution : (x z y : Statement) → row.substitution x z ≡ Some y → Prim T M G x → Prim T M G z → Prim T M G y
@@ -81,8 +81,8 @@ module _ (T : List Rule) (so : Sound T) (M : List (ℕ × Statement)) (G : List 
       (itself T (scoped T so) M G (fill (boundary_of x) (head x)) (subst (Prim T M G) r.1 p)))
 
   pub do_symmetry : (x y : Statement) → row.symmetry x ≡ Some y → Prim T M G x → Prim T M G y
-  do_symmetry (plain (equal_types A B)) y e p = subst (Prim T M G) (some_path (plain (equal_types B A)) y e) (do_symmetric_types p)
-  do_symmetry (plain (equal_terms s t A)) y e p = subst (Prim T M G) (some_path (plain (equal_terms t s A)) y e) (do_symmetric_terms p)
+  do_symmetry (plain (equal_types A B)) y e p = subst (Prim T M G) (Some_injective (plain (equal_types B A)) y e) (do_symmetric_types p)
+  do_symmetry (plain (equal_terms s t A)) y e p = subst (Prim T M G) (Some_injective (plain (equal_terms t s A)) y e) (do_symmetric_terms p)
   do_symmetry x y e p = nothing e
 
   pub do_transitivity : (x z y : Statement) → row.transitivity x z ≡ Some y → Prim T M G x → Prim T M G z → Prim T M G y
@@ -117,17 +117,17 @@ module _ (T : List Rule) (so : Sound T) (M : List (ℕ × Statement)) (G : List 
 
   pub do_domain : (x y : Statement) → row.first_domain x ≡ Some y → Prim T M G x → Prim T M G y
   do_domain (plain c) y e p = nothing e
-  do_domain (abstracted A x) y e p = subst (Prim T M G) (some_path (plain (is_type A)) y e) (admissible T so 3 (sequent M G (abstracted A x) ∷ []) (sequent M G (plain (is_type A))) (first_domain A x) (more p none))
+  do_domain (abstracted A x) y e p = subst (Prim T M G) (Some_injective (plain (is_type A)) y e) (admissible T so 3 (sequent M G (abstracted A x) ∷ []) (sequent M G (plain (is_type A))) (first_domain A x) (more p none))
 
   pub do_boundary : (x : Statement) → Prim T M G x → Prim T M G (boundary_of x)
   do_boundary x p = admissible T so 3 (sequent M G x ∷ []) (sequent M G (boundary_of x)) (its_boundary x) (more p none)
 
   pub do_term_boundary : (x y : Statement) → row.term_boundary x ≡ Some y → Prim T M G x → Prim T M G y
-  do_term_boundary (plain (is_type A)) y e p = subst (Prim T M G) (some_path (plain (term_goal A)) y e) (do_for_term p)
+  do_term_boundary (plain (is_type A)) y e p = subst (Prim T M G) (Some_injective (plain (term_goal A)) y e) (do_for_term p)
   do_term_boundary x y e p = nothing e
 
   pub do_type_equation_boundary : (x z y : Statement) → row.type_equation_boundary x z ≡ Some y → Prim T M G x → Prim T M G z → Prim T M G y
-  do_type_equation_boundary (plain (is_type A)) (plain (is_type B)) y e p q = subst (Prim T M G) (some_path (plain (type_equation_goal A B)) y e) (do_for_types p q)
+  do_type_equation_boundary (plain (is_type A)) (plain (is_type B)) y e p q = subst (Prim T M G) (Some_injective (plain (type_equation_goal A B)) y e) (do_for_types p q)
   do_type_equation_boundary x z y e p q = nothing e
 
   pub do_term_equation_boundary : (x u v y : Statement) → row.term_equation_boundary x u v ≡ Some y → Prim T M G x → Prim T M G u → Prim T M G v → Prim T M G y

@@ -3,7 +3,7 @@ use Rattle.std.proofs.Common.{◌≡◌, ◌≢◌, ℕ, zero, suc, ◌+◌, Boo
 use Rattle.std.proofs.lemmas.Bool.{ltb-true, lt-ltb, eqb-true}
 use Rattle.ft_theory.specs.Statements.{is_type, plain}
 use Rattle.ft_theory.specs.Rules.{look_up}
-use Rattle.ft_laws.proofs.Fresh.{some_path}
+use Rattle.ft_laws.proofs.Fresh.{Some_injective}
 use Rattle.ft_laws.proofs.Rules.{nothing}
 use Rattle.ft_items.specs.Sets.{Atom, met, var, precedes, Has, Within, Ascending}
 use Rattle.ft_items.specs.Item.{Name, Entry, Item, variable, metavariable, rule, entry, shown}
@@ -180,7 +180,7 @@ some_first W k (i ∷ items) r e = go (reason_in W i) refl e (some_first (add W 
     go : (o : Option Reject) → reason_in W i ≡ o → found_at k o (first_rejected (add W i) (suc k) items) ≡ Some r → (first_rejected (add W i) (suc k) items ≡ Some r → First (add W i) (suc k) items r.0 r.1) → First W k (i ∷ items) r.0 r.1
     go None q e ih = later q (ih e)
     go (Some w) q e ih =
-        let p : (k, w) ≡ r = some_path (k, w) r e in
+        let p : (k, w) ≡ r = Some_injective (k, w) r e in
         ([], i, items, refl, omega (arith, ap (λ (z : ℕ × Reject). z.0) p), tt, q ∙ ap (λ (z : ℕ × Reject). Some z.1) p)
 
 first_some : (W : Store) → WellFormed W → (k : ℕ) (before after : List Item) (i : Item) (why : Reject) → GoodAfter W before → reason_in (add_all W before) i ≡ Some why → first_rejected W k (before ++ (i ∷ after)) ≡ Some (length before + k, why)

@@ -10,9 +10,9 @@ use Rattle.ft_laws.proofs.Rules.{found, past, nothing}
 use Rattle.ft_laws.proofs.Commute.{ScopedTheory}
 use Rattle.ft_laws.proofs.Traverse.{Grows}
 use Rattle.ft_laws.proofs.Substitute.{Extends, weaken}
-use Rattle.ft_laws.proofs.Scope.{scope, Fine, InVars, InMets}
-use Rattle.ft_laws.proofs.Statements.{stmt_mono}
-use Rattle.ft_laws.proofs.Acts.{Uses_mono}
+use Rattle.ft_laws.proofs.Scope.{scope, Fine, InVariables, InMetavariables}
+use Rattle.ft_laws.proofs.Statements.{AllOfStatement_mono}
+use Rattle.ft_laws.proofs.Acts.{MentionsOnly_mono}
 use Rattle.ft_laws.proofs.Finitary.{more_rules, Sound, scoped}
 use Rattle.ft_laws.proofs.Admissible.{finitary_sound}
 use Rattle.ft_items.specs.Sets.{Atom, met, var, insert, union, unions, Has, Within, Ascending}
@@ -220,12 +220,12 @@ scoped_rules W F = scoped W.rules (sound_rules W F)
 
 -- a statement mentions only atoms of its set
 pub mentions : (W : Store) (x : Statement) (S : List Atom) → Derivable W x S → StatementMentionsOnly (λ v. Has (var v) S) (λ m k. Has (met m) S) x
-mentions W x S p = stmt_mono x (Fine (boundaries_in W S) (annotations_in W S)) (λ k. MentionsOnly (λ v. Has (var v) S) (λ m k. Has (met m) S)) zero
-    (λ k e f. Uses_mono e (InVars (annotations_in W S)) (λ v. Has (var v) S) (InMets (boundaries_in W S)) (λ m k. Has (met m) S)
+mentions W x S p = AllOfStatement_mono x (Fine (boundaries_in W S) (annotations_in W S)) (λ k. MentionsOnly (λ v. Has (var v) S) (λ m k. Has (met m) S)) zero
+    (λ k e f. MentionsOnly_mono e (InVariables (annotations_in W S)) (λ v. Has (var v) S) (InMetavariables (boundaries_in W S)) (λ m k. Has (met m) S)
     (λ v h. (look_vars W S v h.0 h.1).1) (λ m k h. (look_mets W S m h.0 h.1).1) f.1)
     (scope W.rules (sequent (boundaries_in W S) (annotations_in W S) x) p)
 
 pub global : (W : Store) (x : Statement) (S : List Atom) → Derivable W x S → ((v : ℕ) → Has (var v) S → ⊥) → IsVariableFree x
-global W x S p n = stmt_mono x (λ k. MentionsOnly (λ v. Has (var v) S) (λ m k. Has (met m) S)) (λ k. MentionsOnly (λ v. ⊥) (λ m k. Unit {0})) zero
-    (λ k e f. Uses_mono e (λ v. Has (var v) S) (λ v. ⊥) (λ m k. Has (met m) S) (λ m k. Unit {0}) n (λ m k h. tt) f)
+global W x S p n = AllOfStatement_mono x (λ k. MentionsOnly (λ v. Has (var v) S) (λ m k. Has (met m) S)) (λ k. MentionsOnly (λ v. ⊥) (λ m k. Unit {0})) zero
+    (λ k e f. MentionsOnly_mono e (λ v. Has (var v) S) (λ v. ⊥) (λ m k. Has (met m) S) (λ m k. Unit {0}) n (λ m k h. tt) f)
     (mentions W x S p)

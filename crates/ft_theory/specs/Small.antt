@@ -1,6 +1,6 @@
 -- The depth and the size of an expression, and when it is small: what the program forms is small. The limits are this
 -- project's own; what is derivable has none.
-use Rattle.std.specs.Prelude.{ℕ, suc, ◌+◌, ◌^◌, ◌<◌, ◌≤◌, max}
+use Rattle.std.specs.Prelude.{ℕ, suc, ◌+◌, ◌^◌, ◌<◌, ◌≤◌, max, Bool, true, nat_lt, nat_le, ◌&&◌}
 use Rattle.ft_theory.specs.Expressions.{Expression, bound, free, symbol, meta, Arguments, no_arguments, with_body, dummy, Terms, no_terms, also}
 
 -- The depth of a variable is 1. That of an application is 1 more than the greatest depth of its arguments' bodies, and 1
@@ -61,3 +61,24 @@ pub record IsSmall (e : Expression) : Type 0 where
   pub low : depth e ≤ 1000
   pub short : size e ≤ 65536
   pub numbers : NumbersFit e
+
+-- the test that the numbers fit
+abbrev mutual
+  pub numbers_fit : Expression → Bool
+  numbers_fit (bound i) = nat_lt (suc i) (2 ^ 64)
+  numbers_fit (free v) = true
+  numbers_fit (symbol s a) = numbers_fit_in_arguments a
+  numbers_fit (meta m a) = numbers_fit_in_terms a
+
+  pub numbers_fit_in_arguments : Arguments → Bool
+  numbers_fit_in_arguments no_arguments = true
+  numbers_fit_in_arguments (with_body n e a) = nat_lt n (2 ^ 32) && numbers_fit e && numbers_fit_in_arguments a
+  numbers_fit_in_arguments (dummy n a) = nat_lt n (2 ^ 32) && numbers_fit_in_arguments a
+
+  pub numbers_fit_in_terms : Terms → Bool
+  numbers_fit_in_terms no_terms = true
+  numbers_fit_in_terms (also t a) = numbers_fit t && numbers_fit_in_terms a
+
+-- the test that an expression is small
+abbrev pub is_small : Expression → Bool
+is_small e = nat_le (depth e) 1000 && nat_le (size e) 65536 && numbers_fit e

@@ -1,0 +1,5 @@
+pub mod Turns
+pub mod Back
+pub mod Sound
+pub mod SoundCommands
+pub mod Plain

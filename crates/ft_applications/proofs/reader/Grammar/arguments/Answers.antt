@@ -1,0 +1,11 @@
+use Rattle.std.proofs.Common.{rules, arith}
+use Rattle.std.proofs.lemmas.Grind.{common_steps}
+use Rattle.ft_applications.specs.Reading.{expression, arguments_from}
+use Rattle.ft_applications.proofs.Turns.{one_more}
+use Rattle.ft_applications.proofs.reader.Grammar.arguments.Goals as goal
+
+pub loop-turn-preserved : goal.loop-turn-preserved
+unfolding arguments_from
+loop-turn-preserved g c =
+    let e = one_more (λ n. arguments_from (expression c.args.self.now.depth) n c.loop-turn.found c.loop-turn.tokens) _ c.loop-turn._turn c.loop-turn-test.true c.loop-turn.invariant in
+    first_of (search rules, grind (arith, common_steps))

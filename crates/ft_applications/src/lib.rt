@@ -1,0 +1,16 @@
+//! The language of applications: rules whose premises have no binders, and shown applications of rules.
+#![tactic(auto)]
+
+mod cursor;
+mod fault;
+mod laws;
+mod reader;
+mod source;
+mod syntax;
+#[cfg(test)]
+mod tests;
+
+pub use fault::Fault;
+pub use laws::{at_most_one_tree, what_is_in_the_grammar_is_read, what_is_read_is_in_the_grammar};
+pub use source::read_source;
+pub use syntax::{Application, Command, Conclusion, Premise};

@@ -1,0 +1,10 @@
+//! Sets of assumptions: of the metavariables and free variables that a statement rests on.
+#![tactic(auto)]
+
+mod assume;
+mod atom;
+#[cfg(test)]
+mod tests;
+
+pub use assume::Assume;
+pub use atom::Atom;

@@ -1,0 +1,4 @@
+pub mod Filling
+pub mod Differences
+pub mod Moves
+pub mod Moved

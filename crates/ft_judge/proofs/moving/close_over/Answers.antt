@@ -1,0 +1,27 @@
+use Rattle.std.proofs.Common.{◌≡◌, ◌∷◌, ◌∙◌, length, map, sym, ap, subst}
+use Rattle.ft_theory.specs.Statements.{AllOfClaim}
+use Rattle.ft_theory.specs.Small.{IsSmall}
+use Rattle.ft_syntax.specs.Table.{tree}
+use Rattle.ft_judge.specs.Meaning.{claim_in}
+use Rattle.ft_judge.specs.Moving.{moved_list, AreSmall}
+use Rattle.ft_judge.specs.declared.moving.Move.TheVariants.{Close}
+use Rattle.ft_judge.proofs.Moves.{all_extend}
+use Rattle.ft_judge.proofs.Moved.{closed_statement, closed_domains_big, closed_claim_big, form_after}
+use Rattle.ft_judge.proofs.moving.close_over.Goals as goal
+
+pub returns-in-Err-clause-too_big : goal.returns-in-Err-clause-too_big
+returns-in-Err-clause-too_big c = λ e. closed_domains_big c.args.t.now c.args.v c.args.x.now.domains (claim_in c.args.t.now c.args.x.now.form) (λ s. c.in-Err.ensures.too_big e (subst (λ xs. AreSmall (moved_list c.args.t.now (Close c.args.v) 0 (map (tree c.args.t.now) xs))) (sym c.items.ensures) s))
+
+pub returns-in-Ok-move_form-clause-within : goal.returns-in-Ok-move_form-clause-within
+returns-in-Ok-move_form-clause-within c = (all_extend c.close_domains.new.t c.move_form.new.t c.in-Ok.domains c.in-Ok-move_form.ensures.goes_on c.in-Ok.ensures.within, c.in-Ok-move_form.ensures.within)
+
+pub returns-in-Ok-move_form-clause-thesis : goal.returns-in-Ok-move_form-clause-thesis
+returns-in-Ok-move_form-clause-thesis c =
+    let n : length c.items-2.result.now ≡ length c.args.x.now.domains = ap length c.items-2.ensures in
+    let d : map (tree c.close_domains.new.t) c.in-Ok.domains ≡ tree c.args.t.now c.args.ty ∷ moved_list c.args.t.now (Close c.args.v) 0 (map (tree c.args.t.now) c.args.x.now.domains) = c.in-Ok.ensures.domains ∙ ap (λ xs. tree c.args.t.now c.args.ty ∷ moved_list c.args.t.now (Close c.args.v) 0 (map (tree c.args.t.now) xs)) c.items.ensures in
+    closed_statement c.args.t.now c.close_domains.new.t c.move_form.new.t c.args.v c.args.ty (length c.items-2.result.now) c.args.x.now.domains c.in-Ok.domains (claim_in c.args.t.now c.args.x.now.form) (claim_in c.move_form.new.t c.in-Ok-move_form.form) c.in-Ok-move_form.ensures.goes_on c.in-Ok.ensures.within d n (c.in-Ok-move_form.ensures.claim ∙ form_after c.args.t.now c.close_domains.new.t (Close c.args.v) (length c.items-2.result.now) c.args.x.now.form c.in-Ok.ensures.goes_on c.requires.thesis.1 tt)
+
+pub returns-in-Err-move_form-clause-too_big : goal.returns-in-Err-move_form-clause-too_big
+returns-in-Err-move_form-clause-too_big c =
+    let n : length c.items-2.result.now ≡ length c.args.x.now.domains = ap length c.items-2.ensures in
+    λ e. closed_claim_big c.args.t.now c.args.v (length c.items-2.result.now) c.args.x.now.domains (claim_in c.args.t.now c.args.x.now.form) n (λ s. c.in-Err-move_form.ensures.too_big e (subst (AllOfClaim IsSmall) (sym (form_after c.args.t.now c.close_domains.new.t (Close c.args.v) (length c.items-2.result.now) c.args.x.now.form c.in-Ok.ensures.goes_on c.requires.thesis.1 tt)) s))

@@ -1,0 +1,21 @@
+use Rattle.std.proofs.Common.{rules, ◌≡◌, ◌∙◌, ap, sym, subst, length}
+use Rattle.ft_items.specs.Good.{Allowed}
+use Rattle.ft_items.specs.Item.{rule}
+use Rattle.ft_items.specs.Store.{rules_in}
+use Rattle.ft_kernel.specs.State.{State}
+use Rattle.ft_kernel.proofs.Grows.{places_rules}
+use Rattle.ft_kernel.proofs.Pushes.{push_rule}
+use Rattle.ft_kernel.proofs.kernel.Kernel.push_rule.Goals as goal
+
+pub invariant_of-self-in_default : goal.invariant_of-self-in_default
+invariant_of-self-in_default c =
+    let at : c.len.result ≡ length c.self.inside.lines.items = search rules in
+    let number : c.len-number.result ≡ length c.self.inside.rules.items = search rules in
+    push_rule _ _ _ _ _ _ _ _ _ _ _ c.args.x c.self.invariant c.in_default.ensures.items c.in_ok-push.ensures.items at number
+    (subst (λ (s : State). Allowed s.items (rule c.args.x.name c.args.x.premises c.args.x.conclusion)) (sym c.self.view_is) c.requires)
+
+pub returns-clause-number : goal.returns-clause-number
+returns-clause-number c =
+    let number : c.len-number.result ≡ length c.self.inside.rules.items = search rules in
+    c.at.ensures ∙ number ∙ ap length c.self.invariant.rules_are ∙ places_rules c.self.inside.terms 0 c.self.inside.lines.items
+    ∙ ap (λ (s : State). length (rules_in s.items)) c.self.view_is

@@ -1,0 +1,6 @@
+pub mod Code
+pub mod Steps
+pub mod Lines
+pub mod State
+pub mod Invariant
+pub mod Shown

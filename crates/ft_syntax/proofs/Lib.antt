@@ -1,0 +1,12 @@
+pub mod Tables
+pub mod Parts
+pub mod Measures
+pub mod Lists
+pub mod Mentions
+pub mod Changes
+pub mod Changing
+pub mod Plugs
+pub mod Planting
+pub mod Instantiating
+pub mod Outcomes
+pub mod Copying

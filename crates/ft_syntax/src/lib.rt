@@ -1,0 +1,16 @@
+//! A table of expressions. An expression is a number in it; its tree never changes.
+#![tactic(auto)]
+
+mod change;
+mod copy;
+mod instance;
+mod instantiate;
+mod syntax;
+mod table;
+
+pub use instance::{Instance, Pairs};
+pub use syntax::{Arg, E, Node, SynFault};
+pub use table::Terms;
+
+#[cfg(test)]
+mod tests;

@@ -1,0 +1,10 @@
+pub mod Lists
+pub mod Tests
+pub mod StepRows
+pub mod Calls
+pub mod Fits
+pub mod Declaring
+pub mod Least
+pub mod Rows
+pub mod Refused
+pub mod SmallAnswers

@@ -1,0 +1,4 @@
+pub mod Laws
+pub mod SmallAnswers
+pub mod Worked
+pub mod Rows

@@ -1,0 +1,102 @@
+// Laws of the nucleus. Each function states one fact on its calls, over the definitions alone.
+#![tactic(auto)]
+
+ghost use Rattle.ft_nucleus_laws.specs.Laws.{AnswersItsRow, RefusesFirst, AnswersDerivable, AnswersAllowed, FitsIsFilling, RefusalsChangeNothing, VariablesAllowed, MetavariablesAllowed, DraftsGrow, FinishesAllowed, FinishedIsFinitary, FirstOutsideIsLeast, FirstVariableIsLeast, FirstDependentIsLeast, NamesRefused, OpenRefused, WideRefused};
+ghost use Rattle.ft_nucleus_laws.specs.SmallAnswers.{AnswersSmall};
+ghost use Rattle.ft_nucleus_laws.specs.Rows.{VariableRows, SubstitutionRows, EqualityRows, SideRows, RuleRows, DeepRows, CongruenceRows, ApplicationRows, DraftRows, NewRows};
+
+/// A call answers a statement and its set exactly where its row gives these after the store's items and all that it forms is small.
+pub fn answers_its_row()
+    ensures law { AnswersItsRow }
+{}
+
+/// A call that may be made refuses exactly where one of its checks fails and those before it hold, with that check's refusal.
+pub fn refuses_first()
+    ensures law { RefusesFirst }
+{}
+
+/// Over the store of a good list, what a call answers is derivable by primitive steps over the rules, in the context of its set.
+pub fn answers_derivable()
+    ensures law { AnswersDerivable }
+{}
+
+/// What a call answers over a good list may be added to the list.
+pub fn answers_allowed()
+    ensures law { AnswersAllowed }
+{}
+
+/// A thesis fits a boundary exactly where the boundary filled with the thesis's head is the thesis.
+pub fn fits_is_filling()
+    ensures law { FitsIsFilling }
+{}
+
+/// A refusal leaves the store, and the draft of a rule, as they are.
+pub fn refusals_change_nothing()
+    ensures law { RefusalsChangeNothing }
+{}
+
+/// A variable is made exactly where its item is allowed; the store is then that of the longer list.
+pub fn variables_allowed()
+    ensures law { VariablesAllowed }
+{}
+
+/// A metavariable is made exactly where its item is allowed; the store is then that of the longer list.
+pub fn metavariables_allowed()
+    ensures law { MetavariablesAllowed }
+{}
+
+/// What is begun is a draft, and stays one with each premise that is made.
+pub fn drafts_grow()
+    ensures law { DraftsGrow }
+{}
+
+/// A draft finishes exactly where its rule is allowed; the store is then that of the longer list.
+pub fn finishes_allowed()
+    ensures law { FinishesAllowed }
+{}
+
+/// Over a good list a draft finishes only so that the rules stay a finitary theory.
+pub fn finished_is_finitary()
+    ensures law { FinishedIsFinitary }
+{}
+
+/// The atom or variable that a refusal names is the least that is refused.
+pub fn names_the_least()
+    ensures outside { FirstOutsideIsLeast }
+    ensures variable { FirstVariableIsLeast }
+    ensures dependent { FirstDependentIsLeast }
+{}
+
+/// Where all that a call has is small, all that it answers is; but for abstraction.
+pub fn answers_small()
+    ensures law { AnswersSmall }
+{}
+
+/// Rules, premises and conclusions are refused in their order, each exactly where its reason holds.
+pub fn refuses_declarations()
+    ensures names { NamesRefused }
+    ensures opened { OpenRefused }
+{}
+
+/// A metavariable's generic application with 65,536 domains or more is too big.
+pub fn refuses_wide_metavariables()
+    ensures law { WideRefused }
+{}
+
+/// Worked answers of each call, with a row for each of its refusals.
+pub fn worked_calls()
+    ensures variables { VariableRows }
+    ensures substitution { SubstitutionRows }
+    ensures equality { EqualityRows }
+    ensures sides { SideRows }
+    ensures rules { RuleRows }
+    ensures deep { DeepRows }
+    ensures congruence { CongruenceRows }
+    ensures applications { ApplicationRows }
+{}
+
+/// Worked declarations, with a row for each refusal.
+pub fn worked_declarations()
+    ensures drafts { DraftRows }
+    ensures new { NewRows }
+{}

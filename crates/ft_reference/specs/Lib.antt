@@ -1,0 +1,5 @@
+pub mod Refusals
+pub mod Compare
+pub mod Checks
+pub mod Calls
+pub mod Declare

@@ -1,0 +1,2 @@
+// What each call of the nucleus answers, as definitions.
+#![tactic(auto)]

@@ -1,0 +1,11 @@
+pub mod Fitting
+pub mod Allowed
+pub mod Forms
+pub mod Keeping
+pub mod Concluding
+pub mod Smallness
+pub mod Applying
+pub mod Naming
+pub mod Claims
+pub mod Printing
+pub mod Accepted

@@ -1,0 +1,4 @@
+pub mod Session
+pub mod Given
+pub mod Claiming
+pub mod Printing

@@ -1,0 +1,159 @@
+-- What a session stands for: the state of its kernel, and the declarations of the language of applications.
+use Rattle.std.specs.Prelude.{ℕ, zero, suc, ◌≡◌, ◌+◌, ◌<◌, List, [], ◌∷◌, ◌++◌, map, length, Option, Some}
+use Rattle.ft_theory.specs.Expressions.{Expression, bound, free, symbol, meta, Arguments, no_arguments, with_body, dummy}
+use Rattle.ft_theory.specs.Statements.{Claim, is_type, has_type, equal_types, equal_terms, type_goal, term_goal, type_equation_goal, term_equation_goal, Statement, plain, abstracted}
+use Rattle.ft_theory.specs.Rules.{Rule}
+use Rattle.ft_items.specs.Item.{Item}
+use Rattle.ft_items.specs.Store.{Assertion, Declared, Store, nth, store_of, entries_in}
+use Rattle.ft_judge.specs.Meaning.{claim_in, goal_in, FormBelow, GoalBelow}
+use Rattle.ft_judge.specs.declared.judgement.Form.{Form}
+use Rattle.ft_judge.specs.declared.judgement.Goal.{Goal}
+use Rattle.ft_kernel.specs.State.{State}
+use Rattle.ft_applications.specs.Building.{Declaration, theory, names}
+use Rattle.ft_run.specs.declared.session.Known.{Known}
+use Rattle.ft_run.specs.declared.session.Claimed.{Claimed}
+
+pub record Progress : Type 0 where
+  pub state : State
+  pub rules : List Declaration
+
+-- statements for metavariables that are numbered from m
+abbrev pub numbered : ℕ → List Statement → List (ℕ × Statement)
+numbered m [] = []
+numbered m (b ∷ bs) = (m, b) ∷ numbered (suc m) bs
+
+-- the boundaries of goals over the trees of a table
+abbrev pub boundaries_in : List Expression → List Goal → List Statement
+boundaries_in ts gs = map (λ g. plain (goal_in ts g)) gs
+
+-- a declared rule over the trees of a table
+abbrev pub declaration : List Expression → Known → Declaration
+declaration ts k = record { name = k.name; rule = record { premises = numbered k.first (boundaries_in ts k.premises.items); conclusion = goal_in ts k.conclusion } }
+
+-- the declared rules in order
+abbrev pub declarations : List Expression → List Known → List Declaration
+declarations ts [] = []
+declarations ts (k ∷ ks) = declaration ts k ∷ declarations ts ks
+
+-- symbols at arguments without binders, and nothing else
+abbrev mutual
+  pub IsSimple : Expression → Type 0
+  IsSimple (bound i) = ⊥
+  IsSimple (free v) = ⊥
+  IsSimple (symbol s a) = AreSimple a
+  IsSimple (meta m a) = ⊥
+
+  pub AreSimple : Arguments → Type 0
+  AreSimple no_arguments = Unit {0}
+  AreSimple (with_body n e a) = (n ≡ 0) × IsSimple e × AreSimple a
+  AreSimple (dummy n a) = ⊥
+
+-- a type, a term of a type, or the goal of one; with simple expressions
+abbrev pub IsSimpleClaim : Claim → Type 0
+IsSimpleClaim (is_type A) = IsSimple A
+IsSimpleClaim (has_type t A) = IsSimple t × IsSimple A
+IsSimpleClaim (equal_types A B) = ⊥
+IsSimpleClaim (equal_terms s t A) = ⊥
+IsSimpleClaim type_goal = ⊥
+IsSimpleClaim (term_goal A) = ⊥
+IsSimpleClaim (type_equation_goal A B) = ⊥
+IsSimpleClaim (term_equation_goal s t A) = ⊥
+
+abbrev pub IsSimpleGoal : Claim → Type 0
+IsSimpleGoal (is_type A) = ⊥
+IsSimpleGoal (has_type t A) = ⊥
+IsSimpleGoal (equal_types A B) = ⊥
+IsSimpleGoal (equal_terms s t A) = ⊥
+IsSimpleGoal type_goal = Unit {0}
+IsSimpleGoal (term_goal A) = IsSimple A
+IsSimpleGoal (type_equation_goal A B) = ⊥
+IsSimpleGoal (term_equation_goal s t A) = ⊥
+
+-- the goal's expressions are trees of the table, and simple
+abbrev pub FitsGoal : List Expression → Goal → Type 0
+FitsGoal ts g = GoalBelow (length ts) g × IsSimpleGoal (goal_in ts g)
+
+abbrev pub AllFitGoals : List Expression → List Goal → Type 0
+AllFitGoals ts [] = Unit {0}
+AllFitGoals ts (g ∷ gs) = FitsGoal ts g × AllFitGoals ts gs
+
+abbrev pub FitsKnown : List Expression → Known → Type 0
+FitsKnown ts k = AllFitGoals ts k.premises.items × FitsGoal ts k.conclusion
+
+-- each declared rule is over the table
+abbrev pub AreKnown : List Expression → List Known → Type 0
+AreKnown ts [] = Unit {0}
+AreKnown ts (k ∷ ks) = FitsKnown ts k × AreKnown ts ks
+
+-- the store of the kernel's list has the declared rules, and no others
+pub record IsSession (s : State) (ks : List Known) : Type 0 where
+  pub known : AreKnown s.trees ks
+  pub rules : (store_of s.items).rules ≡ theory (declarations s.trees ks)
+  pub names_are : (store_of s.items).names ≡ names (declarations s.trees ks)
+
+-- an entry has the claim, as a thesis without domains that rests on nothing
+abbrev pub HasEntry : State → ℕ → Claim → Type 0
+HasEntry s j c = nth (entries_in s.items) j ≡ Some (record { statement = plain c; set = [] })
+
+-- what is claimed is over the table, is simple, and has its entry
+pub record IsClaimed (s : State) (x : Claimed) : Type 0 where
+  pub below : FormBelow (length s.trees) x.form
+  pub simple : IsSimpleClaim (claim_in s.trees x.form)
+  pub entry : HasEntry s x.entry (claim_in s.trees x.form)
+
+abbrev pub AreClaimed : State → List Claimed → Type 0
+AreClaimed s [] = Unit {0}
+AreClaimed s (x ∷ xs) = IsClaimed s x × AreClaimed s xs
+
+-- what is claimed is over the first n trees
+abbrev pub AllBelow : ℕ → List Claimed → Type 0
+AllBelow n [] = Unit {0}
+AllBelow n (x ∷ xs) = FormBelow n x.form × AllBelow n xs
+
+-- the claims of a list
+abbrev pub claims_in : List Expression → List Claimed → List Claim
+claims_in ts xs = map (λ x. claim_in ts x.form) xs
+
+-- the later state goes on from the earlier one, with the same rules
+pub record Keeps (p q : Progress) : Type 0 where
+  pub trees : (more : List Expression) × (q.state.trees ≡ p.state.trees ++ more)
+  pub entries : (j : ℕ) (c : Claim) → HasEntry p.state j c → HasEntry q.state j c
+  pub rules : q.rules ≡ p.rules
+
+-- a boundary without domains, with a simple goal
+abbrev pub IsSimpleBoundary : Statement → Type 0
+IsSimpleBoundary (plain c) = IsSimpleGoal c
+IsSimpleBoundary (abstracted A x) = ⊥
+
+-- premises with simple boundaries
+abbrev pub AreSimplePremises : List (ℕ × Statement) → Type 0
+AreSimplePremises [] = Unit {0}
+AreSimplePremises (p ∷ ps) = IsSimpleBoundary p.1 × AreSimplePremises ps
+
+-- a rule without domains whose expressions are simple
+abbrev pub IsSimpleRule : Rule → Type 0
+IsSimpleRule R = AreSimplePremises R.premises × IsSimpleGoal R.conclusion
+
+-- simple claims
+abbrev pub AreSimpleClaims : List Claim → Type 0
+AreSimpleClaims [] = Unit {0}
+AreSimpleClaims (c ∷ cs) = IsSimpleClaim c × AreSimpleClaims cs
+
+-- claims as assertions that rest on nothing
+abbrev pub assertions : List Claim → List Assertion
+assertions cs = map (λ c. record { statement = plain c; set = [] }) cs
+
+-- the store has the metavariable m, with this goal as its boundary, which rests on nothing
+abbrev pub HasMet : State → ℕ → Claim → Type 0
+HasMet s m g = (d : Declared) × (nth (store_of s.items).metavariables m ≡ Some d) × (d.boundary ≡ plain g) × (d.set ≡ [])
+
+-- the metavariables ms are numbered from m, and have these goals
+abbrev pub AreMade : State → ℕ → List Claim → List ℕ → Type 0
+AreMade s m [] [] = Unit {0}
+AreMade s m [] (k ∷ ks) = ⊥
+AreMade s m (g ∷ gs) [] = ⊥
+AreMade s m (g ∷ gs) (k ∷ ks) = (k ≡ m) × HasMet s m g × AreMade s (suc m) gs ks
+
+-- the goals over the trees of a table
+abbrev pub goals_in : List Expression → List Goal → List Claim
+goals_in ts gs = map (goal_in ts) gs

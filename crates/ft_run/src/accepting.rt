@@ -1,0 +1,75 @@
+//! The rules that a session accepts.
+
+ghost use Rattle.std.specs.Prelude.{◌≡◌, ◌<◌, [], ◌∷◌, ◌++◌, ◌&&◌, nat_lt, length, OnOk, OnErr, IsErrOf, true, false};
+ghost use Rattle.ft_items.specs.Item.{rule};
+ghost use Rattle.ft_items.specs.Good.{is_new};
+ghost use Rattle.ft_judge.specs.Meaning.{goal_in};
+ghost use Rattle.ft_kernel.specs.State.{with_item};
+ghost use Rattle.ft_applications.specs.Building.{names};
+ghost use Rattle.ft_applications.specs.declared.fault.Fault.TheVariants as fault;
+ghost use Rattle.ft_run.specs.Session.{FitsGoal, AllFitGoals, FitsKnown, AreMade, HasEntry, goals_in, boundaries_in, numbered, declaration};
+
+use crate::session::{Known, Session};
+use ft_applications::Fault;
+use ft_base::{Memory, Name};
+use ft_judge::Goal;
+use ft_kernel::{B, Metavariables, RuleItem};
+
+impl Session {
+    // A rule with these goals is accepted, where its name is new and there is room for it.
+    pub(crate) fn accept(
+        &mut self,
+        name: Name,
+        first: u64,
+        goals: Vec<Goal>,
+        conclusion: Goal,
+        premises: Metavariables,
+        b: B,
+    ) -> Result<(), Fault>
+        requires goals { AllFitGoals self.old.state.trees goals.items }
+        requires conclusion { FitsGoal self.old.state.trees conclusion }
+        requires made { AreMade self.old.state first (goals_in self.old.state.trees goals.items) premises }
+        requires entry { HasEntry self.old.state b (goal_in self.old.state.trees conclusion) }
+        ensures rules { OnOk result (self.new.rules ≡ self.old.rules ++ (record { name = name; rule = record { premises = numbered first (boundaries_in self.old.state.trees goals.items); conclusion = goal_in self.old.state.trees conclusion } }) ∷ []) }
+        ensures state { OnOk result (self.new.state ≡ with_item self.old.state (rule name premises b)) }
+        ensures new { OnOk result ((is_new (names self.old.rules) name && nat_lt (length self.old.rules) 65536) ≡ true) }
+        ensures none { IsErrOf result fault.NotYet → (is_new (names self.old.rules) name && nat_lt (length self.old.rules) 65536) ≡ false }
+        ensures err { OnErr result (self.new ≡ self.old) }
+    {
+        if self.place(&name).is_some() || self.known.len() >= 65536 {
+            return Err(Fault::NotYet);
+        }
+        let known = Known {
+            name,
+            first,
+            premises: goals,
+            conclusion,
+        };
+        self.add(known, premises, b)?;
+        Ok(())
+    }
+
+    // One more rule, of a new name.
+    fn add(&mut self, known: Known, premises: Metavariables, b: B) -> Result<(), Memory>
+        requires new { is_new (names self.old.rules) known.name ≡ true }
+        requires room { length self.old.rules < 65536 }
+        requires fits { FitsKnown self.old.state.trees known }
+        requires made { AreMade self.old.state known.first (goals_in self.old.state.trees known.premises.items) premises }
+        requires entry { HasEntry self.old.state b (goal_in self.old.state.trees known.conclusion) }
+        ensures rules { OnOk result (self.new.rules ≡ self.old.rules ++ declaration self.old.state.trees known ∷ []) }
+        ensures state { OnOk result (self.new.state ≡ with_item self.old.state (rule known.name premises b)) }
+        ensures err { OnErr result (self.new ≡ self.old) }
+    {
+        let item = RuleItem {
+            name: known.name.copy()?,
+            premises,
+            conclusion: b,
+        };
+        self.known.push(known)?;
+        if let Err(e) = self.kernel.push_rule(item) {
+            self.known.pop();
+            return Err(e);
+        }
+        Ok(())
+    }
+}

@@ -2,7 +2,7 @@ use crate::{Judgements, Kernel, MetItem, Metavariables, RuleItem, Step, VarItem}
 use ft_assume::Assume;
 use ft_base::Name;
 use ft_judge::{Boundary, Domains, Form, Goal, Thesis};
-use ft_syntax::Node;
+use ft_syntax::{Arg, Instance, Node, Pairs};
 use std::test::Fail;
 
 #[test]
@@ -70,5 +70,24 @@ fn the_table_goes_on(rt: HostRuntime) -> Result<(), Fail> {
     assert_eq!(rt; kernel.terms().node(i), Node::Bound(2));
     let applied = kernel.meta(3, &[i])?;
     assert_eq!(rt; kernel.terms().node(applied), Node::Meta(3));
+    Ok(())
+}
+
+#[test]
+fn a_metavariable_has_its_body(rt: HostRuntime) -> Result<(), Fail> {
+    let mut kernel = Kernel::new(rt.alloc());
+    let x = kernel.free(7)?;
+    let e = kernel.meta(3, &[])?;
+    let mut pairs = Pairs::new(rt.alloc());
+    pairs.push((
+        3,
+        Arg {
+            binders: 0,
+            body: Some(x),
+        },
+    ))?;
+    let instance = Instance { pairs };
+    let put = kernel.instantiate(e, &instance)?;
+    assert_eq!(rt; kernel.terms().node(put), Node::Free(7));
     Ok(())
 }

@@ -50,7 +50,7 @@ made_in s m (g ∷ gs) (k ∷ ms) h =
       earlier = λ before. ap₂ (λ S b. is_within S before && b) h.1.3 (more.earlier (before ++ met m ∷ []));
     }
 
-goal_no_thesis : (g : Claim) → IsSimpleGoal g → is_thesis (plain g) ≡ false
+pub goal_no_thesis : (g : Claim) → IsSimpleGoal g → is_thesis (plain g) ≡ false
 goal_no_thesis (is_type A) h = absurd h
 goal_no_thesis (has_type t A) h = absurd h
 goal_no_thesis (equal_types A B) h = absurd h
@@ -64,7 +64,7 @@ theory_length : (ds : List Declaration) → length (theory ds) ≡ length ds
 theory_length [] = refl
 theory_length (d ∷ ds) = ap suc (theory_length ds)
 
-entry_there : (s : State) (b : ℕ) (c : Claim) → HasEntry s b c → entry_named (store_of s.items) b ≡ Some (record { statement = plain c; set = [] })
+pub entry_there : (s : State) (b : ℕ) (c : Claim) → HasEntry s b c → entry_named (store_of s.items) b ≡ Some (record { statement = plain c; set = [] })
 entry_there s b c h = ap (λ es. nth es b) (entries_all empty_store s.items) ∙ h
 
 -- the rule is allowed

@@ -1,16 +1,16 @@
 -- A rule of this language at claims that fit its premises is a step that is allowed.
-use Rattle.std.proofs.Common.{◌≡◌, ◌∙◌, sym, ap, ap₂, refl, subst, ℕ, zero, suc, cond, Bool, true, false, ◌&&◌, List, [], ◌∷◌, map, Option, Some, None, option_map, option_and_then}
+use Rattle.std.proofs.Common.{◌≡◌, ◌∙◌, ap, ap₂, refl, ℕ, cond, true, ◌&&◌, List, [], ◌∷◌, Option, Some, None, option_map, option_and_then}
 use Rattle.ft_theory.specs.Expressions.{Expression, bound, free, symbol, meta, Arguments, no_arguments, with_body, dummy, act, act_arguments}
 use Rattle.ft_theory.specs.Statements.{Claim, is_type, has_type, equal_types, equal_terms, type_goal, term_goal, type_equation_goal, term_equation_goal, Statement, plain, abstracted, map_claim, act_statement, fill_goal}
-use Rattle.ft_theory.specs.Rules.{Rule, rule_at, instance_of, conclusion_at}
-use Rattle.ft_items.specs.Sets.{Atom, unions}
-use Rattle.ft_items.specs.Equal.{fits, fit_all, heads, is_thesis}
-use Rattle.ft_items.specs.Item.{Stated, Item, entry, by_rule}
-use Rattle.ft_items.specs.Store.{Assertion, Store, each, entry_named, rule_of, resolve, with_two, store_of}
-use Rattle.ft_items.specs.Rows.{when, statements, sets, at_arguments, are_arguments, rule_instance}
+use Rattle.ft_theory.specs.Rules.{Rule, rule_at, instance_of}
+use Rattle.ft_items.specs.Sets.{unions}
+use Rattle.ft_items.specs.Equal.{fits, fit_all, heads}
+use Rattle.ft_items.specs.Item.{Item, entry, by_rule}
+use Rattle.ft_items.specs.Store.{Store, each, entry_named, resolve, with_two, store_of}
+use Rattle.ft_items.specs.Rows.{when, statements, sets, rule_instance}
 use Rattle.ft_items.specs.Good.{all_theses, given, Allowed}
-use Rattle.ft_applications.specs.Building.{Declaration, theory, plains}
-use Rattle.ft_run.specs.Session.{IsSimple, AreSimple, IsSimpleClaim, IsSimpleGoal, IsSimpleBoundary, AreSimplePremises, IsSimpleRule, AreSimpleClaims, assertions}
+use Rattle.ft_applications.specs.Building.{plains}
+use Rattle.ft_run.specs.Session.{IsSimple, AreSimple, IsSimpleGoal, IsSimpleBoundary, AreSimplePremises, IsSimpleRule, AreSimpleClaims, assertions}
 
 mutual
   unfolding act

@@ -1,14 +1,13 @@
 -- A rule at what is claimed: each part of the step, by the parts before it.
-use Rattle.std.proofs.Common.{◌≡◌, ◌≢◌, ◌∙◌, sym, ap, ap₂, refl, subst, ℕ, zero, suc, ◌<◌, List, [], ◌∷◌, map, length, Option, Some, None, Bool, true, false, ◌&&◌, not}
+use Rattle.std.proofs.Common.{◌≡◌, ◌∙◌, sym, ap, ap₂, refl, subst, ℕ, List, [], ◌∷◌, map, length, Some, None, Bool, true, false, ◌&&◌}
 use Rattle.ft_theory.specs.Expressions.{Expression, symbol, with_body, dummy}
 use Rattle.ft_theory.specs.Small.{IsSmall, is_small}
 use Rattle.ft_theory.specs.Statements.{Claim, is_type, has_type, equal_types, equal_terms, type_goal, term_goal, type_equation_goal, term_equation_goal, plain, fill_goal}
-use Rattle.ft_theory.specs.Rules.{Rule}
 use Rattle.ft_items.specs.Equal.{fit_all, heads}
 use Rattle.ft_items.specs.Rows.{when}
 use Rattle.ft_syntax.specs.Table.{tree, arguments_in, ArgumentsBelow}
 use Rattle.ft_syntax.specs.declared.syntax.Arg.{Arg}
-use Rattle.ft_judge.specs.Meaning.{claim_in, goal_in, FormBelow, GoalBelow}
+use Rattle.ft_judge.specs.Meaning.{claim_in, goal_in, FormBelow}
 use Rattle.ft_judge.specs.declared.judgement.Form.{Form}
 use Rattle.ft_judge.specs.declared.judgement.Form.TheVariants.{Ty, Tm, EqTy, EqTm}
 use Rattle.ft_judge.specs.declared.judgement.Goal.{Goal}

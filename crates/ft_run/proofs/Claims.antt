@@ -1,12 +1,12 @@
 -- The claims of arguments, one by one.
-use Rattle.std.proofs.Common.{◌≡◌, ◌∙◌, sym, ap, ap₂, refl, subst, ℕ, zero, suc, ◌+◌, ◌<◌, ◌≤◌, List, [], ◌∷◌, ◌++◌, map, take, drop, length, get_or, Option, Some, None, option_map, option_and_then, arith}
+use Rattle.std.proofs.Common.{◌≡◌, ◌∙◌, sym, ap, refl, subst, ℕ, zero, suc, ◌+◌, ◌<◌, ◌≤◌, List, [], ◌∷◌, ◌++◌, map, take, drop, length, get_or, Option, Some, None, option_map, option_and_then, arith}
 use Rattle.std.proofs.lemmas.List.{map-append, take-append-drop, take_all}
 use Rattle.std.proofs.Math.Seq.{take-suc, drop-cons}
 use Rattle.ft_theory.specs.Statements.{Claim}
 use Rattle.ft_theory.specs.Rules.{Rule}
 use Rattle.ft_applications.specs.declared.syntax.Application.{Application}
 use Rattle.ft_applications.specs.declared.syntax.Application.TheOpen.{Application-F}
-use Rattle.ft_applications.specs.declared.syntax.Application.TheFolds.{fold-Application, fold-roll-Application}
+use Rattle.ft_applications.specs.declared.syntax.Application.TheFolds.{fold-roll-Application}
 use Rattle.ft_applications.specs.declared.syntax.Application as opened
 use Rattle.ft_applications.specs.declared.syntax.Application.TheVariants as application
 use Rattle.ft_applications.specs.Building.{Declaration, claim_of, claim_of_layer, all_of, first_named, rule_at_arguments}

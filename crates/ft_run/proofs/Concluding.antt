@@ -1,15 +1,15 @@
 -- The rule at a place of a session, and the step that concludes by it.
-use Rattle.std.proofs.Common.{◌≡◌, ◌∙◌, sym, ap, ap₂, refl, subst, ℕ, zero, suc, ◌+◌, ◌<◌, List, [], ◌∷◌, map, length, get_or, Option, Some, None, option_map, option_and_then, Bool, true, false, if◌then◌else◌, arith}
+use Rattle.std.proofs.Common.{◌≡◌, ◌∙◌, sym, ap, ap₂, refl, subst, ℕ, zero, suc, ◌<◌, List, [], ◌∷◌, map, length, get_or, Option, Some, None, option_map, option_and_then, Bool, true, if◌then◌else◌, arith}
 use Rattle.ft_theory.specs.Expressions.{Expression, symbol}
-use Rattle.ft_theory.specs.Statements.{Claim, Statement, plain, fill_goal}
-use Rattle.ft_theory.specs.Rules.{Rule, rule_at}
+use Rattle.ft_theory.specs.Statements.{plain, fill_goal}
+use Rattle.ft_theory.specs.Rules.{rule_at}
 use Rattle.ft_items.specs.Equal.{fit_all, heads}
 use Rattle.ft_items.specs.Item.{Item, entry, by_rule}
-use Rattle.ft_items.specs.Store.{Assertion, Store, nth, each, entry_named, entries_in, rules_in, empty_store, store_of}
+use Rattle.ft_items.specs.Store.{nth, each, entry_named, rules_in, empty_store, store_of}
 use Rattle.ft_items.specs.Good.{Allowed, Good}
 use Rattle.ft_items.proofs.Lists.{entries_all, store_is}
 use Rattle.std.proofs.lemmas.Bool.{lt-ltb}
-use Rattle.ft_judge.specs.Meaning.{claim_in, goal_in, FormBelow, GoalBelow}
+use Rattle.ft_judge.specs.Meaning.{claim_in, goal_in, GoalBelow}
 use Rattle.ft_judge.specs.declared.judgement.Form.{Form}
 use Rattle.ft_judge.specs.declared.judgement.Goal.{Goal}
 use Rattle.ft_kernel.specs.State.{State, if_below}
@@ -17,7 +17,7 @@ use Rattle.ft_applications.specs.Building.{Declaration, theory, plains}
 use Rattle.ft_run.specs.declared.session.Known.{Known}
 use Rattle.ft_run.specs.declared.session.Claimed.{Claimed}
 use Rattle.ft_run.specs.Given.{fits_goals}
-use Rattle.ft_run.specs.Session.{Progress, numbered, boundaries_in, declaration, declarations, IsSimpleGoal, FitsGoal, AllFitGoals, FitsKnown, AreKnown, IsSession, IsClaimed, AreClaimed, AllBelow, claims_in, IsSimpleRule, AreSimplePremises, AreSimpleClaims, assertions}
+use Rattle.ft_run.specs.Session.{Progress, numbered, boundaries_in, declaration, declarations, IsSimpleGoal, AllFitGoals, FitsKnown, AreKnown, IsSession, AreClaimed, AllBelow, claims_in, IsSimpleRule, AreSimplePremises, AreSimpleClaims, assertions}
 use Rattle.ft_run.specs.Claiming.{rule_in}
 use Rattle.ft_run.proofs.Keeping.{declarations_length, fits_declared}
 use Rattle.ft_run.proofs.Allowed.{rule_allowed}

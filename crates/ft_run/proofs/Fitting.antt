@@ -3,11 +3,9 @@ use Rattle.std.proofs.Common.{◌≡◌, ◌↔◌, ◌∙◌, sym, ap, refl, su
 use Rattle.std.proofs.lemmas.List.{drop_more}
 use Rattle.std.proofs.Math.ListN.{drop_of_length-le}
 use Rattle.ft_theory.specs.Expressions.{Expression}
-use Rattle.ft_items.specs.Equal.{fits_goal, equal_expressions}
+use Rattle.ft_items.specs.Equal.{equal_expressions}
 use Rattle.ft_sound.proofs.EqualLemmas.{expression_true, expression_self}
-use Rattle.ft_syntax.specs.Table.{tree}
-use Rattle.ft_judge.specs.Meaning.{claim_in, goal_in, FormBelow}
-use Rattle.ft_judge.specs.declared.judgement.Form.{Form}
+use Rattle.ft_judge.specs.Meaning.{FormBelow}
 use Rattle.ft_judge.specs.declared.judgement.Goal.{Goal}
 use Rattle.ft_run.specs.declared.session.Claimed.{Claimed}
 use Rattle.ft_run.specs.Session.{AllFitGoals, FitsGoal, AllBelow}

@@ -1,11 +1,11 @@
 -- Claims and goals over a table that goes on.
-use Rattle.std.proofs.Common.{◌≡◌, ℕ, ◌+◌, ◌<◌, ◌≤◌, List, [], ◌∷◌, ◌++◌, refl, sym, ap, ap₂, ◌∙◌, subst, length, map, arith}
+use Rattle.std.proofs.Common.{◌≡◌, ℕ, ◌<◌, ◌≤◌, List, ◌++◌, refl, ap, ap₂, ◌∙◌, length, arith}
 use lib.ListN.{length-append}
 use Rattle.std.proofs.lemmas.List.{get_or_append_left}
 use Rattle.ft_theory.specs.Expressions.{Expression, bound}
-use Rattle.ft_theory.specs.Statements.{Claim, is_type, has_type, equal_types, equal_terms, type_goal, term_goal, type_equation_goal, term_equation_goal, Statement, plain, abstracted}
+use Rattle.ft_theory.specs.Statements.{is_type, has_type, equal_types, equal_terms, term_goal, type_equation_goal, term_equation_goal}
 use Rattle.ft_syntax.specs.Table.{tree, Extends}
-use Rattle.ft_judge.specs.Meaning.{claim_in, goal_in, under, thesis_in, boundary_in, FormBelow, GoalBelow, ThesisBelow, BoundaryBelow}
+use Rattle.ft_judge.specs.Meaning.{claim_in, goal_in, FormBelow, GoalBelow}
 use Rattle.ft_judge.specs.declared.judgement.Form.{Form}
 use Rattle.ft_judge.specs.declared.judgement.Form.TheVariants.{Ty, Tm, EqTy, EqTm}
 use Rattle.ft_judge.specs.declared.judgement.Goal.{Goal}

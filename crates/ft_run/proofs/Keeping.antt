@@ -1,13 +1,14 @@
 -- What stays as a session goes on.
-use Rattle.std.proofs.Common.{◌≡◌, ◌∙◌, sym, ap, ap₂, refl, subst, ℕ, zero, suc, ◌+◌, ◌<◌, List, [], ◌∷◌, ◌++◌, map, length, Option, Some, None, append_assoc, append-nil, get_or, slice_get, ◌&&◌, arith, Result, Ok, Err, IfOk, OnOk, OnErr}
+use Rattle.std.proofs.Common.{◌≡◌, ◌∙◌, sym, ap, ap₂, refl, subst, ℕ, zero, suc, List, [], ◌∷◌, ◌++◌, map, length, Some, append_assoc, append-nil, ◌&&◌, Result, Ok, Err, IfOk, OnOk, OnErr}
 use Rattle.ft_base.specs.declared.memory.Memory.{Memory}
 use Rattle.ft_theory.specs.Expressions.{Expression}
-use Rattle.ft_theory.specs.Statements.{Claim, Statement, plain}
+use Rattle.ft_theory.specs.Statements.{Claim, plain}
 use Rattle.ft_items.specs.Item.{Item, Entry, variable, metavariable, rule, entry, shown}
-use Rattle.ft_items.specs.Store.{Assertion, nth, entries_in, empty_store, store_of}
+use Rattle.ft_items.specs.Store.{nth, entries_in, empty_store, store_of}
 use Rattle.ft_items.proofs.Lists.{store_last}
+use Rattle.std.proofs.lemmas.List.{map-append}
 use Rattle.ft_syntax.specs.Table.{Extends}
-use Rattle.ft_judge.specs.Meaning.{claim_in, goal_in}
+use Rattle.ft_judge.specs.Meaning.{claim_in}
 use Rattle.ft_judge.specs.declared.judgement.Goal.{Goal}
 use Rattle.ft_kernel.specs.State.{State, with_item}
 use Rattle.ft_run.proofs.Forms.{form_kept, goal_kept, form_below, goal_below}
@@ -16,10 +17,10 @@ use Rattle.ft_run.specs.declared.session.Known.{Known}
 use Rattle.ft_run.specs.declared.session.Claimed.{Claimed}
 use Rattle.ft_items.specs.Equal.{fit_all}
 use Rattle.ft_run.specs.Given.{fits_one, fits_goals}
-use Rattle.ft_run.specs.Session.{Progress, numbered, boundaries_in, declaration, declarations, IsSimpleGoal, IsSimpleClaim, FitsGoal, AllFitGoals, FitsKnown, AreKnown, IsSession, HasEntry, IsClaimed, AreClaimed, claims_in, Keeps}
+use Rattle.ft_run.specs.Session.{Progress, numbered, boundaries_in, declarations, IsSimpleGoal, IsSimpleClaim, FitsGoal, AllFitGoals, AreKnown, IsSession, HasEntry, IsClaimed, AreClaimed, claims_in, Keeps}
 
 module _ (ts us : List Expression) (x : Extends ts us) where
-  boundaries_kept : (gs : List Goal) → AllFitGoals ts gs → boundaries_in us gs ≡ boundaries_in ts gs
+  pub boundaries_kept : (gs : List Goal) → AllFitGoals ts gs → boundaries_in us gs ≡ boundaries_in ts gs
   boundaries_kept [] h = refl
   boundaries_kept (g ∷ gs) h = ap₂ (λ c bs. plain c ∷ bs) (goal_kept ts us x g h.0.0) (boundaries_kept gs h.1)
 
@@ -33,7 +34,7 @@ module _ (ts us : List Expression) (x : Extends ts us) where
   goal_fits : (g : Goal) → FitsGoal ts g → FitsGoal us g
   goal_fits g h = (goal_below ts us x g h.0, subst IsSimpleGoal (sym (goal_kept ts us x g h.0)) h.1)
 
-  goals_fit : (gs : List Goal) → AllFitGoals ts gs → AllFitGoals us gs
+  pub goals_fit : (gs : List Goal) → AllFitGoals ts gs → AllFitGoals us gs
   goals_fit [] h = tt
   goals_fit (g ∷ gs) h = (goal_fits g h.0, goals_fit gs h.1)
 
@@ -55,19 +56,45 @@ pub keeps_extends : (s t : State) (ks : List Known) → IsSession s ks → Exten
     → Keeps (record { state = s; rules = declarations s.trees ks }) (record { state = t; rules = declarations t.trees ks })
 keeps_extends s t ks h x e = record {
   trees = x;
-  entries = λ j c q. subst (λ is. nth (entries_in is) j ≡ Some (record { statement = plain c; set = [] })) (sym e) q;
+  items = ([], e ∙ sym (append-nil s.items));
   rules = declarations_kept s.trees t.trees x ks h.known;
 }
 
 pub keeps_same : (p : Progress) → Keeps p p
-keeps_same p = record { trees = ([], sym (append-nil p.state.trees)); entries = λ j c q. q; rules = refl }
+keeps_same p = record { trees = ([], sym (append-nil p.state.trees)); items = ([], sym (append-nil p.state.items)); rules = refl }
 
 pub keeps_then : (p q r : Progress) → Keeps p q → Keeps q r → Keeps p r
 keeps_then p q r f g = record {
   trees = (f.trees.0 ++ g.trees.0, g.trees.1 ∙ ap (λ ts. ts ++ g.trees.0) f.trees.1 ∙ append_assoc p.state.trees f.trees.0 g.trees.0);
-  entries = λ j c e. g.entries j c (f.entries j c e);
+  items = (
+    f.items.0 ++ g.items.0,
+    g.items.1 ∙ ap (λ is. is ++ map entry g.items.0) f.items.1 ∙ append_assoc p.state.items (map entry f.items.0) (map entry g.items.0)
+        ∙ ap (λ is. p.state.items ++ is) (sym (map-append entry f.items.0 g.items.0)),
+  );
   rules = g.rules ∙ f.rules;
 }
+
+entries_append : (xs ys : List Item) → entries_in (xs ++ ys) ≡ entries_in xs ++ entries_in ys
+entries_append [] ys = refl
+entries_append (variable v n p ∷ xs) ys = entries_append xs ys
+entries_append (metavariable n p ∷ xs) ys = entries_append xs ys
+entries_append (rule n ms p ∷ xs) ys = entries_append xs ys
+entries_append (entry e ∷ xs) ys = ap (λ es. record { statement = e.statement; set = e.set } ∷ es) (entries_append xs ys)
+entries_append (shown p ∷ xs) ys = entries_append xs ys
+
+pub nth_front : {A : Type 0} (xs ys : List A) (k : ℕ) (a : A) → nth xs k ≡ Some a → nth (xs ++ ys) k ≡ Some a
+nth_front [] ys k a e = cc
+nth_front (x ∷ xs) ys zero a e = e
+nth_front (x ∷ xs) ys (suc k) a e = nth_front xs ys k a e
+
+-- an entry stays, whatever comes after
+pub entry_stays : (s t : State) (more : List Item) (j : ℕ) (c : Claim) → t.items ≡ s.items ++ more → HasEntry s j c → HasEntry t j c
+entry_stays s t more j c e h =
+    ap (λ is. nth (entries_in is) j) e ∙ ap (λ es. nth es j) (entries_append s.items more)
+    ∙ nth_front (entries_in s.items) (entries_in more) j (record { statement = plain c; set = [] }) h
+
+pub entry_kept : (p q : Progress) (j : ℕ) (c : Claim) → Keeps p q → HasEntry p.state j c → HasEntry q.state j c
+entry_kept p q j c k h = entry_stays p.state q.state (map entry k.items.0) j c k.items.1 h
 
 pub claimed_kept : (p q : Progress) (x : Claimed) → Keeps p q → IsClaimed p.state x → (claim_in q.state.trees x.form ≡ claim_in p.state.trees x.form) × IsClaimed q.state x
 claimed_kept p q x k h =
@@ -76,7 +103,7 @@ claimed_kept p q x k h =
       record {
         below = form_below p.state.trees q.state.trees k.trees x.form h.below;
         simple = subst IsSimpleClaim (sym same) h.simple;
-        entry = subst (HasEntry q.state x.entry) (sym same) (k.entries x.entry (claim_in p.state.trees x.form) h.entry);
+        entry = subst (HasEntry q.state x.entry) (sym same) (entry_kept p q x.entry (claim_in p.state.trees x.form) k h.entry);
       },
     )
 
@@ -87,20 +114,7 @@ all_claimed_kept p q (x ∷ xs) k h =
     let more = all_claimed_kept p q xs k h.1 in
     (ap₂ (λ c cs. c ∷ cs) one.0 more.0, (one.1, more.1))
 
-entries_last : (items : List Item) (e : Entry) → entries_in (items ++ entry e ∷ []) ≡ entries_in items ++ record { statement = e.statement; set = e.set } ∷ []
-entries_last [] e = refl
-entries_last (variable v n p ∷ items) e = entries_last items e
-entries_last (metavariable n p ∷ items) e = entries_last items e
-entries_last (rule n ms p ∷ items) e = entries_last items e
-entries_last (entry f ∷ items) e = ap (λ xs. record { statement = f.statement; set = f.set } ∷ xs) (entries_last items e)
-entries_last (shown p ∷ items) e = entries_last items e
-
-nth_front : {A : Type 0} (xs ys : List A) (k : ℕ) (a : A) → nth xs k ≡ Some a → nth (xs ++ ys) k ≡ Some a
-nth_front [] ys k a e = cc
-nth_front (x ∷ xs) ys zero a e = e
-nth_front (x ∷ xs) ys (suc k) a e = nth_front xs ys k a e
-
-nth_after : {A : Type 0} (xs : List A) (a : A) → nth (xs ++ a ∷ []) (length xs) ≡ Some a
+pub nth_after : {A : Type 0} (xs : List A) (a : A) → nth (xs ++ a ∷ []) (length xs) ≡ Some a
 nth_after [] a = refl
 nth_after (x ∷ xs) a = nth_after xs a
 
@@ -117,12 +131,12 @@ session_entry s e ks h =
 pub keeps_entry : (s : State) (e : Entry) (ds : List Declaration) → Keeps (record { state = s; rules = ds }) (record { state = with_item s (entry e); rules = ds })
 keeps_entry s e ds = record {
   trees = ([], sym (append-nil s.trees));
-  entries = λ j c q. ap (λ es. nth es j) (entries_last s.items e) ∙ nth_front (entries_in s.items) (record { statement = e.statement; set = e.set } ∷ []) j (record { statement = plain c; set = [] }) q;
+  items = (e ∷ [], refl);
   rules = refl;
 }
 
 pub has_entry : (s : State) (e : Entry) → nth (entries_in (with_item s (entry e)).items) (length (entries_in s.items)) ≡ Some (record { statement = e.statement; set = e.set })
-has_entry s e = ap (λ es. nth es (length (entries_in s.items))) (entries_last s.items e) ∙ nth_after (entries_in s.items) (record { statement = e.statement; set = e.set })
+has_entry s e = ap (λ es. nth es (length (entries_in s.items))) (entries_append s.items (entry e ∷ [])) ∙ nth_after (entries_in s.items) (record { statement = e.statement; set = e.set })
 
 pub declarations_length : (ts : List Expression) (ks : List Known) → length (declarations ts ks) ≡ length ks
 declarations_length ts [] = refl

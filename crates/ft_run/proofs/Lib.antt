@@ -9,3 +9,8 @@ pub mod Naming
 pub mod Claims
 pub mod Printing
 pub mod Accepted
+pub mod Going
+pub mod Types
+pub mod Premises
+pub mod Shown
+pub mod Lines

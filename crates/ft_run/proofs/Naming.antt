@@ -1,15 +1,14 @@
 -- The place of the first rule of a name.
-use Rattle.std.proofs.Common.{◌≡◌, ◌∙◌, sym, ap, ap₂, refl, subst, ℕ, zero, suc, ◌+◌, ◌<◌, List, [], ◌∷◌, map, length, Option, Some, None, option_map, Bool, true, false, cond, if◌then◌else◌, arith, IfSome, IfNone}
+use Rattle.std.proofs.Common.{◌≡◌, ◌∙◌, sym, ap, refl, subst, ℕ, zero, suc, ◌+◌, ◌<◌, List, [], ◌∷◌, length, Option, Some, None, option_map, Bool, true, false, cond, if◌then◌else◌, arith, IfSome, IfNone}
 use Rattle.ft_items.specs.Good.{equal_names}
 use Rattle.ft_kernel.specs.State.{State, place_of_name}
 use Rattle.ft_applications.specs.Building.{Declaration, names, first_named}
 use Rattle.ft_theory.specs.Expressions.{Expression}
-use Rattle.ft_theory.specs.Rules.{Rule}
 use Rattle.ft_run.specs.declared.session.Known.{Known}
 use Rattle.ft_run.specs.Session.{Progress, declarations}
 use Rattle.ft_run.specs.Claiming.{rule_in, names_known}
 
-names_declared : (ts : List Expression) (ks : List Known) → names (declarations ts ks) ≡ names_known ks
+pub names_declared : (ts : List Expression) (ks : List Known) → names (declarations ts ks) ≡ names_known ks
 names_declared ts [] = refl
 names_declared ts (k ∷ ks) = ap (λ ns. k.name ∷ ns) (names_declared ts ks)
 

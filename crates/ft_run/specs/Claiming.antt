@@ -1,5 +1,5 @@
 -- What a rule at a place claims at arguments.
-use Rattle.std.specs.Prelude.{ℕ, zero, suc, ◌+◌, ◌≡◌, List, [], ◌∷◌, map, Option, option_and_then}
+use Rattle.std.specs.Prelude.{ℕ, zero, suc, ◌+◌, List, [], ◌∷◌, map, Option, option_and_then}
 use Rattle.ft_theory.specs.Statements.{Claim, type_goal}
 use Rattle.ft_theory.specs.Rules.{Rule}
 use Rattle.ft_applications.specs.Building.{Declaration, first_named, rule_at_arguments}

@@ -1,5 +1,5 @@
 -- What is done with the claims that are given as arguments.
-use Rattle.std.specs.Prelude.{ℕ, ◌&&◌, Bool, true, false, List, [], ◌∷◌, Some, None}
+use Rattle.std.specs.Prelude.{◌&&◌, Bool, true, false, List, [], ◌∷◌}
 use Rattle.ft_theory.specs.Expressions.{Expression}
 use Rattle.ft_items.specs.Equal.{fits_goal}
 use Rattle.ft_syntax.specs.declared.syntax.Arg.{Arg}

@@ -1,4 +1,6 @@
 pub mod Session
 pub mod Given
 pub mod Claiming
+pub mod Asking
 pub mod Printing
+pub mod Declaring

@@ -1,15 +1,14 @@
 -- What a session stands for: the state of its kernel, and the declarations of the language of applications.
-use Rattle.std.specs.Prelude.{ℕ, zero, suc, ◌≡◌, ◌+◌, ◌<◌, List, [], ◌∷◌, ◌++◌, map, length, Option, Some}
+use Rattle.std.specs.Prelude.{ℕ, suc, ◌≡◌, List, [], ◌∷◌, ◌++◌, map, length, Some}
 use Rattle.ft_theory.specs.Expressions.{Expression, bound, free, symbol, meta, Arguments, no_arguments, with_body, dummy}
 use Rattle.ft_theory.specs.Statements.{Claim, is_type, has_type, equal_types, equal_terms, type_goal, term_goal, type_equation_goal, term_equation_goal, Statement, plain, abstracted}
 use Rattle.ft_theory.specs.Rules.{Rule}
-use Rattle.ft_items.specs.Item.{Item}
-use Rattle.ft_items.specs.Store.{Assertion, Declared, Store, nth, store_of, entries_in}
+use Rattle.ft_items.specs.Item.{Item, Entry, entry}
+use Rattle.ft_items.specs.Store.{Assertion, Declared, nth, store_of, entries_in, metavariables_in}
 use Rattle.ft_judge.specs.Meaning.{claim_in, goal_in, FormBelow, GoalBelow}
-use Rattle.ft_judge.specs.declared.judgement.Form.{Form}
 use Rattle.ft_judge.specs.declared.judgement.Goal.{Goal}
 use Rattle.ft_kernel.specs.State.{State}
-use Rattle.ft_applications.specs.Building.{Declaration, theory, names}
+use Rattle.ft_applications.specs.Building.{Declaration, theory, names, metavariable_count}
 use Rattle.ft_run.specs.declared.session.Known.{Known}
 use Rattle.ft_run.specs.declared.session.Claimed.{Claimed}
 
@@ -114,11 +113,21 @@ AllBelow n (x ∷ xs) = FormBelow n x.form × AllBelow n xs
 abbrev pub claims_in : List Expression → List Claimed → List Claim
 claims_in ts xs = map (λ x. claim_in ts x.form) xs
 
--- the later state goes on from the earlier one, with the same rules
+-- the later state has further trees and further entries, no other further item, and the same rules
 pub record Keeps (p q : Progress) : Type 0 where
   pub trees : (more : List Expression) × (q.state.trees ≡ p.state.trees ++ more)
-  pub entries : (j : ℕ) (c : Claim) → HasEntry p.state j c → HasEntry q.state j c
+  pub items : (es : List Entry) × (q.state.items ≡ p.state.items ++ map entry es)
   pub rules : q.rules ≡ p.rules
+
+-- the later state has further trees and further items, and the same rules
+pub record GoesOn (p q : Progress) : Type 0 where
+  pub trees : (more : List Expression) × (q.state.trees ≡ p.state.trees ++ more)
+  pub items : (more : List Item) × (q.state.items ≡ p.state.items ++ more)
+  pub rules : q.rules ≡ p.rules
+
+-- the list has no other metavariables than those of its rules
+abbrev pub IsCounted : Progress → Type 0
+IsCounted p = length (metavariables_in p.state.items) ≡ metavariable_count p.rules
 
 -- a boundary without domains, with a simple goal
 abbrev pub IsSimpleBoundary : Statement → Type 0

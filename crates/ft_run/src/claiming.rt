@@ -27,7 +27,7 @@ use ft_kernel::{J, RuleId, Step};
 use ft_syntax::{Arg, E, SynFault};
 
 // The name and the arguments of an application.
-fn parts<'a>(a: &'a Application) -> (&'a Name, &'a [Application])
+pub(crate) fn parts<'a>(a: &'a Application) -> (&'a Name, &'a [Application])
     ensures { a.now ≡ tree_of.Apply result.0.now result.1.now }
 {
     match a {

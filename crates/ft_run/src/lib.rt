@@ -1,9 +1,12 @@
-//! Rules that are accepted, what expressions claim over them, and the texts of claims.
+//! Rules that are declared over a kernel, what expressions claim over them, and the lines of commands that are run.
 #![tactic(auto)]
 
 mod accepting;
+mod asking;
 mod claiming;
+mod declaring;
 mod given;
+mod running;
 mod session;
 #[cfg(test)]
 mod tests;

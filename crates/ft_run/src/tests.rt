@@ -1,13 +1,95 @@
-//! A session without rules, and the texts of claims.
+//! What sessions write for some sources, a session without rules, and the texts of claims.
 
 use crate::session::{Known, Session};
 use crate::texts::push_claim;
-use ft_applications::{Application, Fault};
+use ft_applications::{Application, Fault, read_source};
 use ft_base::{Name, Text};
 use ft_judge::{Form, Goal};
 use ft_kernel::Kernel;
 use sqlite_items::Items;
+use std::alloc::Global;
 use std::test::Fail;
+
+const NATURALS: &str = "rule Nat type\nrule O : Nat\nrule S (n : Nat) : Nat\n";
+
+const ACCEPTED: &str = "accepted Nat\naccepted O\naccepted S\n";
+
+// Whether a new session writes the text for the source; or, without a text, does not build it.
+fn gives(alloc: Global, source: &str, text: Option<&str>) -> Result<bool, Fail> {
+    let commands = read_source(alloc, source.as_bytes())?;
+    let mut session = Session::new(alloc);
+    let mut out = Text::new(alloc);
+    match session.run(commands.as_slice(), &mut out) {
+        Ok(()) => Ok(text == str::from_utf8(out.bytes()).ok()),
+        Err(Fault::NotYet) => Ok(text == None),
+        Err(Fault::Memory) => Ok(false),
+    }
+}
+
+#[test]
+fn the_natural_numbers_are_accepted_and_shown(rt: HostRuntime) -> Result<(), Fail> {
+    let alloc = rt.alloc();
+    let source = format!(in alloc; "{NATURALS}show S (S O)\nshow Nat\n")?;
+    let text = format!(in alloc; "{ACCEPTED}|- S(S(O)) : Nat\n|- Nat type\n")?;
+    assert!(rt; gives(alloc, &source, Some(&text))?);
+    Ok(())
+}
+
+#[test]
+fn arguments_stand_in_their_order(rt: HostRuntime) -> Result<(), Fail> {
+    let alloc = rt.alloc();
+    let source = format!(in alloc;
+        "{NATURALS}rule Pair (A type) (n : Nat) type\nshow Pair Nat (S O)\n"
+    )?;
+    let text = format!(in alloc; "{ACCEPTED}accepted Pair\n|- Pair(Nat, S(O)) type\n")?;
+    assert!(rt; gives(alloc, &source, Some(&text))?);
+    Ok(())
+}
+
+#[test]
+fn a_premise_hides_a_rule_from_those_after_it(rt: HostRuntime) -> Result<(), Fail> {
+    let alloc = rt.alloc();
+    let first = "rule Nat type\nrule F (Nat : Nat) type\n";
+    assert!(rt; gives(alloc, first, Some("accepted Nat\naccepted F\n"))?);
+    assert!(rt;
+        gives(
+            alloc,
+            "rule Nat type\nrule F (Nat : Nat) (n : Nat) type\n",
+            None
+        )?
+    );
+    assert!(rt; gives(alloc, "rule Nat type\nrule F (Nat : Nat) : Nat\n", None)?);
+    Ok(())
+}
+
+#[test]
+fn what_is_not_built_is_told(rt: HostRuntime) -> Result<(), Fail> {
+    let alloc = rt.alloc();
+    assert!(rt; gives(alloc, "rule Nat type\nrule Nat type\n", None)?);
+    assert!(rt; gives(alloc, "rule F (A type) (A type) type\n", None)?);
+    let with_two = format!(in alloc; "{NATURALS}show S O O\n")?;
+    assert!(rt; gives(alloc, &with_two, None)?);
+    let with_none = format!(in alloc; "{NATURALS}show S\n")?;
+    assert!(rt; gives(alloc, &with_none, None)?);
+    let of_a_type = format!(in alloc; "{NATURALS}show S Nat\n")?;
+    assert!(rt; gives(alloc, &of_a_type, None)?);
+    let of_another = format!(in alloc; "{NATURALS}rule Bit type\nrule Zero : Bit\nshow S Zero\n")?;
+    assert!(rt; gives(alloc, &of_another, None)?);
+    Ok(())
+}
+
+#[test]
+fn a_rule_without_premises_is_claimed(rt: HostRuntime) -> Result<(), Fail> {
+    let alloc = rt.alloc();
+    let commands = read_source(alloc, b"rule Nat type\n")?;
+    let mut session = Session::new(alloc);
+    let mut out = Text::new(alloc);
+    session.run(commands.as_slice(), &mut out)?;
+    let nat = Name::new(alloc, "Nat")?.ok_or("no name")?;
+    let claimed = session.claim(&Application::Apply(nat, Items::new(alloc)))?;
+    assert!(rt; matches!(claimed.form, Form::Ty(_)));
+    Ok(())
+}
 
 #[test]
 fn nothing_is_claimed_without_rules(rt: HostRuntime) -> Result<(), Fail> {

@@ -1,4 +1,4 @@
-use Rattle.std.proofs.Common.{◌≡◌, length, drop}
+use Rattle.std.proofs.Common.{◌≡◌, drop}
 use Rattle.ft_run.specs.Given.{fits_goals}
 use Rattle.ft_run.proofs.given.all_fit.Given as goal
 

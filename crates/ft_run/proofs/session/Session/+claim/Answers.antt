@@ -1,9 +1,7 @@
-use Rattle.std.proofs.Common.{◌≡◌, ◌∙◌, ◌<◌, ◌≤◌, sym, ap, subst, length, None, Some, IfOk, IsErrOf, rules, map, take}
+use Rattle.std.proofs.Common.{◌≡◌, ◌∙◌, ◌<◌, ◌≤◌, sym, ap, subst, length, None, Some, IfOk, rules, map, take}
 use Rattle.ft_applications.specs.Building.{claim_of, all_of}
-use Rattle.ft_applications.specs.declared.fault.Fault.TheVariants as fault
 use Rattle.ft_judge.specs.Meaning.{claim_in}
 use Rattle.ft_run.specs.Session.{claims_in}
-use Rattle.ft_run.specs.Claiming.{named_at}
 use Rattle.ft_run.proofs.Keeping.{keeps_then}
 use Rattle.ft_run.proofs.Claims.{given_next, claims_next, claims_none, claim_named}
 use Rattle.ft_run.proofs.session.Session.+claim.Goals as goal
@@ -41,3 +39,12 @@ returns-clause-none t c = λ h.
     c.loop-argument.invariant.claims ∙ ap (λ xs. Some (claims_in c.loop-argument.self.state.trees xs)) (sym c.deref.ensures.value) in
     claim_named c.args.self.now.rules c.loop-argument.self c.parts.result.1.now c.loop-argument.argument-index c.args.a.now c.parts.result.0.now (claims_in c.loop-argument.self.state.trees c.deref.result.now)
     c.loop-argument.invariant.keeps.rules c.parts.ensures ended claims ∙ c.apply_named.ensures.none h
+
+pub returns-in_err-claim-clause-keeps : goal.returns-in_err-claim-clause-keeps
+returns-in_err-claim-clause-keeps t c = keeps_then c.args.self.now c.loop-argument.self c.claim.new.self c.loop-argument.invariant.keeps c.claim.ensures.keeps
+
+pub returns-in_err-push-clause-keeps : goal.returns-in_err-push-clause-keeps
+returns-in_err-push-clause-keeps t c = keeps_then c.args.self.now c.loop-argument.self c.claim.new.self c.loop-argument.invariant.keeps c.claim.ensures.keeps
+
+pub returns-clause-keeps : goal.returns-clause-keeps
+returns-clause-keeps t c = keeps_then c.args.self.now c.loop-argument.self c.apply_named.new.self c.loop-argument.invariant.keeps c.apply_named.ensures.keeps

@@ -1,12 +1,6 @@
 use Rattle.std.proofs.Common.{◌≡◌, ◌∙◌, length, map}
-use Rattle.ft_theory.specs.Expressions.{symbol}
-use Rattle.ft_theory.specs.Statements.{fill_goal}
-use Rattle.ft_items.specs.Equal.{heads}
 use Rattle.ft_judge.specs.Meaning.{claim_in}
-use Rattle.ft_applications.specs.Building.{plains}
 use Rattle.ft_run.specs.Given.{argument_of}
-use Rattle.ft_run.specs.Session.{claims_in}
-use Rattle.ft_run.specs.Claiming.{rule_in}
 use Rattle.ft_run.proofs.Keeping.{all_claimed_kept}
 use Rattle.ft_run.proofs.Applying.{concludes, concludes_before, fit_some, is_claimed}
 use Rattle.ft_run.proofs.session.Session.apply.Goals as goal
@@ -31,3 +25,6 @@ returns-clause-claim c =
     fit_some c.args.self.now c.args.place c.args.given.now c.deref.result.now c.fits.result (claim_in c.conclude.new.self.state.trees c.filled-form.result)
     heads_given c.fits.ensures c.if-not-fits.false c.in_ok-head.ensures.small
     (concludes_before c.args.self.now c.symbol.new.self c.args.place c.args.given.now c.conclude.new.self.state.trees c.filled-form.result c.symbol.ensures.keeps c.requires.given c.conclude.ensures.trees claim)
+
+pub conclude-requires-clause-below : goal.conclude-requires-clause-below
+conclude-requires-clause-below c = c.filled-form.ensures.below (length c.symbol.new.self.state.trees) c.conclusion.ensures.below c.in_ok-head.ensures.within

@@ -1,4 +1,4 @@
-use Rattle.std.proofs.Common.{◌≡◌, ◌∙◌, ap, ap₂, sym, subst, IfOk, [], ℕ, List}
+use Rattle.std.proofs.Common.{◌≡◌, ap₂, subst, IfOk, [], ℕ, List}
 use Rattle.ft_theory.specs.Statements.{plain}
 use Rattle.ft_items.specs.Item.{Entry}
 use Rattle.ft_items.specs.Sets.{Atom}

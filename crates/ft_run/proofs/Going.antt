@@ -1,0 +1,159 @@
+-- Metavariables of a session as it goes on.
+use Rattle.std.proofs.Common.{◌≡◌, ◌∙◌, sym, ap, refl, subst, ℕ, suc, List, [], ◌∷◌, ◌++◌, map, length, Option, Some, None, append_assoc, append-nil, Result, Ok, Err, IfOk, OnOk, OnErr}
+use Rattle.ft_base.specs.declared.memory.Memory.{Memory}
+use Rattle.ft_theory.specs.Statements.{Claim, plain}
+use Rattle.ft_items.specs.Item.{Name, Item, Entry, variable, metavariable, rule, entry, shown}
+use Rattle.ft_items.specs.Store.{Assertion, Declared, Store, nth, each, entry_named, metavariable_named, add_variable, add_metavariable, add_rule, add, add_all, empty_store, store_of, metavariables_in}
+use Rattle.ft_items.specs.Good.{Allowed, Good}
+use Rattle.ft_items.proofs.Lists.{store_last, store_is}
+use Rattle.ft_kernel.specs.State.{State, with_item}
+use Rattle.ft_run.specs.declared.session.Known.{Known}
+use Rattle.ft_run.specs.Session.{Progress, declarations, IsSession, HasEntry, HasMet, AreMade, Keeps, GoesOn}
+use Rattle.ft_run.specs.Asking.{HasGoal}
+use Rattle.ft_run.proofs.Keeping.{nth_front, nth_after}
+use Rattle.ft_run.proofs.Accepted.{entry_there, goal_no_thesis}
+
+map_length : {A B : Type 0} (f : A → B) (xs : List A) → length (map f xs) ≡ length xs
+map_length f [] = refl
+map_length f (x ∷ xs) = ap suc (map_length f xs)
+
+metavariables_append : (xs ys : List Item) → metavariables_in (xs ++ ys) ≡ metavariables_in xs ++ metavariables_in ys
+metavariables_append [] ys = refl
+metavariables_append (variable v n p ∷ xs) ys = metavariables_append xs ys
+metavariables_append (metavariable n p ∷ xs) ys = ap (λ ms. (n, p) ∷ ms) (metavariables_append xs ys)
+metavariables_append (rule n ms p ∷ xs) ys = metavariables_append xs ys
+metavariables_append (entry e ∷ xs) ys = metavariables_append xs ys
+metavariables_append (shown p ∷ xs) ys = metavariables_append xs ys
+
+no_metavariables : (es : List Entry) → metavariables_in (map entry es) ≡ []
+no_metavariables [] = refl
+no_metavariables (e ∷ es) = no_metavariables es
+
+-- entries are no metavariables
+pub same_metavariables : (p q : Progress) → Keeps p q → metavariables_in q.state.items ≡ metavariables_in p.state.items
+same_metavariables p q k =
+    ap metavariables_in k.items.1 ∙ metavariables_append p.state.items (map entry k.items.0)
+    ∙ ap (λ ms. metavariables_in p.state.items ++ ms) (no_metavariables k.items.0) ∙ append-nil (metavariables_in p.state.items)
+
+pub length_last : {A : Type 0} (xs : List A) (x : A) → length (xs ++ x ∷ []) ≡ suc (length xs)
+length_last [] x = refl
+length_last (y ∷ xs) x = ap suc (length_last xs x)
+
+-- one more metavariable
+pub one_more : (s : State) (n : Name) (b : ℕ) → length (metavariables_in (with_item s (metavariable n b)).items) ≡ suc (length (metavariables_in s.items))
+one_more s n b = ap length (metavariables_append s.items (metavariable n b ∷ [])) ∙ length_last (metavariables_in s.items) (n, b)
+
+-- a rule is none
+pub none_more : (s : State) (n : Name) (ms : List ℕ) (b : ℕ) → metavariables_in (with_item s (rule n ms b)).items ≡ metavariables_in s.items
+none_more s n ms b = metavariables_append s.items (rule n ms b ∷ []) ∙ append-nil (metavariables_in s.items)
+
+-- Metavariables stay.
+
+variable_stays : (W : Store) (v : ℕ) (n : Name) (o : Option Assertion) → (add_variable W v n o).metavariables ≡ W.metavariables
+variable_stays W v n None = refl
+variable_stays W v n (Some a) = refl
+
+rule_stays : (W : Store) (n : Name) (os : Option (List (ℕ × Declared))) (o : Option Assertion) → (add_rule W n os o).metavariables ≡ W.metavariables
+rule_stays W n None o = refl
+rule_stays W n (Some ds) None = refl
+rule_stays W n (Some ds) (Some a) = refl
+
+metavariable_stays : (W : Store) (n : Name) (o : Option Assertion) (m : ℕ) (d : Declared) → nth W.metavariables m ≡ Some d → nth (add_metavariable W n o).metavariables m ≡ Some d
+metavariable_stays W n None m d e = e
+metavariable_stays W n (Some a) m d e = nth_front W.metavariables (record { name = n; boundary = a.statement; set = a.set } ∷ []) m d e
+
+stays_after : (W : Store) (i : Item) (m : ℕ) (d : Declared) → nth W.metavariables m ≡ Some d → nth (add W i).metavariables m ≡ Some d
+stays_after W (variable v n p) m d e = ap (λ ds. nth ds m) (variable_stays W v n (entry_named W p)) ∙ e
+stays_after W (metavariable n p) m d e = metavariable_stays W n (entry_named W p) m d e
+stays_after W (rule n ms p) m d e = ap (λ ds. nth ds m) (rule_stays W n (each (metavariable_named W) ms) (entry_named W p)) ∙ e
+stays_after W (entry f) m d e = e
+stays_after W (shown p) m d e = e
+
+stays_after_all : (W : Store) (is : List Item) (m : ℕ) (d : Declared) → nth W.metavariables m ≡ Some d → nth (add_all W is).metavariables m ≡ Some d
+stays_after_all W [] m d e = e
+stays_after_all W (i ∷ is) m d e = stays_after_all (add W i) is m d (stays_after W i m d e)
+
+pub add_append : (W : Store) (is js : List Item) → add_all W (is ++ js) ≡ add_all (add_all W is) js
+add_append W [] js = refl
+add_append W (i ∷ is) js = add_append (add W i) is js
+
+met_stays : (s t : State) (more : List Item) (m : ℕ) (g : Claim) → t.items ≡ s.items ++ more → HasMet s m g → HasMet t m g
+met_stays s t more m g e h =
+    let there : store_of t.items ≡ add_all (store_of s.items) more = ap store_of e ∙ add_append empty_store s.items more in
+    (h.0, ap (λ (W : Store). nth W.metavariables m) there ∙ stays_after_all (store_of s.items) more m h.0 h.1, h.2, h.3)
+
+-- what was made stays made
+pub made_stays : (s t : State) (more : List Item) (m : ℕ) (gs : List Claim) (ms : List ℕ) → t.items ≡ s.items ++ more → AreMade s m gs ms → AreMade t m gs ms
+made_stays s t more m [] [] e h = tt
+made_stays s t more m [] (k ∷ ms) e h = absurd h
+made_stays s t more m (g ∷ gs) [] e h = absurd h
+made_stays s t more m (g ∷ gs) (k ∷ ms) e h = (h.0, met_stays s t more m g e h.1, made_stays s t more (suc m) gs ms e h.2)
+
+-- A metavariable for a goal.
+
+pub met_allowed : (s : State) (n : Name) (b : ℕ) → HasGoal s b → Allowed s.items (metavariable n b)
+met_allowed s n b h = (record { statement = plain h.0; set = [] }, entry_there s b h.0 h.2, goal_no_thesis h.0 h.1, refl)
+
+pub met_made : (s t : State) (n : Name) (b m : ℕ) (g : Claim) → Good s.items → t ≡ with_item s (metavariable n b) → m ≡ length (metavariables_in s.items) → HasEntry s b g → HasMet t m g
+met_made s t n b m g good a e h =
+    let W : Store = store_of s.items in
+    let d : Declared = record { name = n; boundary = plain g; set = [] } in
+    let after : store_of (s.items ++ metavariable n b ∷ []) ≡ add_metavariable W n (Some (record { statement = plain g; set = [] })) =
+    store_last empty_store s.items (metavariable n b) ∙ ap (add_metavariable W n) (entry_there s b g h) in
+    let long : length W.metavariables ≡ length (metavariables_in s.items) = ap length (store_is s.items good).metavariables ∙ map_length _ (metavariables_in s.items) in
+    subst (λ (t : State). HasMet t m g) (sym a)
+    (d, ap (λ (X : Store). nth X.metavariables m) after ∙ ap (nth (W.metavariables ++ d ∷ [])) (e ∙ sym long) ∙ nth_after W.metavariables d, refl, refl)
+
+stays_metavariable_rules : (W : Store) (n : Name) (o : Option Assertion) → ((add_metavariable W n o).rules ≡ W.rules) × ((add_metavariable W n o).names ≡ W.names)
+stays_metavariable_rules W n None = (refl, refl)
+stays_metavariable_rules W n (Some a) = (refl, refl)
+
+session_met : (s : State) (n : Name) (b : ℕ) (ks : List Known) → IsSession s ks → IsSession (with_item s (metavariable n b)) ks
+session_met s n b ks h =
+    let more = store_last empty_store s.items (metavariable n b) in
+    let same = stays_metavariable_rules (store_of s.items) n (entry_named (store_of s.items) b) in
+    record {
+      known = h.known;
+      rules = ap (λ (W : Store). W.rules) more ∙ same.0 ∙ h.rules;
+      names_are = ap (λ (W : Store). W.names) more ∙ same.1 ∙ h.names_are;
+    }
+
+-- after a push of a metavariable, whether there was memory for it or not
+pub session_after_met : (r : Result ℕ Memory) (s t : State) (n : Name) (b : ℕ) (ks : List Known) → IsSession s ks → OnOk r (t ≡ with_item s (metavariable n b)) → OnErr r (t ≡ s) → IsSession t ks
+session_after_met (Ok j) s t n b ks h a e = subst (λ t. IsSession t ks) (sym a) (session_met s n b ks h)
+session_after_met (Err m) s t n b ks h a e = subst (λ t. IsSession t ks) (sym e) h
+
+pub rules_after_met : (r : Result ℕ Memory) (s t : State) (n : Name) (b : ℕ) (ks : List Known) (p : Progress) → record { state = s; rules = declarations s.trees ks } ≡ p → OnOk r (t ≡ with_item s (metavariable n b)) → OnErr r (t ≡ s)
+    → declarations t.trees ks ≡ p.rules
+rules_after_met (Ok j) s t n b ks p v a e = ap (λ (t : State). declarations t.trees ks) a ∙ ap (λ (p : Progress). p.rules) v
+rules_after_met (Err m) s t n b ks p v a e = ap (λ (t : State). declarations t.trees ks) e ∙ ap (λ (p : Progress). p.rules) v
+
+pub mets_after : (r : Result ℕ Memory) (s t : State) (n : Name) (b : ℕ) (p : Progress) → s ≡ p.state → Good s.items → IfOk r (λ m. m ≡ length (metavariables_in s.items)) → OnOk r (t ≡ with_item s (metavariable n b))
+    → (g : Claim) → HasEntry p.state b g → IfOk r (λ m. HasMet t m g)
+mets_after (Ok m) s t n b p v good e a g h = met_made s t n b m g good a e (subst (λ (s : State). HasEntry s b g) (sym v) h)
+mets_after (Err m) s t n b p v good e a g h = tt
+
+-- How a session goes on.
+
+pub goes_kept : (p q : Progress) → Keeps p q → GoesOn p q
+goes_kept p q k = record { trees = k.trees; items = (map entry k.items.0, k.items.1); rules = k.rules }
+
+pub goes_same : (p : Progress) → GoesOn p p
+goes_same p = record { trees = ([], sym (append-nil p.state.trees)); items = ([], sym (append-nil p.state.items)); rules = refl }
+
+pub goes_then : (p q r : Progress) → GoesOn p q → GoesOn q r → GoesOn p r
+goes_then p q r f g = record {
+  trees = (f.trees.0 ++ g.trees.0, g.trees.1 ∙ ap (λ ts. ts ++ g.trees.0) f.trees.1 ∙ append_assoc p.state.trees f.trees.0 g.trees.0);
+  items = (f.items.0 ++ g.items.0, g.items.1 ∙ ap (λ is. is ++ g.items.0) f.items.1 ∙ append_assoc p.state.items f.items.0 g.items.0);
+  rules = g.rules ∙ f.rules;
+}
+
+pub goes_item : (p q : Progress) (i : Item) → q.state ≡ with_item p.state i → q.rules ≡ p.rules → GoesOn p q
+goes_item p q i a e = record {
+  trees = ([], ap (λ (s : State). s.trees) a ∙ sym (append-nil p.state.trees));
+  items = (i ∷ [], ap (λ (s : State). s.items) a);
+  rules = e;
+}
+
+pub goes_equal : (p q : Progress) → q ≡ p → GoesOn p q
+goes_equal p q e = subst (GoesOn p) (sym e) (goes_same p)

@@ -4,3 +4,4 @@ pub mod Grammar
 pub mod Building
 pub mod Texts
 pub mod Transcript
+pub mod OneLine

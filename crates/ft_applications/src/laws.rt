@@ -1,9 +1,14 @@
-//! Laws of the grammar.
-ghost use Rattle.std.specs.Prelude.{◌≡◌, List, Ok};
+//! Laws of the grammar and of the transcript.
+ghost use Rattle.std.specs.Prelude.{◌≡◌, ◌++◌, ℕ, List, [], Ok, Some, length};
 ghost use Rattle.ft_lexer.specs.declared.token.Kind.{Kind as TokenKind};
 ghost use Rattle.ft_applications.specs.declared.syntax.Command.{Command as Tree};
 ghost use Rattle.ft_applications.specs.Reading as spec;
 ghost use Rattle.ft_applications.specs.Grammar.{AreCommands};
+ghost use Rattle.ft_applications.specs.Building.{Declaration};
+ghost use Rattle.ft_applications.specs.OneLine.{AreLines};
+ghost use Rattle.ft_applications.specs.Transcript.{IsSource, IsTranscript, lines};
+
+use ft_lexer::laws::a_text_is_made_of_its_tokens;
 
 /// What is in the grammar is read, as the same commands.
 pub fn what_is_in_the_grammar_is_read()
@@ -19,3 +24,21 @@ pub fn at_most_one_tree()
 pub fn what_is_read_is_in_the_grammar()
     ensures law { (cs : List Tree) (ks : List TokenKind) → spec.source ks ≡ Ok cs → AreCommands cs ks }
 {}
+
+/// A source has a transcript, and no other: text and status are functions of the bytes.
+pub fn one_transcript()
+    ensures some { (bytes : List ℕ) → (text : List ℕ) × ((status : ℕ) × IsTranscript bytes text status) }
+    ensures one { (bytes text text' : List ℕ) (status status' : ℕ) → IsTranscript bytes text status → IsTranscript bytes text' status' → (text ≡ text') × (status ≡ status') }
+{}
+
+/// Where commands and further ones after them are built, the lines of the former are the beginning of the lines of all.
+pub fn lines_go_on()
+    ensures law { (ds : List Declaration) (cs more : List Tree) (text all : List ℕ) → lines ds cs ≡ Some text → lines ds (cs ++ more) ≡ Some all → (rest : List ℕ) × (all ≡ text ++ rest) }
+{}
+
+/// Where the commands of a source are built, there is one line for each.
+pub fn one_line_for_each_command()
+    ensures law { (bytes : List ℕ) (cs : List Tree) (text : List ℕ) → IsSource bytes cs → lines [] cs ≡ Some text → AreLines (length cs) text }
+{
+    a_text_is_made_of_its_tokens();
+}

@@ -11,6 +11,9 @@ mod syntax;
 mod tests;
 
 pub use fault::Fault;
-pub use laws::{at_most_one_tree, what_is_in_the_grammar_is_read, what_is_read_is_in_the_grammar};
+pub use laws::{
+    at_most_one_tree, lines_go_on, one_line_for_each_command, one_transcript,
+    what_is_in_the_grammar_is_read, what_is_read_is_in_the_grammar,
+};
 pub use source::read_source;
 pub use syntax::{Application, Command, Conclusion, Premise};

@@ -51,9 +51,10 @@ fn plain_text(bytes: &[u8]) -> Option<&str>
 }
 
 /// The commands of a source, or `NotYet` where it is the source of none in this language.
-#[tactic(auto, using(crate::proofs::Plain::source_is, crate::proofs::Plain::no_source))]
+#[tactic(auto, using(crate::proofs::Plain::source_is, crate::proofs::Plain::only_source, crate::proofs::Plain::no_source))]
 pub fn read_source(alloc: Global, bytes: &[u8]) -> Result<Items<Command>, Fault>
     ensures commands { IfOk result (λ cs. IsSource bytes.now cs) }
+    ensures only { IfOk result (λ cs. (ds : List Tree) → IsSource bytes.now ds → ds ≡ cs) }
     ensures none { IsErrOf result fault.NotYet → (cs : List Tree) → IsSource bytes.now cs → ⊥ }
 {
     match plain_text(bytes) {

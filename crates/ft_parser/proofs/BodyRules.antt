@@ -1,27 +1,27 @@
 -- The same for the rules of commands that have premises.
-use Rattle.std.proofs.Common.{◌≡◌, refl, ℕ, Bool, true, false, ◌&&◌, ◌||◌, not, List, []}
+use Rattle.std.proofs.Common.{◌≡◌, refl, ℕ, Bool, true, false, ◌&&◌, List, []}
 use Rattle.ft_base.specs.declared.word.Word.TheVariants as w
 use Rattle.ft_lexer.specs.declared.token.Mark.TheVariants as m
 use Rattle.ft_lexer.specs.declared.token.Kind.{Kind}
 use Rattle.ft_lexer.specs.declared.token.Kind.TheVariants as kind
 use Rattle.ft_parser.specs.declared.syntax.Ast.{Ast}
 use Rattle.ft_parser.specs.declared.syntax.Ast.TheVariants as ast
-use Rattle.ft_parser.specs.Rules.{Part, expression, pattern, type, type_atom, is_word, is_mark, is_name, exactly}
+use Rattle.ft_parser.specs.Rules.{expression, is_word, is_mark, is_name, exactly}
 use Rattle.ft_parser.specs.Forms.{plain_type, word_pattern, word_expression, one_form, two_form, begins_one, begins_two, begins_atom, begins_pattern_atom, is_no_end}
-use Rattle.ft_parser.specs.Grammar.{rule_of, IsPart, list_type, option_type, parenthesized_type, atomic_type, any_type, parenthesized_pattern, atomic_pattern, some_pattern, symbol_pattern, list_pattern, any_pattern, parenthesized, none_of, nil_of, base, brace, braces, atom, call, one_part, two_parts, argument, congruence, perform, application, list_expression, let_in, if_then_else, case, match_with, operation_body, operation_case, value_body, handle_cases, handle_with, abstraction, any_expression, binder, type_body, term_body, equation_type, equation_body, any_body, premise, type_conclusion, term_conclusion, any_conclusion, rule_command, let_command, operation_command, computation_command, extensionality_command, show_command, any_command, commands}
+use Rattle.ft_parser.specs.Grammar.{IsPart, atom, call, application, list_expression, any_expression, binder, type_body, term_body, equation_type, equation_body, any_body, premise, type_conclusion, term_conclusion, any_conclusion, rule_command, let_command, operation_command, computation_command, extensionality_command, show_command, any_command, commands}
 use Rattle.ft_parser.proofs.EveryKind.{within, apart}
-use Rattle.ft_parser.proofs.Follow.{begins, follows, anything, after_type, after_pattern, after_atom, after_application, after_expression, after_equation, is_end_word, is_right_paren, is_end, after_command, begins_body, begins_conclusion}
+use Rattle.ft_parser.proofs.Follow.{begins, follows, anything, after_expression, is_right_paren, is_end, after_command, begins_body, begins_conclusion}
 use Rattle.ft_parser.proofs.Complete.{Fits, shrink}
-use Rattle.std.proofs.Common.{◌∙◌, sym, ap, subst, ◌⊎◌, inl, inr, append_assoc, if◌then◌else◌, ◌∷◌, ◌++◌, length, drop, Ok, Err, Result, Option, Some, None, zero, suc}
+use Rattle.std.proofs.Common.{◌∙◌, sym, ap, ◌⊎◌, inl, inr, append_assoc, if◌then◌else◌, ◌∷◌, ◌++◌, length, drop, Ok, Option, Some, None, zero, suc}
 use Rattle.ft_base.specs.declared.name.Name.{Name}
 use Rattle.ft_base.specs.declared.word.Word.{Word}
 use Rattle.ft_lexer.specs.declared.token.Token.{Token}
 use Rattle.ft_parser.specs.declared.syntax.Body.{Body}
 use Rattle.ft_parser.specs.Rules.{Is, worded}
-use Rattle.ft_parser.specs.Reading.{Outcome, level, read, kind_of, read_name, more_from, too_nested}
-use Rattle.ft_parser.proofs.Complete.{has_name, ends, ReadsBack, PartsBegin, Within}
+use Rattle.ft_parser.specs.Reading.{level, read, kind_of, read_name, too_nested}
+use Rattle.ft_parser.proofs.Complete.{has_name, ends, ReadsBack, Within}
 use Rattle.ft_parser.proofs.Cases.{ok_rest}
-use Rattle.ft_parser.proofs.FitRules.{fits_list_type, fits_option_type, fits_parenthesized_type, fits_atomic_type, fits_any_type, fits_parenthesized_pattern, fits_atomic_pattern, fits_some_pattern, fits_symbol_pattern, fits_list_pattern, fits_any_pattern, fits_parenthesized, fits_none_of, fits_nil_of, fits_base, fits_brace, fits_braces, fits_atom, fits_call, fits_one_part, fits_two_parts, fits_argument, fits_congruence, fits_perform, fits_application, fits_list_expression, fits_let_in, fits_if_then_else, fits_case, fits_match_with, fits_operation_body, fits_operation_case, fits_value_body, fits_handle_cases, fits_handle_with, fits_abstraction, fits_any_expression, fits_binder, fits_type_body, fits_term_body, fits_equation_type, fits_equation_body, fits_type_conclusion, fits_term_conclusion, fits_any_conclusion, fits_let_command, fits_operation_command, fits_computation_command, fits_extensionality_command, fits_show_command}
+use Rattle.ft_parser.proofs.FitRules.{fits_binder, fits_type_body, fits_term_body, fits_equation_body, fits_any_conclusion, fits_let_command, fits_operation_command, fits_computation_command, fits_extensionality_command, fits_show_command}
 
 no_value : {A : Type 0} {a : A} → ◌≡◌ {A = Option A} None (Some a) → ⊥
 no_value h = cc

@@ -1,5 +1,5 @@
 -- What an outcome tells of the steps that gave it.
-use Rattle.std.proofs.Common.{◌≡◌, ◌∙◌, sym, ap, refl, subst, ℕ, suc, Bool, true, false, if◌then◌else◌, List, [], ◌∷◌, ◌++◌, Ok, Err, Result, Option, Some, None, drop, ◌⊎◌, inl, inr}
+use Rattle.std.proofs.Common.{◌≡◌, ap, refl, Bool, true, false, if◌then◌else◌, List, [], ◌∷◌, ◌++◌, Ok, Err, Option, Some, None, ◌⊎◌, inl, inr}
 use Rattle.ft_lexer.specs.declared.token.Token.{Token}
 use Rattle.ft_parser.specs.Reading.{Outcome, Parser, and_then, value_or_refuse}
 

@@ -1,13 +1,11 @@
 -- The tokens before one that is refused begin a source.
-use Rattle.std.proofs.Common.{◌≡◌, ◌∙◌, sym, ap, refl, subst, ℕ, zero, suc, List, [], ◌∷◌, ◌++◌, Ok, Err, Result, append_assoc}
+use Rattle.std.proofs.Common.{◌≡◌, sym, ap, refl, ℕ, zero, suc, List, [], ◌∷◌, ◌++◌, Ok, Err, append_assoc}
 use Rattle.ft_lexer.specs.declared.token.Kind.TheVariants as kind
 use Rattle.ft_lexer.specs.declared.token.Token.{Token}
 use Rattle.ft_parser.specs.declared.fault.SyntaxFault.{SyntaxFault}
-use Rattle.ft_parser.specs.declared.fault.SyntaxFault.TheVariants.{Unexpected, TooNested}
-use Rattle.ft_parser.specs.declared.syntax.Command.{Command}
 use Rattle.ft_parser.specs.Rules.{Part, Tree, Is}
-use Rattle.ft_parser.specs.Grammar.{rule_of, IsPart, IsSource, commands}
-use Rattle.ft_parser.specs.Reading.{Outcome, Parser, read, level, too_nested}
+use Rattle.ft_parser.specs.Grammar.{rule_of, IsPart, commands}
+use Rattle.ft_parser.specs.Reading.{Outcome, read, level, too_nested}
 use Rattle.ft_parser.specs.Sources.{CanGoOn}
 use Rattle.ft_parser.proofs.SourceLaws.{NoEnd, no_end, part_no_end}
 use Rattle.ft_parser.proofs.Sound.{IsSound}

@@ -1,5 +1,5 @@
 -- A fault names the first token that is left.
-use Rattle.std.proofs.Common.{◌≡◌, ◌∙◌, sym, ap, refl, subst, ℕ, zero, suc, Bool, true, false, if◌then◌else◌, ◌&&◌, List, [], ◌∷◌, ◌++◌, length, drop, Ok, Err, Result, Option, Some, None, ◌⊎◌, inl, inr}
+use Rattle.std.proofs.Common.{◌≡◌, refl, ℕ, zero, suc, Bool, true, false, if◌then◌else◌, ◌&&◌, List, [], ◌∷◌, ◌++◌, length, drop, Ok, Err, Option, Some, None, ◌⊎◌, inl, inr}
 use Rattle.ft_lexer.specs.declared.token.Kind.{Kind}
 use Rattle.ft_lexer.specs.declared.token.Token.{Token}
 use Rattle.ft_parser.specs.declared.fault.SyntaxFault.{SyntaxFault}

@@ -17,3 +17,7 @@ pub mod SampleRules
 pub mod Continued
 pub mod FaultNames
 pub mod Refusals
+pub mod Turns
+pub mod WordValues
+pub mod MoreTurns
+pub mod Answered

@@ -1,7 +1,6 @@
 -- The rules of the grammar look no further than the next token.
-use Rattle.std.proofs.Common.{◌≡◌, ◌∙◌, sym, ap, refl, subst, ℕ, zero, suc, ◌≤◌, Bool, true, false, ◌&&◌, if◌then◌else◌, IsTrue, List, [], ◌∷◌, ◌++◌, length, drop, Ok, Err, Result, Option, Some, None, arith}
+use Rattle.std.proofs.Common.{◌≡◌, sym, refl, subst, ℕ, zero, suc, ◌≤◌, Bool, true, false, IsTrue, List, [], ◌∷◌, ◌++◌, length, arith}
 use Rattle.std.proofs.lemmas.List.{length-append}
-use Rattle.ft_base.specs.declared.word.Word.TheVariants as w
 use Rattle.ft_lexer.specs.declared.token.Mark.TheVariants as m
 use Rattle.ft_lexer.specs.declared.token.Kind.{Kind}
 use Rattle.ft_lexer.specs.declared.token.Kind.TheVariants as kind
@@ -11,12 +10,12 @@ use Rattle.ft_parser.specs.declared.syntax.Ast.TheVariants as ast
 use Rattle.ft_parser.specs.Rules.{Rule, Part, expression, pattern, type, type_atom, either_by_two, is_word, is_mark, is_name, exactly}
 use Rattle.ft_parser.specs.Forms.{begins_atom, begins_pattern_atom, is_no_end}
 use Rattle.ft_parser.specs.Grammar.{rule_of, IsPart, list_type, option_type, parenthesized_type, atomic_type, any_type, parenthesized_pattern, atomic_pattern, some_pattern, symbol_pattern, list_pattern, any_pattern, parenthesized, none_of, nil_of, base, brace, braces, atom, call, one_part, two_parts, argument, congruence, perform, application, list_expression, let_in, if_then_else, case, match_with, operation_body, operation_case, value_body, handle_cases, handle_with, abstraction, any_expression, binder, type_body, term_body, equation_type, equation_body, any_body, premise, type_conclusion, term_conclusion, any_conclusion, rule_command, let_command, operation_command, computation_command, extensionality_command, show_command, any_command, commands}
-use Rattle.ft_parser.specs.Reading.{Outcome, Parser, level, read, kind_of, read_name, read_word, read_mark, too_nested}
+use Rattle.ft_parser.specs.Reading.{level, read, read_name, read_word, read_mark}
 use Rattle.ft_parser.proofs.Sound.{Proper, eats, eaten, sound}
-use Rattle.ft_parser.proofs.ProperRules.{proper_list_type, proper_option_type, proper_parenthesized_type, proper_atomic_type, proper_any_type, proper_parenthesized_pattern, proper_atomic_pattern, proper_some_pattern, proper_symbol_pattern, proper_list_pattern, proper_any_pattern, proper_parenthesized, proper_none_of, proper_nil_of, proper_base, proper_brace, proper_braces, proper_atom, proper_call, proper_one_part, proper_two_parts, proper_argument, proper_congruence, proper_perform, proper_application, proper_list_expression, proper_let_in, proper_if_then_else, proper_case, proper_match_with, proper_operation_body, proper_operation_case, proper_value_body, proper_handle_cases, proper_handle_with, proper_abstraction, proper_any_expression, proper_binder, proper_type_body, proper_term_body, proper_equation_type, proper_equation_body, proper_any_body, proper_premise, proper_type_conclusion, proper_term_conclusion, proper_any_conclusion, proper_rule_command, proper_let_command, proper_operation_command, proper_computation_command, proper_extensionality_command, proper_show_command, proper_any_command, proper_commands}
-use Rattle.ft_parser.proofs.Levels.{parts_eat, parts_sound, parts_back}
+use Rattle.ft_parser.proofs.ProperRules.{proper_atomic_pattern, proper_brace, proper_atom, proper_case, proper_operation_case, proper_binder, proper_premise, proper_any_command}
+use Rattle.ft_parser.proofs.Levels.{parts_eat, parts_sound}
 use Rattle.ft_parser.proofs.BodyRules.{a_name}
-use Rattle.ft_parser.proofs.Local.{Looks, Takes, IsLocal, Beyond, local, nested_local, beyond, left_of}
+use Rattle.ft_parser.proofs.Local.{Looks, Takes, IsLocal, local, nested_local, beyond, left_of}
 
 some_first : (xs : List Token) → (xs ≡ [] → ⊥) → (rest : List Token) → suc (length rest) ≤ length (xs ++ rest)
 some_first [] some rest = absurd (some refl)

@@ -1,5 +1,5 @@
 -- Each rule of the grammar takes a token where the place of one is asked for, and in lists.
-use Rattle.std.proofs.Common.{◌≡◌, refl, ℕ, true, []}
+use Rattle.std.proofs.Common.{refl, ℕ, []}
 use Rattle.ft_parser.specs.declared.syntax.Ast.{Ast}
 use Rattle.ft_parser.specs.declared.syntax.Ast.TheVariants as ast
 use Rattle.ft_parser.specs.Rules.{Part, expression, pattern, type, type_atom}

@@ -1,5 +1,5 @@
 -- What is read by a rule has its value by the rule.
-use Rattle.std.proofs.Common.{◌≡◌, ◌∙◌, sym, ap, refl, subst, ℕ, zero, suc, Bool, true, false, if◌then◌else◌, ◌&&◌, IsTrue, List, [], ◌∷◌, ◌++◌, length, Ok, Err, Result, Option, Some, None, drop, append_assoc, append-nil, ◌⊎◌, inl, inr}
+use Rattle.std.proofs.Common.{◌≡◌, ◌∙◌, sym, ap, refl, subst, ℕ, zero, suc, Bool, true, false, if◌then◌else◌, ◌&&◌, IsTrue, List, [], ◌∷◌, ◌++◌, length, Ok, Err, Option, Some, None, drop, append_assoc, append-nil, ◌⊎◌, inl, inr}
 use Rattle.ft_lexer.specs.declared.token.Kind.{Kind}
 use Rattle.ft_lexer.specs.declared.token.Token.{Token}
 use Rattle.ft_lexer.specs.declared.token.Mark.{Mark}

@@ -1,5 +1,5 @@
 -- The laws of sources.
-use Rattle.std.proofs.Common.{◌≡◌, ◌∙◌, sym, ap, refl, subst, ℕ, zero, suc, ◌≤◌, Bool, true, false, if◌then◌else◌, IsTrue, not, ◌&&◌, ◌||◌, is_some, List, [], ◌∷◌, ◌++◌, length, Ok, Err, Result, Option, Some, None, append_assoc, append-nil, ◌⊎◌, inl, inr, arith}
+use Rattle.std.proofs.Common.{◌≡◌, ◌∙◌, sym, ap, refl, subst, ℕ, zero, suc, ◌≤◌, Bool, true, false, if◌then◌else◌, IsTrue, List, [], ◌∷◌, ◌++◌, length, Ok, Err, Result, Option, Some, None, ◌⊎◌, inl, inr, arith}
 use Rattle.std.proofs.lemmas.List.{length-append}
 use Rattle.ft_base.specs.declared.word.Word.{Word}
 use Rattle.ft_lexer.specs.declared.token.Kind.{Kind}
@@ -14,9 +14,9 @@ use Rattle.ft_parser.specs.Forms.{is_no_end}
 use Rattle.ft_parser.specs.Grammar.{IsPart, IsSource, commands, any_command, rule_command, let_command, operation_command, computation_command, extensionality_command, show_command, rule_of, nesting}
 use Rattle.ft_parser.specs.Sources.{IsClosed}
 use Rattle.ft_parser.specs.Reading.{Outcome, Parser, read, level, and_then, more_from, kind_of, answer, parse}
-use Rattle.ft_parser.proofs.Cases.{bind_ok, chosen, ok_value, ok_rest, Front}
+use Rattle.ft_parser.proofs.Cases.{bind_ok, ok_value, ok_rest}
 use Rattle.ft_parser.proofs.Follow.{begins, follows, is_end}
-use Rattle.ft_parser.proofs.Sound.{sound, eaten, eats, IsSound}
+use Rattle.ft_parser.proofs.Sound.{sound, eaten, eats}
 use Rattle.ft_parser.proofs.Complete.{back}
 use Rattle.ft_parser.proofs.ProperRules.{proper_commands, proper_any_command}
 use Rattle.ft_parser.proofs.UniformRules.{uniform_commands}

@@ -1,5 +1,5 @@
 -- The words that begin expressions, patterns and types, with what they make.
-use Rattle.std.specs.Prelude.{ℕ, Bool, true, false, is_some, List, [], ◌∷◌, Option, Some, None}
+use Rattle.std.specs.Prelude.{ℕ, Bool, true, false, is_some, Option, Some, None}
 use Rattle.ft_base.specs.declared.word.Word.{Word}
 use Rattle.ft_base.specs.declared.word.Word.TheVariants as word
 use Rattle.ft_lexer.specs.declared.token.Mark.TheVariants as mark

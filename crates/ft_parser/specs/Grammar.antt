@@ -1,10 +1,9 @@
 -- The grammar of a source, a rule for each of its forms.
-use Rattle.std.specs.Prelude.{ℕ, zero, suc, ◌≡◌, Bool, List, [], ◌∷◌, ◌++◌, Option, Some, None}
+use Rattle.std.specs.Prelude.{ℕ, zero, suc, ◌≡◌, List, [], ◌∷◌, ◌++◌, Option, Some, None}
 use Rattle.ft_base.specs.declared.word.Word.TheVariants as w
 use Rattle.ft_lexer.specs.declared.token.Mark.TheVariants as m
 use Rattle.ft_lexer.specs.declared.token.Kind.TheVariants as kind
 use Rattle.ft_lexer.specs.declared.token.Token.{Token}
-use Rattle.ft_parser.specs.declared.syntax.Named.{Named}
 use Rattle.ft_parser.specs.declared.syntax.AmlType.{AmlType}
 use Rattle.ft_parser.specs.declared.syntax.AmlType.TheVariants as ty
 use Rattle.ft_parser.specs.declared.syntax.Pattern.{Pattern}
@@ -22,7 +21,7 @@ use Rattle.ft_parser.specs.declared.syntax.Conclusion.{Conclusion}
 use Rattle.ft_parser.specs.declared.syntax.Conclusion.TheVariants as conclusion
 use Rattle.ft_parser.specs.declared.syntax.Command.{Command}
 use Rattle.ft_parser.specs.declared.syntax.Command.TheVariants as command
-use Rattle.ft_parser.specs.Rules.{Rule, Part, Tree, AllOf, expression, pattern, type, type_atom, give, name, number, word, mark, part, starting, sequence, either, either_by_two, unless, more, the, is_word, is_mark, is_name, Is, ◌>>=◌, ◌>>◌}
+use Rattle.ft_parser.specs.Rules.{Rule, Part, Tree, expression, pattern, type, type_atom, give, name, number, word, mark, part, starting, either, either_by_two, unless, more, the, is_word, is_mark, is_name, Is, ◌>>=◌, ◌>>◌}
 use Rattle.ft_parser.specs.Forms.{plain_type, word_pattern, word_expression, one_form, one_tree, two_form, two_tree, begins_one, begins_two, begins_atom, begins_pattern_atom, is_no_end}
 
 -- ---- types

@@ -1,5 +1,5 @@
 -- Rules of a grammar, and the lists of tokens that each has.
-use Rattle.std.specs.Prelude.{ℕ, zero, suc, ◌≡◌, Bool, true, false, if◌then◌else◌, List, [], ◌∷◌, ◌++◌, Option, Some, None, ◌⊎◌}
+use Rattle.std.specs.Prelude.{ℕ, ◌≡◌, Bool, true, false, if◌then◌else◌, List, [], ◌∷◌, ◌++◌, Option, Some, None, ◌⊎◌}
 use Rattle.ft_base.specs.declared.word.Word.{Word}
 use Rattle.ft_base.specs.contracts.word.WordPartialEq.TheImpl as word_eq
 use Rattle.ft_lexer.specs.declared.token.Mark.{Mark}

@@ -1,0 +1,78 @@
+-- What the answer of a function that reads a whole source says of the grammar.
+use Rattle.std.proofs.Common.{◌≡◌, ◌≢◌, ◌∙◌, sym, ap, refl, ℕ, Bool, true, false, ◌&&◌, not, IsTrue, IfOk, IfErr, IsErrOf, List, [], ◌∷◌, Ok, Err, Result}
+use Rattle.ft_lexer.specs.declared.token.Kind.{Kind}
+use Rattle.ft_lexer.specs.declared.token.Kind.TheVariants as kind
+use Rattle.ft_lexer.specs.declared.token.Token.{Token}
+use Rattle.ft_lexer.specs.Made.{is_end, is_ended}
+use Rattle.ft_parser.specs.declared.fault.SyntaxFault.{SyntaxFault}
+use Rattle.ft_parser.specs.declared.fault.SyntaxFault.TheVariants.{Memory, TooNested, Unexpected}
+use Rattle.ft_parser.specs.declared.syntax.Command.{Command}
+use Rattle.ft_parser.specs.Forms.{is_no_end}
+use Rattle.ft_parser.specs.Grammar.{IsSource, nesting}
+use Rattle.ft_parser.specs.Reading.{parse, ReadsAll}
+use Rattle.ft_parser.specs.Sources.{IsClosed, IsFirstTooNested, IsFirstUnexpected}
+use Rattle.ft_parser.proofs.SourceLaws.{accepted_is_in_grammar, in_grammar_is_accepted}
+use Rattle.ft_parser.proofs.Refusals.{unexpected_is_first, too_nested_is_first}
+
+the_end : (k : Kind) → IsTrue (is_end k) → k ≡ kind.End
+the_end kind.End h = refl
+the_end (kind.Name n) h = cc
+the_end (kind.Number n) h = cc
+the_end (kind.Word w) h = cc
+the_end (kind.Mark m) h = cc
+the_end kind.Bad h = cc
+
+no_end : (k : Kind) → IsTrue (not (is_end k)) → is_no_end k ≡ true
+unfolding is_no_end
+no_end kind.End h = cc
+no_end (kind.Name n) h = refl
+no_end (kind.Number n) h = refl
+no_end (kind.Word w) h = refl
+no_end (kind.Mark m) h = refl
+no_end kind.Bad h = refl
+
+both : (a b : Bool) → IsTrue (a && b) → IsTrue a × IsTrue b
+both true true h = (refl, refl)
+both true false h = cc
+both false b h = cc
+
+pub closed : (ts : List Token) → IsTrue (is_ended ts) → IsClosed ts
+closed [] h = cc
+closed (t ∷ []) h = the_end t.kind h
+closed (t ∷ u ∷ us) h = let each = both (not (is_end t.kind)) (is_ended (u ∷ us)) h in (no_end t.kind each.0, closed (u ∷ us) each.1)
+
+pub accepted : {B : Type 0} (value : B → List Command) (ts : List Token) (r : Result B SyntaxFault) → IsTrue (is_ended ts)
+    → ReadsAll (parse ts) r value → IfOk r (λ b. IsSource nesting (value b) ts)
+accepted value ts (Ok b) h reads = accepted_is_in_grammar (value b) ts (closed ts h) reads
+accepted value ts (Err e) h reads = tt
+
+clash : {A : Type 0} {a : A} {e : SyntaxFault} (r : Result A SyntaxFault) → r ≡ Ok a → r ≡ Err e → ⊥
+clash r h k = cc
+
+pub refused : {B : Type 0} (value : B → List Command) (ts : List Token) (r : Result B SyntaxFault)
+    → ReadsAll (parse ts) r value → IfErr r (λ e. e ≢ Memory → (c : List Command) → IsSource nesting c ts → ⊥)
+refused value ts (Ok b) reads = tt
+refused value ts (Err e) reads = λ other c h. clash (parse ts) (in_grammar_is_accepted c ts h) (reads other)
+
+not_memory_at : (at : ℕ) → Unexpected at ≢ Memory
+not_memory_at at h = cc
+
+not_memory_nested : (at : ℕ) → TooNested at ≢ Memory
+not_memory_nested at h = cc
+
+err_is : {B : Type 0} (e f : SyntaxFault) → ◌≡◌ {A = Result B SyntaxFault} (Err e) (Err f) → e ≡ f
+err_is e f h = cc
+
+pub unexpected : {B : Type 0} (value : B → List Command) (ts : List Token) (r : Result B SyntaxFault) (at : ℕ) → IsTrue (is_ended ts)
+    → ReadsAll (parse ts) r value → IsErrOf r (Unexpected at) → IsFirstUnexpected at ts
+unexpected value ts (Ok b) at h reads is = cc
+unexpected value ts (Err e) at h reads is =
+    let same = err_is e (Unexpected at) is in
+    unexpected_is_first at ts (closed ts h) (reads (λ m. not_memory_at at (sym same ∙ m)) ∙ ap Err same)
+
+pub too_nested : {B : Type 0} (value : B → List Command) (ts : List Token) (r : Result B SyntaxFault) (at : ℕ) → IsTrue (is_ended ts)
+    → ReadsAll (parse ts) r value → IsErrOf r (TooNested at) → IsFirstTooNested nesting at ts
+too_nested value ts (Ok b) at h reads is = cc
+too_nested value ts (Err e) at h reads is =
+    let same = err_is e (TooNested at) is in
+    too_nested_is_first at ts (closed ts h) (reads (λ m. not_memory_nested at (sym same ∙ m)) ∙ ap Err same)

@@ -1,0 +1,11 @@
+use Rattle.std.proofs.Common.{◌≡◌, ◌-◌, length}
+use Rattle.ft_lexer.specs.declared.token.Mark.TheVariants.{LeftBrace}
+use Rattle.ft_parser.specs.Rules.{is_mark}
+use Rattle.ft_parser.specs.Grammar.{brace}
+use Rattle.ft_parser.specs.Reading.{level, read, more_from}
+use Rattle.ft_parser.proofs.expressions.Expressions.more_braces.Given as goal
+
+abbrev pub invariant-loop-turn : goal.invariant-loop-turn
+invariant-loop-turn t l =
+    let one = read (level l.self.depth) brace in
+    more_from (is_mark LeftBrace) one (length l.fn.tokens) l.fn.found l.fn.tokens ≡ more_from (is_mark LeftBrace) one (l._turn-end - l._turn) l.found l.tokens

@@ -1,0 +1,37 @@
+//! Reading a whole source.
+
+ghost use Rattle.std.specs.Prelude.{◌≡◌, ◌≢◌, ℕ, List, IfOk, IfErr, IsErrOf, IsTrue};
+ghost use Rattle.ft_lexer.specs.Made.{is_ended};
+ghost use Rattle.ft_parser.specs.Grammar.{IsSource, nesting};
+ghost use Rattle.ft_parser.specs.Reading as spec;
+ghost use Rattle.ft_parser.specs.Reading.{ReadsAll};
+ghost use Rattle.ft_parser.specs.Sources.{IsFirstTooNested, IsFirstUnexpected};
+ghost use Rattle.ft_parser.specs.declared.fault.SyntaxFault.TheVariants.{Memory, TooNested, Unexpected};
+ghost use Rattle.ft_parser.specs.declared.syntax.Command.{Command as AnyCommand};
+
+use crate::commands::commands;
+use crate::cursor::Cursor;
+use crate::fault::SyntaxFault;
+use crate::syntax::Command;
+use ft_lexer::Token;
+use std::alloc::Global;
+
+/// The commands of a source, by its tokens. `Unexpected` names the first token with which no source goes on at any nesting, and
+/// `TooNested` the first with which none goes on at the nesting of sources.
+pub fn parse(alloc: Global, tokens: &[Token]) -> Result<Vec<Command>, SyntaxFault>
+    requires { IsTrue (is_ended tokens.now) }
+    ensures reads { ReadsAll (spec.parse tokens.now) result (λ found. found.items) }
+    ensures accepted { IfOk result (λ found. IsSource nesting found.items tokens.now) }
+    ensures refused { IfErr result (λ e. e ≢ Memory → (c : List AnyCommand) → IsSource nesting c tokens.now → ⊥) }
+    ensures unexpected { (at : ℕ) → IsErrOf result (Unexpected at) → IsFirstUnexpected at tokens.now }
+    ensures too_nested { (at : ℕ) → IsErrOf result (TooNested at) → IsFirstTooNested nesting at tokens.now }
+{
+    read_source(alloc, tokens)
+}
+
+#[tactic(auto, unfolding(crate::specs::Reading::parse))]
+fn read_source(alloc: Global, tokens: &[Token]) -> Result<Vec<Command>, SyntaxFault>
+    ensures { ReadsAll (spec.parse tokens.now) result (λ found. found.items) }
+{
+    commands(alloc, &mut Cursor::new(tokens))
+}

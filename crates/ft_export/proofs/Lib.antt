@@ -1,0 +1,9 @@
+pub mod Joining
+pub mod ByArguments
+pub mod Domains
+pub mod Numbers
+pub mod Encoding
+pub mod Places
+pub mod Whole
+pub mod Lengths
+pub mod Pushed

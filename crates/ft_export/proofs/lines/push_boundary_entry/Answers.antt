@@ -1,0 +1,9 @@
+use Rattle.ft_export.proofs.Joining.{on_both}
+use Rattle.ft_export.proofs.Encoding.{boundary_line}
+use Rattle.ft_export.proofs.lines.push_boundary_entry.Goals as goal
+
+pub returns : goal.returns
+returns c = record {
+  ok = on_both c.push_grounds.result (λ up set step h. boundary_line c.args.terms.now c.args.x.now c.args.set.now c.args.step.now c.args.out.now c.push_str.new.self c.push_boundary.new.out c.push_grounds.new.out
+      c.in_ok-push_boundary.ensures.fits up set step c.in_ok-push_str.ensures.ok c.in_ok-push_boundary.ensures.ok h) c.push_grounds.ensures.ascending c.push_grounds.ensures.set c.push_grounds.ensures.step c.push_grounds.ensures.ok;
+}

@@ -1,0 +1,18 @@
+use Rattle.std.proofs.Common.{◌≡◌, ◌<◌, ◌++◌, ◌∷◌, ◌∙◌, [], ap, subst, length, ℕ, Some, slice_get, add-one, rules}
+use Rattle.ft_items.specs.Texts.{number, PartsFit}
+use Rattle.ft_export.specs.Parts.{parts_text}
+use Rattle.ft_export.proofs.Joining.{read_at}
+use Rattle.ft_export.proofs.Numbers.{numbers_next, numbers_fit_next}
+use Rattle.ft_export.proofs.steps.push_numbers.Goals as goal
+
+pub loop-j-preserved : goal.loop-j-preserved
+loop-j-preserved c =
+    let i : ℕ = c.loop-j.j-index in
+    let ns = c.args.items.now in
+    let n = c.j-item.result in
+    let l : i < length ns = search rules in
+    let g : slice_get ns i ≡ Some n = read_at ns i n l c.j-item.is in
+    rw add-one (record {
+      out = numbers_next ns i n c.args.out.now c.loop-j.out c.push_number.new.out g c.loop-j.invariant.out (c.in_ok-push_number.ensures.ok ∙ ap (λ n. c.loop-j.out ++ parts_text (number n ∷ [])) c.number.ensures);
+      fits = numbers_fit_next ns i n g c.loop-j.invariant.fits (subst (λ n. PartsFit (number n ∷ [])) c.number.ensures c.push_number.ensures.fits);
+    })

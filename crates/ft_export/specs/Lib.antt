@@ -1,0 +1,4 @@
+pub mod Arguments
+pub mod Statements
+pub mod Parts
+pub mod Written

@@ -1,0 +1,16 @@
+pub mod Choices
+pub mod Turns
+pub mod Numbers
+pub mod Smallness
+pub mod Extending
+pub mod Forming
+pub mod Items
+pub mod Chains
+pub mod Atoms
+pub mod Reading
+pub mod Listed
+pub mod Trees
+pub mod Claims
+pub mod Parts
+pub mod StepTexts
+pub mod EntryTexts

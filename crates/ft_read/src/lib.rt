@@ -1,0 +1,14 @@
+//! Reading derivation files of version 1: numbers, names, sets, expressions, statements, steps and lines.
+#![tactic(auto)]
+
+pub mod cursor;
+pub mod entries;
+pub mod expressions;
+pub mod fault;
+pub mod laws;
+pub mod sets;
+pub mod statements;
+pub mod steps;
+#[cfg(test)]
+mod tests;
+pub mod words;

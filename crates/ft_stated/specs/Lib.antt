@@ -1,0 +1,4 @@
+pub mod Code
+pub mod Steps
+pub mod Lines
+pub mod Places

@@ -1,0 +1,79 @@
+-- The reasons against items, by what their numbers name.
+use Rattle.std.proofs.Common.{◌≡◌, ℕ, nat_lt, Bool, true, false, ◌&&◌, not, Option, Some, None, List, [], ◌∷◌, refl, sym, ap, ap₂, ◌∙◌, map}
+use Rattle.std.specs.List.{list_all}
+use Rattle.ft_items.specs.Item.{Name, Item, variable, metavariable, rule, entry, shown}
+use Rattle.ft_items.specs.Sets.{metavariables_only}
+use Rattle.ft_items.specs.Store.{Assertion, annotated, nth, store_of, entries_in, variables_in}
+use Rattle.ft_items.specs.Equal.{is_thesis}
+use Rattle.ft_items.specs.Good.{Reject as Reason, Reference as reference, Kind as kind, Premise as premise, Number as number, Loose as loose, Good, is_next, is_plain_type, reason_of_shown, reason_of_metavariable, reason_of_variable, unless}
+use Rattle.ft_items.proofs.Lists.{store_is}
+use Rattle.ft_check.specs.Entries.{numbers_below}
+
+-- a shown mark
+pub shown_missing : (o : Option Assertion) → None ≡ o → Some reference ≡ reason_of_shown o
+shown_missing o h = ap reason_of_shown h
+
+pub shown_right : (o : Option Assertion) (a : Assertion) → Some a ≡ o → true ≡ is_thesis a.statement → None ≡ reason_of_shown o
+shown_right o a h t = ap (λ b. unless b kind None) t ∙ ap reason_of_shown h
+
+pub shown_wrong : (o : Option Assertion) (a : Assertion) → Some a ≡ o → false ≡ is_thesis a.statement → Some kind ≡ reason_of_shown o
+shown_wrong o a h t = ap (λ b. unless b kind None) t ∙ ap reason_of_shown h
+
+-- a metavariable
+pub metavariable_kind : (a : Assertion) → true ≡ is_thesis a.statement → Some kind ≡ reason_of_metavariable (Some a)
+metavariable_kind a t = ap (λ b. unless (not b) kind (unless (metavariables_only a.set) loose None)) t
+
+pub metavariable_right : (a : Assertion) → false ≡ is_thesis a.statement → true ≡ metavariables_only a.set → None ≡ reason_of_metavariable (Some a)
+metavariable_right a t m = ap₂ (λ b c. unless (not b) kind (unless c loose None)) t m
+
+pub metavariable_loose : (a : Assertion) → false ≡ is_thesis a.statement → false ≡ metavariables_only a.set → Some loose ≡ reason_of_metavariable (Some a)
+metavariable_loose a t m = ap₂ (λ b c. unless (not b) kind (unless c loose None)) t m
+
+pub metavariable_missing : (o : Option Assertion) → None ≡ o → Some reference ≡ reason_of_metavariable o
+metavariable_missing o h = ap reason_of_metavariable h
+
+pub metavariable_found : (o : Option Assertion) (a : Assertion) (r : Option Reason) → Some a ≡ o → r ≡ reason_of_metavariable (Some a) → r ≡ reason_of_metavariable o
+metavariable_found o a r h e = e ∙ ap reason_of_metavariable h
+
+-- a variable
+pub variable_kind : (a : Assertion) → false ≡ is_thesis a.statement → Some kind ≡ reason_of_variable (Some a)
+variable_kind a t = ap (λ b. unless b kind (unless (is_plain_type a.statement) premise None)) t
+
+pub variable_right : (a : Assertion) → true ≡ is_thesis a.statement → true ≡ is_plain_type a.statement → None ≡ reason_of_variable (Some a)
+variable_right a t p = ap₂ (λ b c. unless b kind (unless c premise None)) t p
+
+pub variable_premise : (a : Assertion) → true ≡ is_thesis a.statement → false ≡ is_plain_type a.statement → Some premise ≡ reason_of_variable (Some a)
+variable_premise a t p = ap₂ (λ b c. unless b kind (unless c premise None)) t p
+
+pub variable_number : (b : Bool) (r : Option Reason) → false ≡ b → Some number ≡ unless b number r
+variable_number b r f = ap (λ b. unless b number r) f
+
+pub variable_missing : (b : Bool) (o : Option Assertion) → true ≡ b → None ≡ o → Some reference ≡ unless b number (reason_of_variable o)
+variable_missing b o t h = ap₂ (λ b o. unless b number (reason_of_variable o)) t h
+
+pub variable_found : (b : Bool) (o : Option Assertion) (a : Assertion) (r : Option Reason) → true ≡ b → Some a ≡ o → r ≡ reason_of_variable (Some a) → r ≡ unless b number (reason_of_variable o)
+variable_found b o a r t h e = e ∙ ap₂ (λ b o. unless b number (reason_of_variable o)) t h
+
+-- the numbers of the variables of a good list
+annotated_number : (x : ℕ × Name × ℕ) (o : Option Assertion) → (annotated x o).0 ≡ x.0
+annotated_number x None = refl
+annotated_number x (Some a) = refl
+
+next_below : (f : ℕ × Name × ℕ → Option Assertion) (v : ℕ) (xs : List (ℕ × Name × ℕ)) → is_next (map (λ (x : ℕ × Name × ℕ). annotated x (f x)) xs) v ≡ numbers_below v xs
+next_below f v [] = refl
+next_below f v (x ∷ xs) = ap₂ (λ n b. nat_lt n v && b) (annotated_number x (f x)) (next_below f v xs)
+
+below_all : (v : ℕ) (items : List Item) → numbers_below v (variables_in items) ≡ list_all (λ i. numbers_below v (variables_in (i ∷ []))) items
+below_all v [] = refl
+below_all v (variable w n p ∷ items) = go (nat_lt w v) (below_all v items)
+  where
+    go : (b : Bool) → numbers_below v (variables_in items) ≡ list_all (λ i. numbers_below v (variables_in (i ∷ []))) items → (b && numbers_below v (variables_in items)) ≡ ((b && true) && list_all (λ i. numbers_below v (variables_in (i ∷ []))) items)
+    go true h = h
+    go false h = refl
+below_all v (metavariable n p ∷ items) = below_all v items
+below_all v (rule n ms p ∷ items) = below_all v items
+below_all v (entry e ∷ items) = below_all v items
+below_all v (shown p ∷ items) = below_all v items
+
+pub next_is : (items : List Item) (v : ℕ) → Good items → list_all (λ i. numbers_below v (variables_in (i ∷ []))) items ≡ is_next (store_of items).variables v
+next_is items v g = sym (ap (λ G. is_next G v) (store_is items g).variables ∙ next_below (λ x. nth (entries_in items) x.2) v (variables_in items) ∙ below_all v items)

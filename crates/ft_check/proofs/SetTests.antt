@@ -1,0 +1,97 @@
+-- Tests of sets and of lists, item by item.
+use Rattle.std.proofs.Common.{◌≡◌, ℕ, zero, suc, ◌+◌, ◌-◌, ◌<◌, ◌≤◌, nat_eq, Bool, true, false, cond, ◌&&◌, ◌||◌, not, Some, List, [], ◌∷◌, refl, sym, ap, ap₂, ◌∙◌, subst, length, get_or, take, drop, map, arith}
+use Rattle.std.specs.List.{list_all, list_any}
+use Rattle.std.proofs.Math.Seq.{take-length}
+use Rattle.std.proofs.lemmas.List.{length-drop}
+use Rattle.ft_items.specs.Sets.{Atom, met, var, same_atom, has, is_within, metavariables_only}
+use Rattle.ft_items.specs.Store.{nth}
+use Rattle.ft_items.specs.Rows.{differ}
+use Rattle.ft_assume.specs.declared.atom.Atom.{Atom as AtomValue}
+use Rattle.ft_assume.specs.declared.atom.Atom.TheVariants.{Met, Var}
+use Rattle.ft_assume.specs.Atoms.{atom_of, atoms_of}
+use Rattle.ft_check.proofs.Standing.{none_some}
+
+variable_not : (v : ℕ) (ms : List ℕ) → false ≡ list_any (λ n. same_atom (var v) (met n)) ms
+variable_not v [] = refl
+variable_not v (m ∷ ms) = variable_not v ms
+
+pub no_variable : (a : AtomValue) (v : ℕ) (ms : List ℕ) → a ≡ Var v → false ≡ list_any (λ n. same_atom (atom_of a) (met n)) ms
+no_variable a v ms e = variable_not v ms ∙ ap (λ a. list_any (λ n. same_atom (atom_of a) (met n)) ms) (sym e)
+
+has_any : (a : Atom) (ms : List ℕ) → list_any (λ n. same_atom a (met n)) ms ≡ has a (map met ms)
+has_any a [] = refl
+has_any a (m ∷ ms) = go (same_atom a (met m)) (has_any a ms)
+  where
+    go : (b : Bool) → list_any (λ n. same_atom a (met n)) ms ≡ has a (map met ms) → (b || list_any (λ n. same_atom a (met n)) ms) ≡ cond b true (has a (map met ms))
+    go true h = refl
+    go false h = h
+
+within_each : (S : List AtomValue) (ms : List ℕ) → list_all (λ a. list_any (λ n. same_atom (atom_of a) (met n)) ms) S ≡ is_within (atoms_of S) (map met ms)
+within_each [] ms = refl
+within_each (a ∷ S) ms = ap₂ ◌&&◌ (has_any (atom_of a) ms) (within_each S ms)
+
+pub within_all : (S : List AtomValue) (A : List Atom) (ms : List ℕ) → atoms_of S ≡ A → list_all (λ a. list_any (λ n. same_atom (atom_of a) (met n)) ms) S ≡ is_within A (map met ms)
+within_all S A ms e = within_each S ms ∙ ap (λ X. is_within X (map met ms)) e
+
+metavariables_each : (S : List AtomValue) → list_all (λ a. metavariables_only (atom_of a ∷ [])) S ≡ metavariables_only (atoms_of S)
+metavariables_each [] = refl
+metavariables_each (Met m ∷ S) = metavariables_each S
+metavariables_each (Var v ∷ S) = refl
+
+pub metavariables_all : (S : List AtomValue) (A : List Atom) → atoms_of S ≡ A → list_all (λ a. metavariables_only (atom_of a ∷ [])) S ≡ metavariables_only A
+metavariables_all S A e = metavariables_each S ∙ ap metavariables_only e
+
+-- a test of all, up to a place
+pub all_next : {A : Type 0} (f : A → Bool) (xs : List A) (k : ℕ) (x : A) → nth xs k ≡ Some x → f x ≡ true → list_all f (take k xs) ≡ true → list_all f (take (k + 1) xs) ≡ true
+all_next f [] k x h e a = none_some h
+all_next f (y ∷ xs) zero x h e a = let same : y ≡ x = cc in ap (λ b. b && true) (ap f same ∙ e)
+all_next f (y ∷ xs) (suc k) x h e a = go (f y) refl (all_next f xs k x h e)
+  where
+    step : suc k + 1 ≡ suc (k + 1)
+    step = omega arith
+
+    go : (b : Bool) → f y ≡ b → (list_all f (take k xs) ≡ true → list_all f (take (k + 1) xs) ≡ true) → list_all f (take (suc k + 1) (y ∷ xs)) ≡ true
+    go true t ih = ap (λ n. list_all f (take n (y ∷ xs))) step ∙ ap (λ b. b && list_all f (take (k + 1) xs)) t ∙ ih (sym (ap (λ b. b && list_all f (take k xs)) t) ∙ a)
+    go false t ih = let clash : false ≡ true = sym (ap (λ b. b && list_all f (take k xs)) t) ∙ a in cc
+
+pub all_over : {A : Type 0} (f : A → Bool) (xs : List A) (i k : ℕ) → i ≤ k → k ≤ i → list_all f (take k xs) ≡ true → list_all f (take i xs) ≡ true
+all_over f xs i k h g a = let same : k ≡ i = omega (arith, h, g) in subst (λ n. list_all f (take n xs) ≡ true) same a
+
+pub all_not : {A : Type 0} (f : A → Bool) (xs : List A) (k i : ℕ) (x : A) → nth xs k ≡ Some x → k < i → f x ≡ false → list_all f (take i xs) ≡ false
+all_not f [] k i x h lt e = none_some h
+all_not f (y ∷ xs) k zero x h lt e = absurd (omega (arith, lt))
+all_not f (y ∷ xs) zero (suc i) x h lt e = let same : y ≡ x = cc in ap (λ b. b && list_all f (take i xs)) (ap f same ∙ e)
+all_not f (y ∷ xs) (suc k) (suc i) x h lt e = go (f y) (all_not f xs k i x h (omega (arith, lt)) e)
+  where
+    go : (b : Bool) → list_all f (take i xs) ≡ false → (b && list_all f (take i xs)) ≡ false
+    go true h = h
+    go false h = refl
+
+-- metavariables that differ, from a place on
+drop_next : {A : Type 0} (xs : List A) (k : ℕ) (d : A) → k < length xs → drop k xs ≡ get_or xs k d ∷ drop (k + 1) xs
+drop_next [] k d h = absurd (omega (arith, h))
+drop_next (x ∷ xs) zero d h = refl
+drop_next (x ∷ xs) (suc k) d h = let e : suc k + 1 ≡ suc (k + 1) = omega arith in drop_next xs k d (omega (arith, h)) ∙ ap (λ n. get_or xs k d ∷ drop n (x ∷ xs)) (sym e)
+
+differ_split : (ms : List ℕ) (k m : ℕ) → k < length ms → m ≡ get_or ms k 0 → differ (map met (drop k ms)) ≡ (not (list_any (λ n. nat_eq m n) (drop (k + 1) ms)) && differ (map met (drop (k + 1) ms)))
+differ_split ms k m lt e =
+    ap (λ X. differ (map met X)) (drop_next ms k 0 lt ∙ ap (λ n. n ∷ drop (k + 1) ms) (sym e))
+    ∙ ap (λ b. not b && differ (map met (drop (k + 1) ms))) (sym (has_any (met m) (drop (k + 1) ms)))
+
+pub differ_next : (ms : List ℕ) (k m : ℕ) (b : Bool) → differ (map met ms) ≡ differ (map met (drop k ms)) → k < length ms → m ≡ get_or ms k 0 → b ≡ list_any (λ n. nat_eq m n) (drop (k + 1) ms) → b ≡ false → differ (map met ms) ≡ differ (map met (drop (k + 1) ms))
+differ_next ms k m b h lt e t f = h ∙ differ_split ms k m lt e ∙ ap (λ c. not c && differ (map met (drop (k + 1) ms))) (sym t ∙ f)
+
+pub differ_not : (ms : List ℕ) (k m : ℕ) (b : Bool) → differ (map met ms) ≡ differ (map met (drop k ms)) → k < length ms → m ≡ get_or ms k 0 → b ≡ list_any (λ n. nat_eq m n) (drop (k + 1) ms) → b ≡ true → false ≡ differ (map met ms)
+differ_not ms k m b h lt e t f = sym (h ∙ differ_split ms k m lt e ∙ ap (λ c. not c && differ (map met (drop (k + 1) ms))) (sym t ∙ f))
+
+drop_over : {A : Type 0} (xs : List A) (k : ℕ) → length xs ≤ k → drop k xs ≡ []
+drop_over [] zero h = refl
+drop_over [] (suc k) h = refl
+drop_over (x ∷ xs) zero h = absurd (omega (arith, h))
+drop_over (x ∷ xs) (suc k) h = drop_over xs k (omega (arith, h))
+
+pub differ_end : (ms : List ℕ) (k : ℕ) → differ (map met ms) ≡ differ (map met (drop k ms)) → length ms ≤ k → true ≡ differ (map met ms)
+differ_end ms k h le = sym (h ∙ ap (λ X. differ (map met X)) (drop_over ms k le))
+
+pub range_from : (xs : List ℕ) (at : ℕ) → take (length xs - at) (drop at xs) ≡ drop at xs
+range_from xs at = ap (λ n. take n (drop at xs)) (sym (length-drop at xs)) ∙ take-length (drop at xs)

@@ -1,0 +1,75 @@
+-- What an item adds to the entries, the metavariables or the rules of a list; and an entry as the program reads it.
+use Rattle.std.specs.Prelude.{ℕ, nat_lt, ◌&&◌, not, Bool, true, false, Option, Some, None, option_map, List, [], ◌∷◌, ◌++◌}
+use Rattle.ft_theory.specs.Expressions.{Expression}
+use Rattle.ft_items.specs.Item.{Name, Item, variable, metavariable, rule, entry, shown}
+use Rattle.ft_items.specs.Sets.{Atom, met, is_within}
+use Rattle.ft_items.specs.Store.{Assertion, nth, entry_named, store_of, metavariables_in}
+use Rattle.ft_items.specs.Good.{equal_names}
+use Rattle.ft_judge.specs.Meaning.{thesis_in, boundary_in}
+use Rattle.ft_check.specs.declared.entry.Entry.{Entry}
+use Rattle.ft_check.specs.declared.entry.Entry.TheVariants.{Thesis, Boundary}
+
+-- the statement and the set of an entry, read over the trees of a table
+abbrev pub entry_in : List Expression → Entry → Assertion
+entry_in ts (Thesis x S) = record { statement = thesis_in ts x.now; set = S.now }
+entry_in ts (Boundary x S) = record { statement = boundary_in ts x.now; set = S.now }
+
+-- the statement and the set, where the item is an entry
+abbrev pub assertion_of : Item → Option Assertion
+assertion_of (variable v n p) = None
+assertion_of (metavariable n p) = None
+assertion_of (rule n ms p) = None
+assertion_of (entry e) = Some (record { statement = e.statement; set = e.set })
+assertion_of (shown p) = None
+
+-- the name and the entry, where the item is a metavariable
+abbrev pub metavariable_of : Item → Option (Name × ℕ)
+metavariable_of (variable v n p) = None
+metavariable_of (metavariable n p) = Some (n, p)
+metavariable_of (rule n ms p) = None
+metavariable_of (entry e) = None
+metavariable_of (shown p) = None
+
+-- the name, the metavariables and the entry, where the item is a rule
+abbrev pub rule_of : Item → Option (Name × List ℕ × ℕ)
+rule_of (variable v n p) = None
+rule_of (metavariable n p) = None
+rule_of (rule n ms p) = Some (n, ms, p)
+rule_of (entry e) = None
+rule_of (shown p) = None
+
+-- The set of the entry of a metavariable's boundary, by the numbers of both.
+
+-- the set, where there is an entry; else the empty one
+abbrev pub set_or_none : Option Assertion → List Atom
+set_or_none None = []
+set_or_none (Some a) = a.set
+
+-- the set of the entry of a number in a list; the empty one where there is none
+abbrev pub set_at : List Item → Option ℕ → List Atom
+set_at items None = []
+set_at items (Some p) = set_or_none (entry_named (store_of items) p)
+
+-- the set of the boundary of a metavariable of a list; the empty one where there is none
+abbrev pub boundary_set : List Item → ℕ → List Atom
+boundary_set items m = set_at items (option_map (λ d. d.1) (nth (metavariables_in items) m))
+
+-- the test that the set of each metavariable has earlier metavariables alone, where those before are earlier than all
+abbrev pub rest_on_earlier : (ℕ → List Atom) → List Atom → List ℕ → Bool
+rest_on_earlier S before [] = true
+rest_on_earlier S before (m ∷ ms) = is_within (S m) before && rest_on_earlier S (before ++ met m ∷ []) ms
+
+-- the test for the empty list
+abbrev pub is_nil : {A : Type 0} → List A → Bool
+is_nil [] = true
+is_nil (x ∷ xs) = false
+
+-- the test that the number of each variable is smaller
+abbrev pub numbers_below : ℕ → List (ℕ × Name × ℕ) → Bool
+numbers_below v [] = true
+numbers_below v (x ∷ xs) = nat_lt x.0 v && numbers_below v xs
+
+-- the test that no rule has the name
+abbrev pub new_name : Name → List (Name × List ℕ × ℕ) → Bool
+new_name n [] = true
+new_name n (x ∷ xs) = not (equal_names x.0 n) && new_name n xs

@@ -1,0 +1,65 @@
+//! The check of a variable.
+
+ghost use Rattle.std.specs.Prelude.{◌≡◌, ◌≤◌, ◌∷◌, [], List, Some, length, take, option_map};
+ghost use Rattle.ft_theory.specs.Expressions.{Expression};
+ghost use Rattle.ft_items.specs.Item.{Name, variable};
+ghost use Rattle.ft_items.specs.Store.{store_of, variables_in};
+ghost use Rattle.ft_items.specs.Good.{Good, is_next as is_greatest, reason_of_variable};
+ghost use Rattle.ft_stated.specs.Lines.{item_in};
+ghost use Rattle.ft_check.specs.Entries.{entry_in, numbers_below};
+ghost use Rattle.ft_check.specs.Rejects.{reason_of, IsReason};
+
+use crate::entry::{Entry, entry_before};
+use crate::reject::Reject;
+use ft_stated::{Items, Stated};
+
+// Whether the item is no variable, or one with a smaller number.
+fn is_smaller(x: &Stated, v: u64) -> bool
+    ensures { (ts : List Expression) → result ≡ numbers_below v (variables_in (item_in ts x.now ∷ [])) }
+{
+    match x {
+        Stated::Var(number, _, _) => *number < v,
+        _ => true,
+    }
+}
+
+// Whether each variable before place i has a smaller number.
+fn is_next(items: &Items, i: u64, v: u64) -> bool
+    requires { i ≤ length items.now.items }
+    ensures { Good (take i items.now.items) → result ≡ is_greatest (store_of (take i items.now.items)).variables v }
+{
+    for k in 0..i {
+        if !is_smaller(items.item(k), v) {
+            return false;
+        }
+    }
+    true
+}
+
+// The reason against an entry as the type of a variable.
+fn against_type(found: Entry<'_>) -> Option<Reject>
+    ensures { (ts : List Expression) → option_map reason_of result ≡ reason_of_variable (Some (entry_in ts found.entry)) }
+{
+    if !found.is_thesis() {
+        Some(Reject::Kind)
+    } else if found.is_plain_type() {
+        None
+    } else {
+        Some(Reject::Premise)
+    }
+}
+
+/// The first reason against a variable of this number with the type of entry `p` after the items before place `i`, or None
+/// where there is none. It takes no memory.
+pub fn check_variable(items: &Items, i: u64, number: u64, p: u64) -> Option<Reject>
+    requires { i ≤ length items.now.items }
+    ensures { (n : Name) → IsReason (take i items.now.items) (variable number n p) result }
+{
+    if !is_next(items, i, number) {
+        return Some(Reject::Number);
+    }
+    match entry_before(items, i, p) {
+        None => Some(Reject::Reference),
+        Some(entry) => against_type(entry),
+    }
+}

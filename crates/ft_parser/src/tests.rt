@@ -357,3 +357,43 @@ fn parts_nest_200_deep(rt: HostRuntime) -> Result<(), SyntaxFault> {
     );
     Ok(())
 }
+
+// A source of a text, a part so many times, and a text after it.
+fn chained(
+    alloc: Global,
+    before: &str,
+    part: &str,
+    times: usize,
+    after: &str,
+) -> Result<String, SyntaxFault> {
+    let mut text = String::from_str(alloc, before)?;
+    for _ in 0..times {
+        text.push_str(part)?;
+    }
+    text.push_str(after)?;
+    Ok(text)
+}
+
+#[test]
+fn types_patterns_and_lists_nest_200_deep(rt: HostRuntime) -> Result<(), SyntaxFault> {
+    let alloc = rt.alloc();
+    let operation = "operation f unit : ";
+    let lists = chained(alloc, operation, "list ", 199, "unit")?;
+    assert!(rt; count(alloc, &lists) == Ok(1));
+    let lists = chained(alloc, operation, "list ", 200, "unit")?;
+    assert!(rt; count(alloc, &lists) == Err(SyntaxFault::TooNested(1019)));
+    let products = chained(alloc, operation, "bool * ", 199, "bool")?;
+    assert!(rt; count(alloc, &products) == Ok(1));
+    let products = chained(alloc, operation, "bool * ", 200, "bool")?;
+    assert!(rt; count(alloc, &products) == Err(SyntaxFault::TooNested(1419)));
+    let matched = "show match x with | ";
+    let patterns = chained(alloc, matched, "a :: ", 198, "a -> b end")?;
+    assert!(rt; count(alloc, &patterns) == Ok(1));
+    let patterns = chained(alloc, matched, "a :: ", 199, "a -> b end")?;
+    assert!(rt; count(alloc, &patterns) == Err(SyntaxFault::TooNested(1015)));
+    let values = chained(alloc, "show ", "a :: ", 199, "a")?;
+    assert!(rt; count(alloc, &values) == Ok(1));
+    let values = chained(alloc, "show ", "a :: ", 200, "a")?;
+    assert!(rt; count(alloc, &values) == Err(SyntaxFault::TooNested(1005)));
+    Ok(())
+}

@@ -2,3 +2,4 @@ pub mod Faults
 pub mod Meaning
 pub mod Fits
 pub mod Moving
+pub mod Code

@@ -1,4 +1,3 @@
-pub mod Code
 pub mod Steps
 pub mod Lines
 pub mod State

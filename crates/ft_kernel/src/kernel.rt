@@ -43,7 +43,7 @@ pub struct Kernel {
 impl Model for Kernel {
     ghost use Rattle.std.specs.Coded.{codes};
     ghost use Rattle.ft_syntax.specs.Code.{coded_expression};
-    ghost use Rattle.ft_kernel.specs.Code.{coded_statement};
+    ghost use Rattle.ft_judge.specs.Code.{coded_statement};
     ghost use Rattle.ft_kernel.specs.State.{State};
 
     ghost Value = { State };

@@ -11,7 +11,7 @@ use Rattle.ft_syntax.specs.declared.syntax.SynFault.TheVariants as refusal
 use Rattle.ft_read.proofs.Extending.{args_extend, below_longer, below_push, length_extends, tree_extends}
 use Rattle.ft_read.specs.declared.fault.Fault.{Fault}
 use Rattle.ft_read.specs.Expressions.{terms_of, IsFormed, outcome_of, small, ReadsTree}
-use Rattle.ft_read.proofs.Smallness.{small_true, true_small}
+use Rattle.ft_items.proofs.Smallness.{small_true, true_small}
 
 not_small : (e : Expression) → (IsSmall e → ⊥) → is_small e ≡ false
 not_small e h = by_bool (is_small e ≡ false) (is_small e) (λ t. absurd (h (true_small e t))) (λ f. f)

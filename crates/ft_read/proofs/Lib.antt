@@ -1,7 +1,6 @@
 pub mod Choices
 pub mod Turns
 pub mod Numbers
-pub mod Smallness
 pub mod Extending
 pub mod Forming
 pub mod Items

@@ -12,7 +12,7 @@ use Rattle.ft_read.specs.declared.fault.Fault.TheVariants.{Form}
 use Rattle.ft_read.specs.Reading.{Outcome, Reader, ◌>>=◌, and_then, pure, refuse, sees, sees_digit, passes, expect, number}
 use Rattle.ft_read.specs.Expressions.{in_parentheses, small, terms_of, argument, bound_variable, free_variable, symbol_applied, meta_applied, application, level, expression_within, expression}
 use Rattle.ft_read.proofs.Numbers.{number_is, number_read}
-use Rattle.ft_read.proofs.Smallness.{small_true, true_small}
+use Rattle.ft_items.proofs.Smallness.{small_true, true_small}
 use Rattle.ft_read.proofs.Chains.{err_ok, ok_ok, in_turn, by_test, taken, not_taken, taken_both, not_taken_both, taken_reader, not_taken_reader, sees_is, expected, sees_none}
 use Rattle.ft_read.proofs.Listed.{enclosed, Each, in_parentheses_is, IsReadBack, AreReadBack, in_parentheses_read}
 

@@ -18,7 +18,7 @@ use Rattle.ft_run.specs.Given.{argument_of}
 use Rattle.ft_run.specs.Session.{Progress, IsSimple, AreSimple, IsSimpleClaim, IsSimpleGoal, HasEntry, IsClaimed, AreClaimed, claims_in, Keeps}
 use Rattle.ft_run.specs.Claiming.{rule_in, at_place}
 use Rattle.ft_run.proofs.Keeping.{all_claimed_kept}
-use Rattle.ft_run.proofs.Smallness.{small_true, true_small}
+use Rattle.ft_items.proofs.Smallness.{small_true, true_small}
 
 argument_below : (n : ℕ) (f : Form) → FormBelow n f → ArgumentsBelow n (argument_of f ∷ [])
 argument_below n (Ty A) h = (h, tt)

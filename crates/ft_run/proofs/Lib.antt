@@ -3,7 +3,6 @@ pub mod Allowed
 pub mod Forms
 pub mod Keeping
 pub mod Concluding
-pub mod Smallness
 pub mod Applying
 pub mod Naming
 pub mod Claims

@@ -37,7 +37,7 @@ pub struct Session {
 impl Model for Session {
     ghost use Rattle.std.specs.Coded.{codes};
     ghost use Rattle.ft_syntax.specs.Code.{coded_expression};
-    ghost use Rattle.ft_kernel.specs.Code.{coded_statement, coded_claim};
+    ghost use Rattle.ft_judge.specs.Code.{coded_statement, coded_claim};
     ghost use Rattle.ft_run.specs.Session.{Progress, declarations, IsSession};
 
     ghost Value = { Progress };

@@ -23,7 +23,7 @@ pub struct Items {
 impl Model for Items {
     ghost use Rattle.std.specs.Coded.{codes};
     ghost use Rattle.ft_syntax.specs.Code.{coded_expression};
-    ghost use Rattle.ft_stated.specs.Code.{coded_statement};
+    ghost use Rattle.ft_judge.specs.Code.{coded_statement};
     ghost use Rattle.ft_stated.specs.Lines.{Listing};
 
     ghost Value = { Listing };

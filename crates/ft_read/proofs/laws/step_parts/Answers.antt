@@ -1,8 +1,0 @@
-use Rattle.ft_read.proofs.Parts.{parts_back, parts_is}
-use Rattle.ft_read.proofs.laws.step_parts.Goals as goal
-
-pub returns-clause-complete : goal.returns-clause-complete
-returns-clause-complete c = parts_back
-
-pub returns-clause-sound : goal.returns-clause-sound
-returns-clause-sound c = parts_is

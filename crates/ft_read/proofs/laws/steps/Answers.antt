@@ -1,8 +1,0 @@
-use Rattle.ft_read.proofs.StepTexts.{step_back, step_is}
-use Rattle.ft_read.proofs.laws.steps.Goals as goal
-
-pub returns-clause-complete : goal.returns-clause-complete
-returns-clause-complete c = step_back
-
-pub returns-clause-sound : goal.returns-clause-sound
-returns-clause-sound c = step_is

@@ -1,5 +1,0 @@
-use Rattle.std.proofs.Common.{length}
-use Rattle.ft_read.proofs.sets.+assume.Given as goal
-
-abbrev pub decreases-assume : goal.decreases-assume
-decreases-assume l = length l.atoms.now

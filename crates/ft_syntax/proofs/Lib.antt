@@ -10,3 +10,4 @@ pub mod Planting
 pub mod Instantiating
 pub mod Outcomes
 pub mod Copying
+pub mod Sameness

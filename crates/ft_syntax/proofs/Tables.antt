@@ -9,6 +9,7 @@ use Rattle.ft_syntax.specs.Arguments.{applied, FitsNode, node_of, arguments_of}
 use Rattle.ft_syntax.specs.Table.{tree, Extends, argument_in, BodyBelow, ArgumentsBelow}
 use Rattle.ft_syntax.specs.Invariant.{row_tree, trees_after, IsGoodRow, AreGoodRows}
 use Rattle.ft_syntax.specs.declared.syntax.Arg.{Arg}
+use Rattle.ft_syntax.specs.declared.syntax.Node.{Node}
 use Rattle.ft_syntax.specs.declared.table.Row.{Row}
 
 pub trees_append : (ts : List Expression) (rs : List Row) (r : Row) → trees_after ts (rs ++ r ∷ []) ≡ trees_after ts rs ++ row_tree (trees_after ts rs) r ∷ []
@@ -119,3 +120,7 @@ body_below n (suc i) (y ∷ xs) x b l g = body_below n i xs x b.1 (omega arith) 
 
 pub row_below : (ts : List Expression) (e i : ℕ) (r : Row) (x : Arg) → IsRow ts e r → i < length r.args.items → x ≡ get_or r.args.items i x → BodyBelow e x.body
 row_below ts e i r x h l g = body_below e i r.args.items x h.below l g
+
+-- the tree of a row that has this node and these arguments
+pub tree_of_row : (ts : List Expression) (e : ℕ) (r : Row) (node : Node) (args : List Arg) → IsRow ts e r → r.node ≡ node → r.args.items ≡ args → tree ts e ≡ applied node (map (argument_in ts) args)
+tree_of_row ts e r node args h n a = h.is ∙ ap₂ (λ n a. applied n (map (argument_in ts) a)) n a

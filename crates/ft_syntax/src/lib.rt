@@ -5,6 +5,7 @@ mod change;
 mod copy;
 mod instance;
 mod instantiate;
+mod recent;
 mod syntax;
 mod table;
 

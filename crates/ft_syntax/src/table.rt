@@ -9,6 +9,7 @@ ghost use Rattle.ft_syntax.specs.Invariant.{IsApplied};
 ghost use Rattle.ft_syntax.specs.Measures.{greatest_depth, total_size, AreSmall};
 ghost use Rattle.ft_syntax.specs.declared.syntax.SynFault.TheVariants.{TooBig, Memory};
 
+use crate::recent::{Recent, mark_of};
 use crate::syntax::{Arg, E, Node, SynFault};
 use std::alloc::{AllocError, Global};
 use std::marker::Model;
@@ -27,6 +28,7 @@ struct Row {
 #[derive(Drop)]
 pub struct Terms {
     rows: Vec<Row>,
+    recent: Recent,
     alloc: Global,
 }
 
@@ -53,6 +55,7 @@ impl Terms {
     {
         Terms {
             rows: Vec::new(alloc),
+            recent: Recent::new(alloc),
             alloc,
         }
     }
@@ -80,6 +83,66 @@ impl Terms {
             return Err(SynFault::Memory);
         }
         Ok(E::at(number))
+    }
+
+    // A row that is remembered, where it has this node and these arguments.
+    #[tactic(auto, using(crate::proofs::Tables::row_of, crate::proofs::Tables::length_trees, crate::proofs::Tables::tree_of_row))]
+    fn remembered(&self, mark: u64, node: Node, args: &[Arg]) -> Option<E>
+        ensures within { IfSome result (λ e. e < length self.now) }
+        ensures tree { IfSome result (λ e. tree self.now e ≡ applied node (map (argument_in self.now) args.now)) }
+        ensures small { IfSome result (λ e. IsSmall (tree self.now e)) }
+    {
+        let place = self.recent.place(mark)?;
+        let row = self.rows.get(place)?;
+        if row.node == node && are_same(&row.args, args) {
+            Some(E::at(place))
+        } else {
+            None
+        }
+    }
+
+    // The expression of a node with its arguments, whose depth and size are these.
+    #[tactic(auto, using(crate::proofs::Tables::extends_last, crate::proofs::Tables::extends_same, crate::proofs::Tables::tree_last, crate::proofs::Tables::length_last))]
+    fn row(
+        &mut self,
+        mark: u64,
+        node: Node,
+        args: Vec<Arg>,
+        depth: u64,
+        size: u64,
+    ) -> Result<E, SynFault>
+        requires below { ArgumentsBelow (length self.old) args.items }
+        requires fits { FitsNode node (map (argument_in self.old) args.items) }
+        requires depth_is { depth ≡ Rattle.ft_theory.specs.Small.depth (applied node (map (argument_in self.old) args.items)) }
+        requires size_is { size ≡ Rattle.ft_theory.specs.Small.size (applied node (map (argument_in self.old) args.items)) }
+        requires small { IsSmall (applied node (map (argument_in self.old) args.items)) }
+        ensures within { IfOk result (λ e. e < length self.new) }
+        ensures tree { IfOk result (λ e. tree self.new e ≡ applied node (map (argument_in self.old) args.items)) }
+        ensures goes_on { Extends self.old self.new }
+        ensures memory { IfErr result (λ f. f ≡ Memory) }
+    {
+        let e = self.push(node, args, depth, size)?;
+        self.recent.note(mark, e.place());
+        Ok(e)
+    }
+
+    // A variable: the row that is remembered for it, or a new one.
+    #[tactic(auto, using(crate::proofs::Tables::extends_same))]
+    fn variable(&mut self, node: Node) -> Result<E, SynFault>
+        requires fits { FitsNode node [] }
+        requires depth_is { 1 ≡ Rattle.ft_theory.specs.Small.depth (applied node []) }
+        requires size_is { 1 ≡ Rattle.ft_theory.specs.Small.size (applied node []) }
+        requires small { IsSmall (applied node []) }
+        ensures within { IfOk result (λ e. e < length self.new) }
+        ensures tree { IfOk result (λ e. tree self.new e ≡ applied node []) }
+        ensures goes_on { Extends self.old self.new }
+        ensures memory { IfErr result (λ f. f ≡ Memory) }
+    {
+        let mark = mark_of(node, &[]);
+        match self.remembered(mark, node, &[]) {
+            Some(e) => Ok(e),
+            None => self.row(mark, node, Vec::new(self.alloc), 1, 1),
+        }
     }
 
     // The depth and the size of the arguments, where they are small enough for an application.
@@ -121,9 +184,13 @@ impl Terms {
         ensures goes_on { Extends self.old self.new }
         ensures too_big { IfErr result (λ f. f ≡ TooBig → IsSmall (applied node (map (argument_in self.old) args.items)) → ⊥) }
     {
+        let mark = mark_of(node, &args);
+        if let Some(e) = self.remembered(mark, node, &args) {
+            return Ok(e);
+        }
         match self.measure(&args) {
             None => Err(SynFault::TooBig),
-            Some((depth, size)) => self.push(node, args, depth + 1, size + 1),
+            Some((depth, size)) => self.row(mark, node, args, depth + 1, size + 1),
         }
     }
 
@@ -139,7 +206,7 @@ impl Terms {
         if i == u64::MAX {
             return Err(SynFault::TooBig);
         }
-        self.push(Node::Bound(i), Vec::new(self.alloc), 1, 1)
+        self.variable(Node::Bound(i))
     }
 
     /// The free variable of a number.
@@ -151,7 +218,7 @@ impl Terms {
         ensures goes_on { Extends self.old self.new }
         ensures too_big { IfErr result (λ f. f ≡ TooBig → IsSmall (free v) → ⊥) }
     {
-        self.push(Node::Free(v), Vec::new(self.alloc), 1, 1)
+        self.variable(Node::Free(v))
     }
 
     /// The depth of an expression: 1 for a variable, and 1 more than the greatest of its arguments' for another. It takes no memory.
@@ -249,6 +316,7 @@ impl Terms {
     }
 
     // The application e, which has the arguments args, with the arguments list: e itself where these are the same.
+    #[tactic(auto, using(crate::proofs::Sameness::same_tree, crate::proofs::Tables::extends_same))]
     pub(crate) fn rebuilt(&mut self, e: E, args: &[Arg], list: Vec<Arg>) -> Result<E, SynFault>
         requires applied { IsApplied self.old e args.now }
         requires below { ArgumentsBelow (length self.old) list.items }
@@ -258,7 +326,7 @@ impl Terms {
         ensures goes_on { Extends self.old self.new }
         ensures too_big { IfErr result (λ f. f ≡ TooBig → IsSmall (applied (node_of (tree self.old e)) (map (argument_in self.old) list.items)) → ⊥) }
     {
-        if args == list.as_slice() {
+        if are_same(args, &list) {
             return Ok(e);
         }
         let node = self.node(e);
@@ -326,6 +394,13 @@ impl Terms {
         }
         false
     }
+}
+
+// Whether the arguments are the same.
+fn are_same(x: &[Arg], y: &[Arg]) -> bool
+    ensures { IsTrue result → x.now ≡ y.now }
+{
+    x == y
 }
 
 // The terms as arguments without binders.

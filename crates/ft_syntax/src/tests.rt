@@ -137,3 +137,20 @@ fn the_greatest_number_is_too_big(rt: HostRuntime) -> Result<(), Fail> {
     assert!(rt; t.bound(u64::MAX - 1).is_ok());
     Ok(())
 }
+
+#[test]
+#[tactic(auto, using(crate::proofs::Changing::length_extends))]
+fn what_was_formed_last_is_formed_once(rt: HostRuntime) -> Result<(), Fail> {
+    let mut t = Terms::new(rt.alloc());
+    let zero = t.symbol(1, &[])?;
+    let again = t.symbol(1, &[])?;
+    assert!(rt; zero == again);
+    let variable = t.free(7)?;
+    let other = t.bound(7)?;
+    assert!(rt; t.free(7)? == variable);
+    assert!(rt; variable != other);
+    let one = t.meta(2, &[zero])?;
+    assert!(rt; t.meta(2, &[again])? == one);
+    assert!(rt; t.meta(3, &[zero])? != one);
+    Ok(())
+}

@@ -1,13 +1,14 @@
-use Rattle.std.proofs.Common.{◌≡◌, ℕ, Bool, true, false, ◌&&◌, nat_eq, Option, Some, None, sym, ap, ap₂, ◌∙◌, map, refl}
+-- What `==` tells of arguments.
+use Rattle.std.proofs.Common.{◌≡◌, List, map, ◌∙◌, ℕ, Bool, true, false, ◌&&◌, nat_eq, Option, Some, None, sym, ap, ap₂, refl}
 use Rattle.std.specs.Bool.{Decides}
 use Rattle.std.proofs.lemmas.Bool.{eqb-true, eq-eqb}
-use Rattle.std.proofs.lemmas.Slice.Eq.{slice_eq-Decides}
+use Rattle.ft_theory.specs.Expressions.{Expression}
 use Rattle.ft_syntax.specs.Arguments.{applied, node_of}
 use Rattle.ft_syntax.specs.Table.{tree, argument_in}
+use Rattle.ft_syntax.specs.Invariant.{IsApplied}
 use Rattle.ft_syntax.specs.declared.syntax.Arg.{Arg}
-use Rattle.ft_syntax.specs.contracts.syntax.ArgPartialEq.TheImpl as arg_eq
 use Rattle.ft_syntax.proofs.Parts.{applied_node_of}
-use Rattle.ft_syntax.proofs.table.Terms.rebuilt.Goals as goal
+use Rattle.ft_syntax.specs.contracts.syntax.ArgPartialEq.TheImpl as arg_eq
 
 argument : ℕ → Option ℕ → Arg
 argument n b = record { binders = n; body = b }
@@ -39,11 +40,11 @@ decides_parts m n (Some d) (Some e) = (
     some_same : {x y : ℕ} → Some x ≡ Some y → x ≡ y
     some_same e = cc
 
-decides : (x y : Arg) → Decides ((arg_eq.ghosts).eq x y) (x ≡ y)
+-- `==` of two arguments tells whether they are the same
+pub decides : (x y : Arg) → Decides ((arg_eq.ghosts).eq x y) (x ≡ y)
 unfolding argument
 decides x y = decides_parts x.binders y.binders x.body y.body
 
-pub returns-then-eq-clause-tree : goal.returns-then-eq-clause-tree
-returns-then-eq-clause-tree c =
-    let e = (slice_eq-Decides decides c.args.args.now c.as_slice.result.now c.eq.result c.eq.ensures).0 c.if-eq.true in
-    sym (applied_node_of (tree c.args.self.now c.args.e)) ∙ ap (applied (node_of (tree c.args.self.now c.args.e))) (c.requires.applied.is ∙ ap (map (argument_in c.args.self.now)) (e ∙ c.as_slice.ensures.value))
+-- an application is its node with its arguments
+pub same_tree : (ts : List Expression) (e : ℕ) (xs ys : List Arg) → IsApplied ts e xs → xs ≡ ys → tree ts e ≡ applied (node_of (tree ts e)) (map (argument_in ts) ys)
+same_tree ts e xs ys h s = sym (applied_node_of (tree ts e)) ∙ ap (applied (node_of (tree ts e))) (h.is ∙ ap (map (argument_in ts)) s)

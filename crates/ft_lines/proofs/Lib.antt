@@ -5,6 +5,7 @@ pub mod Extending
 pub mod Forming
 pub mod Items
 pub mod Chains
+pub mod NameLetters
 pub mod Atoms
 pub mod Reading
 pub mod Listed
@@ -13,3 +14,8 @@ pub mod Claims
 pub mod Parts
 pub mod StepTexts
 pub mod EntryTexts
+pub mod StepsOf
+pub mod NameTexts
+pub mod LineTexts
+pub mod ItemTexts
+pub mod FirstLetters

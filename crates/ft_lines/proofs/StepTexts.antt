@@ -35,7 +35,7 @@ find_passes passes (v ∷ ws) w e = elim (passes v) as (λ b. passes v ≡ b →
 word_of_is : (letters : List ℕ) (w : Word) → word_of letters ≡ Some w → spelling_of w ≡ letters
 word_of_is letters w e = bytes_same (spelling_of w) letters (find_passes (λ v. bytes_eq (spelling_of v) letters) words w e)
 
-word_of_spelling : (w : Word) → word_of (spelling_of w) ≡ Some w
+pub word_of_spelling : (w : Word) → word_of (spelling_of w) ≡ Some w
 word_of_spelling word.Var = refl
 word_of_spelling word.Generic = refl
 word_of_spelling word.Meta = refl
@@ -187,7 +187,7 @@ word_for (by_arg i p) h = (word.Arg, refl)
 word_for (by_natural p) h = (word.Natural, refl)
 word_for (by_metainst p ms qs) h = absurd h
 
-abbrev value_of_part : AnyPart → Part
+abbrev pub value_of_part : AnyPart → Part
 value_of_part (any_number n) = Number n
 value_of_part slash = Slash
 

@@ -1,15 +1,19 @@
 -- What holds of the readers: what is read is the text of what it is read as, and each text is read.
 use Rattle.std.specs.Prelude.{ℕ, ◌≡◌, List, [], ◌++◌, Ok, map, true, false}
 use Rattle.std.specs.Fmt.{decimal}
+use Rattle.std.specs.Str.{all_scalars, encode_utf8_all}
+use Rattle.ft_base.specs.Names.{is_name_token}
 use Rattle.ft_theory.specs.Expressions.{Expression}
 use Rattle.ft_theory.specs.Statements.{Statement}
 use Rattle.ft_theory.specs.Small.{IsSmall}
 use Rattle.ft_items.specs.Equal.{is_thesis}
-use Rattle.ft_items.specs.Item.{Stated, Entry, entry}
+use Rattle.ft_items.specs.Item.{Stated, Name, Entry, entry}
 use Rattle.ft_items.specs.Sets.{Atom, Ascending}
 use Rattle.ft_items.specs.Texts.{NumberFits, EachAtomFits, ItsNumbersFit, StatementFits, PartsFit, IsOfVersion1, EntryFits, line_text, written, step_text, set_text, expression_text, statement_text}
+use Rattle.ft_texts.specs.Laws.{Visible}
 use Rattle.ft_lines.specs.declared.steps.Part.{Part}
 use Rattle.ft_lines.specs.Reading.{sees, sees_digit, number}
+use Rattle.ft_lines.specs.Names.{name, ends_name}
 use Rattle.ft_lines.specs.Steps.{part_of, parts, parts_text, step, sees_letter, IsWritten}
 use Rattle.ft_lines.specs.declared.words.Word.{Word}
 use Rattle.ft_lines.specs.Words.{spelling_of}
@@ -25,6 +29,14 @@ NumberIsRead = (n : ℕ) (rest : List ℕ) → NumberFits n → sees_digit rest 
 -- what is read as a number is its text, and it fits
 abbrev pub NumberIsText : Type 0
 NumberIsText = (n : ℕ) (cs rest : List ℕ) → number cs ≡ Ok (n, rest) → (cs ≡ decimal n ++ rest) × NumberFits n
+
+-- a name is read, where a space or nothing follows
+abbrev pub NameIsRead : Type 0
+NameIsRead = (n : Name) (rest : List ℕ) → is_name_token n ≡ true → ends_name rest ≡ true → name (encode_utf8_all n ++ rest) ≡ Ok (n, rest)
+
+-- what is read as a name is its UTF-8, and it is a name token
+abbrev pub NameIsText : Type 0
+NameIsText = (n : Name) (cs rest : List ℕ) → name cs ≡ Ok (n, rest) → (cs ≡ encode_utf8_all n ++ rest) × (is_name_token n ≡ true)
 
 -- an ascending set whose numbers fit is read
 abbrev pub SetIsRead : Type 0
@@ -90,3 +102,11 @@ BoundaryEntryIsRead = (e : Entry) → EntryFits e → is_thesis e.statement ≡ 
 
 abbrev pub BoundaryEntryIsText : Type 0
 BoundaryEntryIsText = (e : Statement × List Atom × Word × List Part) (cs rest : List ℕ) → boundary_entry cs ≡ Ok (e, rest) → IsEntryText false 66 e.0 e.1 e.2 e.3 cs rest
+
+-- each character of a name stands after the space
+abbrev pub NamesAreVisible : Type 0
+NamesAreVisible = (n : Name) → is_name_token n ≡ true → Visible n
+
+-- each number in a name is that of a character
+abbrev pub NamesHaveScalars : Type 0
+NamesHaveScalars = (n : Name) → is_name_token n ≡ true → all_scalars n ≡ true

@@ -1,8 +1,11 @@
 pub mod Reading
+pub mod Names
 pub mod Sets
 pub mod Expressions
 pub mod Statements
 pub mod Words
 pub mod Steps
+pub mod Written
 pub mod Entries
+pub mod Lines
 pub mod Laws

@@ -1,13 +1,18 @@
 //! The bytes that are left.
 
-ghost use Rattle.std.specs.Prelude.{◌≡◌, ◌≤◌, ◌+◌, ◌*◌, ◌-◌, ◌^◌, drop, take, length, nat_le, Some, None, if◌then◌else◌};
+ghost use Rattle.std.specs.Prelude.{◌≡◌, ◌≤◌, ◌+◌, ◌*◌, ◌-◌, ◌^◌, drop, take, length, nat_le, Some, None, IfOk, if◌then◌else◌};
 ghost use Rattle.std.specs.Char.{is_ascii_digit};
 ghost use Rattle.ft_lexer.specs.Fronts.{run, decimal_value, has_leading_zero};
 ghost use Rattle.ft_lines.specs.Reading as spec;
+ghost use Rattle.ft_lines.specs.Lines.{ended};
+ghost use Rattle.ft_lines.specs.Names as names;
+ghost use Rattle.ft_lines.specs.Names.{is_no_space};
 ghost use Rattle.ft_lines.specs.Steps.{is_letter};
 ghost use Rattle.ft_lines.specs.Reading.{Reads};
 
 use crate::fault::Fault;
+use ft_base::{Memory, Name};
+use std::alloc::Global;
 use std::marker::Model;
 
 /// What is left of a line, which contracts see as the list of its bytes.
@@ -108,6 +113,53 @@ impl<'a> Cursor<'a> {
             }
             None => Err(Fault::Form),
         }
+    }
+
+    /// The name that is next: the bytes up to a space, or to the end.
+    #[tactic(auto, unfolding(crate::specs::Names::name))]
+    pub fn name(&mut self, alloc: Global) -> Result<Name, Fault>
+        ensures { Reads (names.name self.old) result self.new }
+    {
+        let length = name_bytes(self.rest);
+        let name = name_in(alloc, &self.rest[..length])?.ok_or(Fault::Form)?;
+        self.rest = &self.rest[length..];
+        Ok(name)
+    }
+
+    /// The end of the line.
+    #[tactic(auto, unfolding(crate::specs::Lines::ended))]
+    pub fn end(&self) -> Result<(), Fault>
+        ensures { Reads (ended self.now) result self.now }
+    {
+        match self.rest {
+            [] => Ok(()),
+            _ => Err(Fault::Form),
+        }
+    }
+}
+
+// How many bytes stand before the next space.
+fn name_bytes(text: &[u8]) -> usize
+    ensures run { result ≡ run is_no_space text.now }
+    ensures within { result ≤ length text.now }
+{
+    let mut length = 0;
+    for c in text {
+        if *c == b' ' {
+            return length;
+        }
+        length += 1;
+    }
+    length
+}
+
+// The name that the bytes are, or None where they are no UTF-8 or no name token.
+fn name_in(alloc: Global, bytes: &[u8]) -> Result<Option<Name>, Memory>
+    ensures { IfOk result (λ n. n ≡ names.name_in bytes.now) }
+{
+    match str::from_utf8(bytes) {
+        Ok(text) => Name::new(alloc, text),
+        Err(_) => Ok(None),
     }
 }
 

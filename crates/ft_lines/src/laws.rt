@@ -1,11 +1,17 @@
 //! Laws of the readers.
 
-ghost use Rattle.ft_lines.specs.Laws.{NumberIsRead, NumberIsText, SetIsRead, SetIsText, ExpressionIsRead, ExpressionIsText, ThesisIsRead, ThesisIsText, BoundaryIsRead, BoundaryIsText, PartsAreRead, PartsAreText, StepIsRead, StepIsText, ThesisEntryIsRead, ThesisEntryIsText, BoundaryEntryIsRead, BoundaryEntryIsText};
+ghost use Rattle.ft_lines.specs.Laws.{NameIsRead, NameIsText, NamesAreVisible, NamesHaveScalars, NumberIsRead, NumberIsText, SetIsRead, SetIsText, ExpressionIsRead, ExpressionIsText, ThesisIsRead, ThesisIsText, BoundaryIsRead, BoundaryIsText, PartsAreRead, PartsAreText, StepIsRead, StepIsText, ThesisEntryIsRead, ThesisEntryIsText, BoundaryEntryIsRead, BoundaryEntryIsText};
 
 /// A number's text is read as the number, where no digit follows; and what is read is a number's text.
 pub fn numbers()
     ensures complete { NumberIsRead }
     ensures sound { NumberIsText }
+{}
+
+/// A name's UTF-8 is read as the name, where a space or nothing follows; and what is read is the UTF-8 of a name token.
+pub fn names()
+    ensures complete { NameIsRead }
+    ensures sound { NameIsText }
 {}
 
 /// A set's text is read as the set, where it is ascending; and what is read is an ascending set's text.
@@ -54,4 +60,14 @@ pub fn thesis_entries()
 pub fn boundary_entries()
     ensures complete { BoundaryEntryIsRead }
     ensures sound { BoundaryEntryIsText }
+{}
+
+/// A name's characters stand after the space in Unicode.
+pub fn names_are_visible()
+    ensures { NamesAreVisible }
+{}
+
+/// A name has characters of Unicode alone.
+pub fn names_have_scalars()
+    ensures { NamesHaveScalars }
 {}

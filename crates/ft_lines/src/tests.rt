@@ -82,6 +82,29 @@ fn a_boundary_has_its_domains_and_its_goal(rt: HostRuntime) -> Result<(), Fault>
 }
 
 #[test]
+fn each_form_and_each_goal_is_read(rt: HostRuntime) -> Result<(), Fault> {
+    let alloc = rt.alloc();
+    let mut terms = Terms::new(alloc);
+    let a = form(alloc, &mut terms, &mut Cursor::new(b"T s0()"))?;
+    assert!(rt; matches!(a, Form::Ty(_)));
+    let b = form(alloc, &mut terms, &mut Cursor::new(b"t v1 s0()"))?;
+    assert!(rt; matches!(b, Form::Tm(..)));
+    let c = form(alloc, &mut terms, &mut Cursor::new(b"E s0() s1()"))?;
+    assert!(rt; matches!(c, Form::EqTy(..)));
+    let d = form(alloc, &mut terms, &mut Cursor::new(b"e v1 v2 s0()"))?;
+    assert!(rt; matches!(d, Form::EqTm(..)));
+    let e = goal(alloc, &mut terms, &mut Cursor::new(b"T"))?;
+    assert!(rt; matches!(e, Goal::Ty));
+    let f = goal(alloc, &mut terms, &mut Cursor::new(b"t s0()"))?;
+    assert!(rt; matches!(f, Goal::Tm(_)));
+    let g = goal(alloc, &mut terms, &mut Cursor::new(b"E s0() s1()"))?;
+    assert!(rt; matches!(g, Goal::EqTy(..)));
+    let h = goal(alloc, &mut terms, &mut Cursor::new(b"e v1 v2 s0()"))?;
+    assert!(rt; matches!(h, Goal::EqTm(..)));
+    Ok(())
+}
+
+#[test]
 fn a_step_has_its_parts(rt: HostRuntime) -> Result<(), Fault> {
     let mut text = Cursor::new(b" 2 3 1 / / 5");
     let read = parts(rt.alloc(), &mut text)?;

@@ -1,0 +1,11 @@
+use Rattle.std.proofs.Common.{rules, arith}
+use Rattle.std.proofs.lemmas.Grind.{common_steps}
+use Rattle.ft_lines.specs.Lines.{premises_from}
+use Rattle.ft_lines.proofs.Turns.{one_more}
+use Rattle.ft_lines.proofs.lines.premises.Goals as goal
+
+pub loop-turn-preserved : goal.loop-turn-preserved
+unfolding premises_from
+loop-turn-preserved c =
+    let e = one_more (λ n. premises_from n c.loop-turn.found c.loop-turn.text) _ c.loop-turn._turn c.loop-turn-test.true c.loop-turn.invariant in
+    first_of (search rules, grind (arith, common_steps))

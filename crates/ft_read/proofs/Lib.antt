@@ -1,0 +1,5 @@
+pub mod Splitting
+pub mod Versions
+pub mod Extending
+pub mod Turns
+pub mod Whole

@@ -6,3 +6,17 @@ mod Naming
 mod Premises
 mod RuleReasons
 mod Stating
+mod BuiltLaws
+mod StepKinds
+mod NamedTheses
+mod Results
+mod Entering
+mod Fits
+mod Concludes
+mod RuleLines
+mod Listed
+mod GoalsTaken
+mod Applies
+mod Compares
+mod PutTogether
+mod HeadsPut

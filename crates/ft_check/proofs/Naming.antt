@@ -44,7 +44,7 @@ pub new_is : (items : List Item) (n : Name) → Good items → list_all (λ i. n
 new_is items n g = sym (ap (λ ns. is_new ns n) (store_is items g).names ∙ names_new n (rules_in items) ∙ new_all n items)
 
 -- how many rules a good list has
-rules_many : (items : List Item) → Good items → length (store_of items).rules ≡ length (rules_in items)
+pub rules_many : (items : List Item) → Good items → length (store_of items).rules ≡ length (rules_in items)
 rules_many items g = ap length (store_is items g).rules ∙ length-map (rules_in items) _
 
 pub room_is : (items : List Item) (b : Bool) → Good items → b ≡ nat_lt 65535 (length (rules_in items)) → nat_lt (length (store_of items).rules) 65536 ≡ not b

@@ -1,5 +1,5 @@
 -- The reasons against items, by what their numbers name.
-use Rattle.std.proofs.Common.{◌≡◌, ℕ, nat_lt, Bool, true, false, ◌&&◌, not, Option, Some, None, List, [], ◌∷◌, refl, sym, ap, ap₂, ◌∙◌, map}
+use Rattle.std.proofs.Common.{◌≡◌, ℕ, nat_eq, nat_lt, Bool, true, false, ◌&&◌, not, Option, Some, None, List, [], ◌∷◌, refl, sym, ap, ap₂, ◌∙◌, map}
 use Rattle.std.specs.List.{list_all}
 use Rattle.ft_items.specs.Item.{Name, Item, variable, metavariable, rule, entry, shown}
 use Rattle.ft_items.specs.Sets.{metavariables_only}
@@ -7,7 +7,7 @@ use Rattle.ft_items.specs.Store.{Assertion, annotated, nth, store_of, entries_in
 use Rattle.ft_items.specs.Equal.{is_thesis}
 use Rattle.ft_items.specs.Good.{Reject as Reason, Reference as reference, Kind as kind, Premise as premise, Number as number, Loose as loose, Good, is_next, is_plain_type, reason_of_shown, reason_of_metavariable, reason_of_variable, unless}
 use Rattle.ft_items.proofs.Lists.{store_is}
-use Rattle.ft_check.specs.Entries.{numbers_below}
+use Rattle.ft_check.specs.Entries.{no_variable, numbers_below}
 
 -- a shown mark
 pub shown_missing : (o : Option Assertion) → None ≡ o → Some reference ≡ reason_of_shown o
@@ -77,3 +77,16 @@ below_all v (shown p ∷ items) = below_all v items
 
 pub next_is : (items : List Item) (v : ℕ) → Good items → list_all (λ i. numbers_below v (variables_in (i ∷ []))) items ≡ is_next (store_of items).variables v
 next_is items v g = sym (ap (λ G. is_next G v) (store_is items g).variables ∙ next_below (λ x. nth (entries_in items) x.2) v (variables_in items) ∙ below_all v items)
+
+-- the variables of a list, by their numbers
+pub lacks_all : (v : ℕ) (items : List Item) → no_variable v (variables_in items) ≡ list_all (λ i. no_variable v (variables_in (i ∷ []))) items
+lacks_all v [] = refl
+lacks_all v (variable w n p ∷ items) = go (not (nat_eq v w)) (lacks_all v items)
+  where
+    go : (b : Bool) → no_variable v (variables_in items) ≡ list_all (λ i. no_variable v (variables_in (i ∷ []))) items → (b && no_variable v (variables_in items)) ≡ ((b && true) && list_all (λ i. no_variable v (variables_in (i ∷ []))) items)
+    go true h = h
+    go false h = refl
+lacks_all v (metavariable n p ∷ items) = lacks_all v items
+lacks_all v (rule n ms p ∷ items) = lacks_all v items
+lacks_all v (entry e ∷ items) = lacks_all v items
+lacks_all v (shown p ∷ items) = lacks_all v items

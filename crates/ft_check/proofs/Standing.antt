@@ -6,7 +6,7 @@ use Rattle.ft_items.specs.Item.{Name, Item, variable, metavariable, rule, entry,
 use Rattle.ft_items.specs.Store.{Assertion, nth, entry_named, empty_store, store_of, entries_in, metavariables_in, rules_in}
 use Rattle.ft_items.proofs.Lists.{entries_all}
 use Rattle.ft_stated.specs.Places.{EntryStands, MetavariableStands, RuleStands}
-use Rattle.ft_check.specs.Entries.{assertion_of, metavariable_of, rule_of}
+use Rattle.ft_check.specs.Entries.{assertion_of, line_of, metavariable_of, rule_of}
 
 pub none_some : {A : Type 0} {x : A} {P : Type 0} → None ≡ Some x → P
 none_some {A} {x} e = absurd (clash e)
@@ -184,3 +184,27 @@ rule_found items i r k s = go (nat_lt k i) refl
     go false e =
         let le : i ≤ k = ltb-false k i e in
         above r (length (rules_in (take i items))) (omega (arith, many, same, fewer rule_of items i k le))
+
+pub rule_within : (items : List Item) (r k : ℕ) → RuleStands items r k → k < length items
+rule_within items r k s = nth_within items k (rule s.0 s.1 s.2) s.3
+
+pub line_absent : (items : List Item) (i r : ℕ) → length (rules_in items) ≤ r → None ≡ option_map line_of (nth (rules_in (take i items)) r)
+line_absent items i r le = sym (ap (option_map line_of) (ap (λ rs. nth rs r) (rules_picked (take i items)) ∙ nth_past (picked rule_of (take i items)) r less))
+  where
+    less : length (picked rule_of (take i items)) ≤ r
+    less = let all : length (picked rule_of items) ≤ r = subst (λ rs. length rs ≤ r) (rules_picked items) le in omega (arith, all, fewer_all rule_of items i)
+
+pub line_later : (items : List Item) (i r k : ℕ) → RuleStands items r k → i ≤ k → None ≡ option_map line_of (nth (rules_in (take i items)) r)
+line_later items i r k s le = sym (ap (option_map line_of) (ap (λ rs. nth rs r) (rules_picked (take i items)) ∙ nth_past (picked rule_of (take i items)) r less))
+  where
+    less : length (picked rule_of (take i items)) ≤ r
+    less = let many : length (picked rule_of (take k items)) ≡ r = sym (ap length (rules_picked (take k items))) ∙ s.4 in omega (arith, many, fewer rule_of items i k le)
+
+pub line_there : (items : List Item) (i r k : ℕ) (x : Item) → RuleStands items r k → k < i → nth items k ≡ Some x
+    → option_map line_of (rule_of x) ≡ option_map line_of (nth (rules_in (take i items)) r)
+line_there items i r k x s lt h =
+    let both : Some x ≡ Some (rule s.0 s.1 s.2) = sym h ∙ s.3 in
+    let same : x ≡ rule s.0 s.1 s.2 = cc in
+    ap (option_map line_of) (ap rule_of same
+    ∙ sym (ap₂ (λ rs n. nth rs n) (rules_picked (take i items)) (sym (sym (ap length (rules_picked (take k items))) ∙ s.4))
+    ∙ there rule_of items k i (rule s.0 s.1 s.2) (s.0, s.1, s.2) s.3 refl lt))

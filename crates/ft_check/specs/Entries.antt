@@ -1,11 +1,12 @@
 -- What an item adds to the entries, the metavariables or the rules of a list; and an entry as the program reads it.
-use Rattle.std.specs.Prelude.{ℕ, nat_lt, ◌&&◌, not, Bool, true, false, Option, Some, None, option_map, List, [], ◌∷◌, ◌++◌}
+use Rattle.std.specs.Prelude.{ℕ, nat_lt, nat_eq, ◌&&◌, not, Bool, true, false, Option, Some, None, option_map, List, [], ◌∷◌, ◌++◌}
 use Rattle.ft_theory.specs.Expressions.{Expression}
-use Rattle.ft_items.specs.Item.{Name, Item, variable, metavariable, rule, entry, shown}
+use Rattle.ft_items.specs.Item.{Stated, Name, Entry as AnyEntry, Item, variable, metavariable, rule, entry, shown}
 use Rattle.ft_items.specs.Sets.{Atom, met, is_within}
 use Rattle.ft_items.specs.Store.{Assertion, nth, entry_named, store_of, metavariables_in}
 use Rattle.ft_items.specs.Good.{equal_names}
-use Rattle.ft_judge.specs.Meaning.{thesis_in, boundary_in}
+use Rattle.ft_judge.specs.Meaning.{thesis_in, boundary_in, ThesisBelow, BoundaryBelow}
+use Rattle.ft_check.specs.declared.entry.RuleLine.{RuleLine}
 use Rattle.ft_check.specs.declared.entry.Entry.{Entry}
 use Rattle.ft_check.specs.declared.entry.Entry.TheVariants.{Thesis, Boundary}
 
@@ -13,6 +14,23 @@ use Rattle.ft_check.specs.declared.entry.Entry.TheVariants.{Thesis, Boundary}
 abbrev pub entry_in : List Expression → Entry → Assertion
 entry_in ts (Thesis x S) = record { statement = thesis_in ts x.now; set = S.now }
 entry_in ts (Boundary x S) = record { statement = boundary_in ts x.now; set = S.now }
+
+-- each expression of the entry is among the first n trees
+abbrev pub EntryBelow : ℕ → Entry → Type 0
+EntryBelow n (Thesis x S) = ThesisBelow n x.now
+EntryBelow n (Boundary x S) = BoundaryBelow n x.now
+
+-- the metavariables and the entry of a rule, without its name
+abbrev pub line_of : Name × List ℕ × ℕ → List ℕ × ℕ
+line_of x = (x.1, x.2)
+
+-- a rule as the program reads it: its metavariables, and the entry of its conclusion
+abbrev pub line_in : RuleLine → List ℕ × ℕ
+line_in x = (x.premises.now, x.conclusion)
+
+-- the statement and the set with a step: an entry of a list
+abbrev pub with_step : Assertion → Stated → AnyEntry
+with_step a t = record { statement = a.statement; set = a.set; step = t }
 
 -- the statement and the set, where the item is an entry
 abbrev pub assertion_of : Item → Option Assertion
@@ -68,6 +86,11 @@ is_nil (x ∷ xs) = false
 abbrev pub numbers_below : ℕ → List (ℕ × Name × ℕ) → Bool
 numbers_below v [] = true
 numbers_below v (x ∷ xs) = nat_lt x.0 v && numbers_below v xs
+
+-- the test that no variable has the number
+abbrev pub no_variable : ℕ → List (ℕ × Name × ℕ) → Bool
+no_variable v [] = true
+no_variable v (x ∷ xs) = not (nat_eq v x.0) && no_variable v xs
 
 -- the test that no rule has the name
 abbrev pub new_name : Name → List (Name × List ℕ × ℕ) → Bool

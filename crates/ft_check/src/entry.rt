@@ -1,14 +1,14 @@
 //! What the numbers in an item name among the items before it.
 
-ghost use Rattle.std.specs.Prelude.{◌≡◌, List, ◌≤◌, length, take, nat_lt, option_map};
+ghost use Rattle.std.specs.Prelude.{◌≡◌, ℕ, List, ◌≤◌, IfSome, length, take, nat_lt, option_map};
 ghost use Rattle.ft_theory.specs.Expressions.{Expression};
 ghost use Rattle.ft_items.specs.Store.{nth, entry_named, store_of, metavariables_in, rules_in};
-ghost use Rattle.ft_stated.specs.Lines.{item_in};
-ghost use Rattle.ft_check.specs.Entries.{entry_in, assertion_of, metavariable_of};
+ghost use Rattle.ft_stated.specs.Lines.{item_in, StatedBelow};
+ghost use Rattle.ft_check.specs.Entries.{entry_in, EntryBelow, assertion_of, line_in, line_of, metavariable_of, rule_of as rule_in};
 
 use ft_assume::Assume;
 use ft_judge::{Boundary, Thesis};
-use ft_stated::{Items, Stated};
+use ft_stated::{Items, Numbers, Stated};
 
 /// An entry as it is stated, with its set.
 #[derive(Clone, Copy)]
@@ -19,7 +19,8 @@ pub enum Entry<'a> {
 
 // The entry, where one is stated.
 fn entry_of(x: &Stated) -> Option<Entry<'_>>
-    ensures { (ts : List Expression) → option_map (entry_in ts) result ≡ assertion_of (item_in ts x.now) }
+    ensures entry { (ts : List Expression) → option_map (entry_in ts) result ≡ assertion_of (item_in ts x.now) }
+    ensures below { (n : ℕ) → StatedBelow n x.now → IfSome result (λ e. EntryBelow n e) }
 {
     match x {
         Stated::Thesis(thesis, set, _) => Some(Entry::Thesis(thesis, set)),
@@ -38,10 +39,31 @@ fn boundary_of(x: &Stated) -> Option<u64>
     }
 }
 
+/// A rule as it is stated: the metavariables of its premises, and the entry of its conclusion's boundary.
+#[derive(Clone, Copy)]
+pub struct RuleLine<'a> {
+    pub premises: &'a Numbers,
+    pub conclusion: u64,
+}
+
+// The rule, where one is stated.
+fn rule_of(x: &Stated) -> Option<RuleLine<'_>>
+    ensures { (ts : List Expression) → option_map line_in result ≡ option_map line_of (rule_in (item_in ts x.now)) }
+{
+    match x {
+        Stated::Rule(_, premises, conclusion) => Some(RuleLine {
+            premises,
+            conclusion: *conclusion,
+        }),
+        _ => None,
+    }
+}
+
 /// The entry of a number before place `i`, or None where there is none.
 #[tactic(auto, using(crate::proofs::Standing::entry_within, crate::proofs::Standing::entry_absent, crate::proofs::Standing::entry_later, crate::proofs::Standing::entry_there))]
 pub fn entry_before(items: &Items, i: u64, p: u64) -> Option<Entry<'_>>
-    ensures { option_map (entry_in items.now.trees) result ≡ entry_named (store_of (take i items.now.items)) p }
+    ensures entry { option_map (entry_in items.now.trees) result ≡ entry_named (store_of (take i items.now.items)) p }
+    ensures below { IfSome result (λ e. EntryBelow (length items.now.trees) e) }
 {
     let place = items.entry_place(p)?;
     if place < i {
@@ -72,5 +94,18 @@ pub fn has_rule_before(items: &Items, i: u64, r: u64) -> bool
     match items.rule_place(r) {
         Some(place) => place < i,
         None => false,
+    }
+}
+
+/// The rule of a number before place `i`, or None where there is none.
+#[tactic(auto, using(crate::proofs::Standing::rule_within, crate::proofs::Standing::line_absent, crate::proofs::Standing::line_later, crate::proofs::Standing::line_there))]
+pub fn rule_before(items: &Items, i: u64, r: u64) -> Option<RuleLine<'_>>
+    ensures { option_map line_in result ≡ option_map line_of (nth (rules_in (take i items.now.items)) r) }
+{
+    let place = items.rule_place(r)?;
+    if place < i {
+        rule_of(items.item(place))
+    } else {
+        None
     }
 }

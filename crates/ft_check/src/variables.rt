@@ -6,7 +6,7 @@ ghost use Rattle.ft_items.specs.Item.{Name, variable};
 ghost use Rattle.ft_items.specs.Store.{store_of, variables_in};
 ghost use Rattle.ft_items.specs.Good.{Good, is_next as is_greatest, reason_of_variable};
 ghost use Rattle.ft_stated.specs.Lines.{item_in};
-ghost use Rattle.ft_check.specs.Entries.{entry_in, numbers_below};
+ghost use Rattle.ft_check.specs.Entries.{entry_in, no_variable, numbers_below};
 ghost use Rattle.ft_check.specs.Rejects.{reason_of, IsReason};
 
 use crate::entry::{Entry, entry_before};
@@ -30,6 +30,29 @@ fn is_next(items: &Items, i: u64, v: u64) -> bool
 {
     for k in 0..i {
         if !is_smaller(items.item(k), v) {
+            return false;
+        }
+    }
+    true
+}
+
+// Whether the item is no variable, or one with another number.
+fn is_other(x: &Stated, v: u64) -> bool
+    ensures { (ts : List Expression) → result ≡ no_variable v (variables_in (item_in ts x.now ∷ [])) }
+{
+    match x {
+        Stated::Var(number, _, _) => v != *number,
+        _ => true,
+    }
+}
+
+/// Whether no variable before place `i` has the number.
+pub fn lacks_variable(items: &Items, i: u64, v: u64) -> bool
+    requires { i ≤ length items.now.items }
+    ensures { result ≡ no_variable v (variables_in (take i items.now.items)) }
+{
+    for k in 0..i {
+        if !is_other(items.item(k), v) {
             return false;
         }
     }

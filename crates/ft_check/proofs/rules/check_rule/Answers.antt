@@ -26,7 +26,7 @@ pub returns-in-None : goal.returns-in-None
 returns-in-None c =
     let new : true ≡ c.is_new.result = search rules in
     λ g. rule_so_far _ _ _ _ (new ∙ c.is_new.ensures g) (room_is (take c.args.i c.args.items.now.items) c.has_rule_before.result g c.has_rule_before.ensures ∙ ap not c.if-has_rule_before.false)
-    (rule_no_entry _ _ (sym (ap (option_map (entry_in c.args.items.now.trees)) c.in-None.is) ∙ c.entry_before.ensures))
+    (rule_no_entry _ _ (sym (ap (option_map (entry_in c.args.items.now.trees)) c.in-None.is) ∙ c.entry_before.ensures.entry))
 
 pub returns-in-Some : goal.returns-in-Some
 returns-in-Some c =
@@ -39,5 +39,5 @@ returns-in-Some c =
     (rule_with_entry _ _ (entry_in T c.in-Some.found) _
     (sym (named_all (take c.args.i c.args.items.now.items) c.args.ms.now g)
     ∙ ap (list_all (λ m. is_some (nth (metavariables_in (take c.args.i c.args.items.now.items)) m))) (sym same) ∙ sym c.are_metavariables.ensures ∙ passed)
-    (sym (ap (option_map (entry_in T)) c.in-Some.is) ∙ c.entry_before.ensures)
+    (sym (ap (option_map (entry_in T)) c.in-Some.is) ∙ c.entry_before.ensures.entry)
     (λ ds h. c.against_conclusion.ensures T ds g (ap (each (metavariable_named (store_of (take c.args.i c.args.items.now.items)))) again ∙ h)))

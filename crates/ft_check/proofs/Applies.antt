@@ -1,0 +1,95 @@
+-- Rules of a good list at arguments.
+use Rattle.std.proofs.Common.{◌≡◌, ℕ, ◌+◌, ◌<◌, ◌≤◌, Bool, true, false, ◌&&◌, Option, Some, None, List, [], ◌∷◌, refl, sym, ap, ap₂, ◌∙◌, subst, length, get_or, drop, map, arith}
+use Rattle.std.specs.Prelude.{option_map}
+use Rattle.ft_theory.specs.Expressions.{Expression, Arguments, symbol, instantiate}
+use Rattle.ft_theory.specs.Statements.{Claim, Statement, plain, fill_goal, map_claim}
+use Rattle.ft_theory.specs.Rules.{Rule, rule_at, instance_of, conclusion_at}
+use Rattle.ft_items.specs.Item.{Item, Entry as AnyEntry}
+use Rattle.ft_items.specs.Sets.{Atom, union, unions}
+use Rattle.ft_items.specs.Equal.{heads, is_thesis, is_plain}
+use Rattle.ft_items.specs.Store.{Assertion, Declared, Store, claim_in, each, entry_named, metavariable_named, premises_of, rule_of, rules_in, store_of, nth}
+use Rattle.ft_items.specs.Rows.{sets, when}
+use Rattle.ft_items.specs.Good.{Reject as Reason, Good, reason_of_result}
+use Rattle.ft_judge.specs.Meaning.{goal_in}
+use Rattle.ft_judge.specs.declared.judgement.Goal.{Goal}
+use Rattle.ft_check.specs.Comparing.{all_same}
+use Rattle.ft_check.specs.Entries.{line_of}
+use Rattle.ft_check.specs.declared.compare.Compared.{Compared}
+use Rattle.ft_check.proofs.Fits.{each_at, each_first, each_length, drop_over, named_number, some_same}
+use Rattle.ft_check.proofs.GoalsTaken.{rule_gone, rule_known}
+use Rattle.ft_check.proofs.Standing.{none_some}
+
+pub rule_named : (W : Store) (r : ℕ) (R : ℕ × Rule) → rule_of W r ≡ Some R → (r ≡ R.0) × (rule_at W.rules r ≡ Some R.1)
+rule_named W r R h = go (rule_at W.rules r) refl h
+  where
+    go : (o : Option Rule) → rule_at W.rules r ≡ o → option_map (λ Q. (r, Q)) o ≡ Some R → (r ≡ R.0) × (rule_at W.rules r ≡ Some R.1)
+    go None e h = none_some h
+    go (Some Q) e h =
+        let same : (r, Q) ≡ R = some_same (r, Q) R h in
+        (ap (λ (x : ℕ × Rule). x.0) same, e ∙ ap (λ (x : ℕ × Rule). Some x.1) same)
+
+-- the goal of the conclusion
+pub goal_found : (items : List Item) (r : ℕ) (ms : List ℕ) (p : ℕ) (R : Rule) (a : Assertion) (o : Option Claim) → Good items → rule_at (store_of items).rules r ≡ Some R → Some (ms, p) ≡ option_map line_of (nth (rules_in items) r)
+    → Some a ≡ entry_named (store_of items) p → (is_thesis a.statement ≡ false → is_plain a.statement ≡ true → o ≡ Some (claim_in a.statement)) → o ≡ Some R.conclusion
+goal_found items r ms p R a o g e h q f =
+    let k = rule_known items r ms p R g e h in
+    let same : a ≡ k.line.conclusion = some_same a k.line.conclusion (q ∙ k.line.is) in
+    f (ap (λ (x : Assertion). is_thesis x.statement) same ∙ k.line.boundary) (ap (λ (x : Assertion). is_plain x.statement) same ∙ k.line.plain)
+    ∙ ap Some (ap (λ (x : Assertion). claim_in x.statement) same ∙ sym k.conclusion)
+
+pub no_goal_found : {P : Type 0} (items : List Item) (r : ℕ) (ms : List ℕ) (p : ℕ) (R : Rule) → Good items → rule_at (store_of items).rules r ≡ Some R → Some (ms, p) ≡ option_map line_of (nth (rules_in items) r) → None ≡ entry_named (store_of items) p → P
+no_goal_found items r ms p R g e h q = let k = rule_known items r ms p R g e h in none_some (q ∙ k.line.is)
+
+-- the sets of entries, the last first
+pub union_start : (W : Store) (ps : List ℕ) (given : List Assertion) → each (entry_named W) ps ≡ Some given → [] ≡ unions (sets (drop (length ps) given))
+union_start W ps given h = sym (ap (λ xs. unions (sets xs)) (drop_over given (length ps) (subst (λ n. n ≤ length ps) (sym (each_length (entry_named W) ps given h)) (omega arith))))
+
+pub union_next : (W : Store) (ps : List ℕ) (given : List Assertion) (k n : ℕ) (a : Assertion) (S : List Atom) → each (entry_named W) ps ≡ Some given → k < length ps → n ≡ k + 1 → Some a ≡ entry_named W (get_or ps k 0) → S ≡ unions (sets (drop n given))
+    → union a.set S ≡ unions (sets (drop k given))
+union_next W ps given k n a S h l m e s =
+    let x = each_at (entry_named W) ps given k (get_or ps k 0) h l refl in
+    let same : a ≡ x.0 = some_same a x.0 (e ∙ x.1) in
+    ap₂ (λ (b : Assertion) S. union b.set S) same (s ∙ ap (λ n. unions (sets (drop n given))) m) ∙ sym (ap (λ xs. unions (sets xs)) x.2)
+
+pub union_none : {P : Type 0} (W : Store) (ps : List ℕ) (given : List Assertion) (k : ℕ) → each (entry_named W) ps ≡ Some given → k < length ps → None ≡ entry_named W (get_or ps k 0) → P
+union_none W ps given k h l e = let x = each_at (entry_named W) ps given k (get_or ps k 0) h l refl in none_some (e ∙ x.1)
+
+-- the metavariables of the premises
+pub numbers_are : (W : Store) (ms : List ℕ) (ds : List (ℕ × Declared)) → each (metavariable_named W) ms ≡ Some ds → map (λ (q : ℕ × Statement). q.0) (premises_of ds) ≡ ms
+numbers_are W [] ds h = ap (λ ds. map (λ (q : ℕ × Statement). q.0) (premises_of ds)) (sym (some_same [] ds h))
+numbers_are W (m ∷ ms) ds h =
+    let s = each_first (metavariable_named W) m ms ds h in
+    ap (λ ds. map (λ (q : ℕ × Statement). q.0) (premises_of ds)) s.4 ∙ ap₂ (λ n ns. n ∷ ns) (named_number W m s.0 s.2) (numbers_are W ms s.1 s.3)
+
+-- what the program compares, in the rule's own terms
+pub at_these : (ts : List Expression) (r : ℕ) (R : Rule) (xs : List Statement) (i : ℕ → ℕ → Option Expression) (a : Arguments) (g : Goal) (list : List Compared) (b : Bool) (S Q : List Atom) (e : AnyEntry) (x : Option Reason)
+    → i ≡ instance_of R.premises (heads xs) → a ≡ heads xs → goal_in ts g ≡ R.conclusion → all_same ts (instantiate (instance_of R.premises (heads xs))) list ≡ b → S ≡ Q
+    → x ≡ reason_of_result (when (all_same ts (instantiate i) list) (plain (fill_goal (map_claim (instantiate i) (goal_in ts g)) (symbol r a)))) S e
+    → x ≡ reason_of_result (when b (plain (fill_goal (conclusion_at R (heads xs)) (symbol r (heads xs))))) Q e
+at_these ts r R xs i a g list b S Q e x f h k l m n =
+    n ∙ ap (λ i. reason_of_result (when (all_same ts (instantiate i) list) (plain (fill_goal (map_claim (instantiate i) (goal_in ts g)) (symbol r a)))) S e) f
+    ∙ ap₂ (λ a c. reason_of_result (when (all_same ts (instantiate (instance_of R.premises (heads xs))) list) (plain (fill_goal (map_claim (instantiate (instance_of R.premises (heads xs))) c) (symbol r a)))) S e) h k
+    ∙ ap₂ (λ b S. reason_of_result (when b (plain (fill_goal (conclusion_at R (heads xs)) (symbol r (heads xs))))) S e) l m
+
+-- one list after the other
+pub two_lists : (x y a b c d : Bool) → x ≡ true → y ≡ true → (x && a) ≡ (true && c) → (y && b) ≡ (a && d) → b ≡ (c && d)
+two_lists x y a b c d t u f g = ap (λ z. z && b) (sym u) ∙ g ∙ ap (λ z. z && d) (ap (λ z. z && a) (sym t) ∙ f)
+
+pub second_not : (x y a b c d : Bool) → x ≡ true → y ≡ false → (x && a) ≡ (true && c) → (y && b) ≡ (a && d) → false ≡ (c && d)
+second_not x y a b c d t u f g = ap (λ z. z && b) (sym u) ∙ g ∙ ap (λ z. z && d) (ap (λ z. z && a) (sym t) ∙ f)
+
+pub first_not : (c d : Bool) → false ≡ c → false ≡ (c && d)
+first_not c d e = ap (λ c. c && d) e
+
+pub no_rule : {P : Type 0} (items : List Item) (r : ℕ) (R : ℕ × Rule) → Good items → rule_of (store_of items) r ≡ Some R → None ≡ option_map line_of (nth (rules_in items) r) → P
+no_rule items r R g e h = rule_gone items r R.1 g (rule_named (store_of items) r R e).1 h
+
+pub no_goal : {P : Type 0} {c : Claim} → None ≡ Some c → P
+no_goal e = none_some e
+
+pub rule_premises : (items : List Item) (r : ℕ) (ms : List ℕ) (p : ℕ) (R : Rule) → Good items → rule_at (store_of items).rules r ≡ Some R → Some (ms, p) ≡ option_map line_of (nth (rules_in items) r)
+    → (ds : List (ℕ × Declared)) × (each (metavariable_named (store_of items)) ms ≡ Some ds) × (R.premises ≡ premises_of ds)
+rule_premises items r ms p R g e h = let k = rule_known items r ms p R g e h in (k.line.premises, k.line.are, k.premises)
+
+pub no_entry : {P : Type 0} {a : Assertion} → None ≡ Some a → P
+no_entry e = none_some e

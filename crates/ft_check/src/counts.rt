@@ -1,0 +1,118 @@
+//! What is counted in a list.
+
+ghost use Rattle.std.specs.Prelude.{◌≡◌, zero, ◌+◌, ◌<◌, ◌≤◌, ◌^◌, ℕ, List, Some, None, true, cond, max, length, take};
+ghost use Rattle.ft_theory.specs.Expressions.{Expression};
+ghost use Rattle.ft_theory.specs.Rules.{Rule, rule_at};
+ghost use Rattle.ft_items.specs.Levels.{level as level_of, rule_level as level_of_rule};
+ghost use Rattle.ft_items.specs.Store.{Resolved, empty_store, resolve, store_of};
+ghost use Rattle.ft_items.specs.Good.{Good, counts, level_in, shown_in};
+ghost use Rattle.ft_judge.specs.Meaning.{goal_in};
+ghost use Rattle.ft_stated.specs.Lines.{item_in};
+ghost use Rattle.ft_stated.specs.Places.{is_entry, is_rule};
+ghost use Rattle.ft_stated.specs.Steps.{stated_step};
+ghost use Rattle.ft_check.specs.Built.{first_rejected_by, is_built, reason_built};
+ghost use Rattle.ft_check.specs.Verdicts.{counts_of, IsAtMost};
+
+use crate::rules_at::goal_of;
+use ft_judge::Goal;
+use ft_stated::{Items, Stated, StatedStep};
+
+/// The numbers of rules, entries and shown marks of a list, and the greatest level of its steps.
+#[derive(Clone, Copy)]
+pub struct Counted {
+    pub rules: u64,
+    pub entries: u64,
+    pub shown: u64,
+    pub level: u64,
+}
+
+// The level of a rule at arguments, without an entry for the boundary of its conclusion.
+fn rule_level(items: &Items, i: u64, r: u64) -> u64
+    ensures { (R : Rule) → Good (take i items.now.items) → rule_at (store_of (take i items.now.items)).rules r ≡ Some R → result ≡ level_of_rule R.conclusion }
+{
+    match goal_of(items, i, r) {
+        Some(Goal::Ty) => 1,
+        _ => 5,
+    }
+}
+
+// The level of a step that is built.
+fn step_level(items: &Items, i: u64, step: &StatedStep) -> u64
+    ensures { (s : Resolved) → Good (take i items.now.items) → resolve (store_of (take i items.now.items)) (stated_step step.now) ≡ Some s → is_built s ≡ true → result ≡ level_of s }
+{
+    match step {
+        StatedStep::Rule(r, _) => rule_level(items, i, *r),
+        StatedStep::Rulewith(..) => 1,
+        _ => 0,
+    }
+}
+
+// The level of an item against which there is no reason.
+fn item_level(items: &Items, i: u64, x: &Stated) -> u64
+    ensures { (ts : List Expression) → Good (take i items.now.items) → reason_built (store_of (take i items.now.items)) (item_in ts x.now) ≡ None → result ≡ level_in (store_of (take i items.now.items)) (item_in ts x.now) }
+{
+    match x {
+        Stated::Thesis(_, _, step) => step_level(items, i, step),
+        Stated::Boundary(_, _, step) => step_level(items, i, step),
+        _ => 0,
+    }
+}
+
+impl Counted {
+    // With an item of this level more.
+    fn with(self, x: &Stated, level: u64) -> Counted
+        requires rules { self.rules + 1 < 2 ^ 64 }
+        requires entries { self.entries + 1 < 2 ^ 64 }
+        requires shown { self.shown + 1 < 2 ^ 64 }
+        ensures rules { (ts : List Expression) → result.rules ≡ self.rules + cond (is_rule (item_in ts x.now)) 1 0 }
+        ensures entries { (ts : List Expression) → result.entries ≡ self.entries + cond (is_entry (item_in ts x.now)) 1 0 }
+        ensures shown { (ts : List Expression) → result.shown ≡ self.shown + shown_in (item_in ts x.now) }
+        ensures level { result.level ≡ max self.level level }
+    {
+        let level = self.level.max(level);
+        match x {
+            Stated::Rule(..) => Counted {
+                rules: self.rules + 1,
+                entries: self.entries,
+                shown: self.shown,
+                level,
+            },
+            Stated::Thesis(..) => Counted {
+                rules: self.rules,
+                entries: self.entries + 1,
+                shown: self.shown,
+                level,
+            },
+            Stated::Boundary(..) => Counted {
+                rules: self.rules,
+                entries: self.entries + 1,
+                shown: self.shown,
+                level,
+            },
+            Stated::Shown(_) => Counted {
+                rules: self.rules,
+                entries: self.entries,
+                shown: self.shown + 1,
+                level,
+            },
+            _ => Counted {
+                rules: self.rules,
+                entries: self.entries,
+                shown: self.shown,
+                level,
+            },
+        }
+    }
+
+    /// With the item at place `i` more, against which there is no reason.
+    pub fn next(self, items: &Items, i: u64) -> Counted
+        requires place { i < length items.now.items }
+        requires fits { i + 1 < 2 ^ 64 }
+        requires few { IsAtMost i self }
+        ensures few { IsAtMost (i + 1) result }
+        ensures counts { first_rejected_by reason_built empty_store zero (take (i + 1) items.now.items) ≡ None → counts_of self ≡ counts (take i items.now.items) → counts_of result ≡ counts (take (i + 1) items.now.items) }
+    {
+        let x = items.item(i);
+        self.with(x, item_level(items, i, x))
+    }
+}

@@ -1,0 +1,81 @@
+//! The check of one item.
+
+ghost use Rattle.std.specs.Prelude.{◌≡◌, ◌<◌, ◌≤◌, Some, true, length, take, option_map, IfOk};
+ghost use Rattle.ft_items.specs.Item.{Item};
+ghost use Rattle.ft_items.specs.Equal.{is_thesis};
+ghost use Rattle.ft_items.specs.Store.{Resolved, nth, resolve, store_of};
+ghost use Rattle.ft_items.specs.Rows.{result_set};
+ghost use Rattle.ft_items.specs.Good.{Good, reason_of_result};
+ghost use Rattle.ft_stated.specs.Steps.{stated_step};
+ghost use Rattle.ft_check.specs.Built.{conclusion_built, reason_built, reason_by};
+ghost use Rattle.ft_check.specs.Entries.{entry_in, EntryBelow, with_step};
+ghost use Rattle.ft_check.specs.Kinds.{kinds_right};
+ghost use Rattle.ft_check.specs.Rejects.{reason_of};
+
+use crate::boundaries::{check_bterm, check_btype};
+use crate::entry::Entry;
+use crate::lines::check_without_step;
+use crate::reject::Reject;
+use crate::rules_at::{check_applied, check_applied_with};
+use crate::steps::kinds;
+use ft_base::Memory;
+use ft_stated::{Items, Stated, StatedStep};
+use std::alloc::Global;
+
+// The reason against an entry whose step names entries of the right kinds.
+fn check_result(
+    alloc: Global,
+    items: &Items,
+    i: u64,
+    found: Entry<'_>,
+    step: &StatedStep,
+) -> Result<Option<Reject>, Memory>
+    requires { EntryBelow (length items.now.trees) found }
+    ensures { (s : Resolved) → Good (take i items.now.items) → resolve (store_of (take i items.now.items)) (stated_step step.now) ≡ Some s → kinds_right (is_thesis (entry_in items.now.trees found.entry).statement) s ≡ true
+        → IfOk result (λ r. option_map reason_of r ≡ reason_of_result (conclusion_built (store_of (take i items.now.items)) s) (result_set s) (with_step (entry_in items.now.trees found.entry) (stated_step step.now))) }
+{
+    match step {
+        StatedStep::Btype => Ok(check_btype(found)),
+        StatedStep::Bterm(p) => Ok(check_bterm(items, i, found, *p)),
+        StatedStep::Rule(r, ps) => check_applied(alloc, items, i, found, *r, ps),
+        StatedStep::Rulewith(r, b, ps) => { check_applied_with(alloc, items, i, found, *r, *b, ps) }
+        _ => Ok(Some(Reject::Premise)),
+    }
+}
+
+// The first reason against an entry.
+fn check_entry(
+    alloc: Global,
+    items: &Items,
+    i: u64,
+    found: Entry<'_>,
+    step: &StatedStep,
+) -> Result<Option<Reject>, Memory>
+    requires place { i ≤ length items.now.items }
+    requires below { EntryBelow (length items.now.trees) found }
+    ensures { Good (take i items.now.items)
+        → IfOk result (λ r. option_map reason_of r ≡ reason_by conclusion_built (store_of (take i items.now.items)) (resolve (store_of (take i items.now.items)) (stated_step step.now)) (with_step (entry_in items.now.trees found.entry) (stated_step step.now))) }
+{
+    match kinds(items, i, step, found.is_thesis()) {
+        None => Ok(Some(Reject::Reference)),
+        Some(false) => Ok(Some(Reject::Kind)),
+        Some(true) => check_result(alloc, items, i, found, step),
+    }
+}
+
+/// The first reason against the item at place `i` after the items before it, or None where there is none. Where the items before
+/// it are no good list, nothing is said of the answer.
+pub fn check_item(alloc: Global, items: &Items, i: u64) -> Result<Option<Reject>, Memory>
+    requires { i < length items.now.items }
+    ensures { (x : Item) → nth items.now.items i ≡ Some x → Good (take i items.now.items) → IfOk result (λ r. option_map reason_of r ≡ reason_built (store_of (take i items.now.items)) x) }
+{
+    match items.item(i) {
+        Stated::Thesis(thesis, set, step) => {
+            check_entry(alloc, items, i, Entry::Thesis(thesis, set), step)
+        }
+        Stated::Boundary(boundary, set, step) => {
+            check_entry(alloc, items, i, Entry::Boundary(boundary, set), step)
+        }
+        _ => Ok(check_without_step(items, i)),
+    }
+}

@@ -1,5 +1,5 @@
 -- What is in the grammar is read, whatever may follow it.
-use Rattle.std.proofs.Common.{◌≡◌, ◌∙◌, sym, ap, refl, subst, ℕ, zero, suc, ◌≤◌, ◌<◌, ◌+◌, List, [], ◌∷◌, ◌++◌, Ok, Err, Result, Option, Some, None, append_assoc, append-nil, length, drop, true, false, Bool, if◌then◌else◌, arith}
+use Rattle.std.proofs.Common.{◌≡◌, ◌∙◌, sym, ap, refl, ℕ, zero, suc, ◌≤◌, ◌<◌, List, [], ◌∷◌, ◌++◌, Ok, Err, Result, Some, None, append_assoc, append-nil, length, false, if◌then◌else◌, arith}
 use lib.ListN.{length-append}
 use Rattle.ft_base.specs.declared.word.Word.TheVariants as word
 use Rattle.ft_lexer.specs.declared.token.Mark.TheVariants as mark
@@ -15,7 +15,7 @@ use Rattle.ft_applications.specs.declared.syntax.Conclusion.TheVariants as concl
 use Rattle.ft_applications.specs.declared.syntax.Command.{Command}
 use Rattle.ft_applications.specs.declared.syntax.Command.TheVariants as command
 use Rattle.ft_applications.specs.Reading.{◌>>=◌, go_on, Outcome, Reader, and_then, expression, level, name, one_argument, arguments_from, expect_mark, sees_mark, sees_name, sees_word, sees_end, premise_inside, one_premise, premises_from, concluded, rule, show, one_command, commands_from, source, value_of}
-use Rattle.ft_applications.specs.Grammar.{left, right, colon, type_word, IsApplication, AreArguments, applied, no_argument, name_alone, in_parentheses, IsPremise, type_premise, term_premise, ArePremises, no_premise, next_premise, IsConclusion, type_conclusion, term_conclusion, IsCommand, a_rule, a_show, AreCommands, the_end, next_command}
+use Rattle.ft_applications.specs.Grammar.{left, right, colon, IsApplication, AreArguments, applied, no_argument, name_alone, in_parentheses, IsPremise, type_premise, term_premise, ArePremises, no_premise, next_premise, IsConclusion, type_conclusion, term_conclusion, IsCommand, a_rule, a_show, AreCommands, the_end, next_command}
 
 -- neither a name nor a parenthesis is next, so no argument is
 pub Stops : List Kind → Type 0

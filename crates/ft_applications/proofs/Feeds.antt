@@ -11,7 +11,7 @@ use Rattle.ft_base.specs.Names.{is_name_token, starts_name}
 use Rattle.ft_theory.specs.Expressions.{Expression, bound, free, symbol, meta, Arguments, no_arguments, with_body, dummy}
 use Rattle.ft_theory.specs.Statements.{Claim, is_type, has_type, equal_types, equal_terms, type_goal, term_goal, type_equation_goal, term_equation_goal}
 use Rattle.ft_applications.specs.Texts.{name_text, symbol_text, expression_text, rest_text, claim_text}
-use Rattle.ft_applications.specs.Transcript.{is_plain_character, accepted_line, shown_line}
+use Rattle.ft_applications.specs.Transcript.{is_plain_character, accepted_line, repeated_line, shown_line}
 use Rattle.ft_applications.specs.OneLine.{has_no_line_feed, IsLine}
 
 -- ---- tests
@@ -131,6 +131,13 @@ claim_free ns (term_equation_goal s t A) h = refl
 
 pub accepted_is_line : (n : List ℕ) → list_all in_name n ≡ true → IsLine (accepted_line n)
 accepted_is_line n h = record { front = codes "accepted " ++ name_text n; ends = refl; one = joined _ (codes "accepted ") (name_text n) refl (name_free n h) }
+
+pub repeated_is_line : (n : List ℕ) → list_all in_name n ≡ true → IsLine (repeated_line n)
+repeated_is_line n h = record {
+  front = codes "error rule " ++ name_text n ++ codes " declared twice";
+  ends = refl;
+  one = joined (λ c. not (c == 10)) (codes "error rule " ++ name_text n) (codes " declared twice") (joined (λ c. not (c == 10)) (codes "error rule ") (name_text n) refl (name_free n h)) refl;
+}
 
 pub shown_is_line : (ns : List (List ℕ)) (c : Claim) → AreClean ns → IsLine (shown_line ns c)
 shown_is_line ns c h = record { front = codes "|- " ++ claim_text ns c; ends = refl; one = joined _ (codes "|- ") (claim_text ns c) refl (claim_free ns c h) }

@@ -1,5 +1,5 @@
 -- A source has one line for each of its commands.
-use Rattle.std.proofs.Common.{◌≡◌, ◌∙◌, ap, subst, ℕ, zero, suc, Bool, true, false, cond, List, [], ◌∷◌, ◌++◌, length, Option, Some, None, option_map, codes}
+use Rattle.std.proofs.Common.{◌≡◌, ◌∙◌, refl, ap, subst, ℕ, zero, suc, ◌+◌, arith, append-nil, Bool, true, false, cond, List, [], ◌∷◌, ◌++◌, length, Option, Some, None, option_map, codes}
 use Rattle.std.specs.List.{list_all}
 use Rattle.std.specs.Str.{chars}
 use Rattle.std.proofs.lemmas.Str.{chars-IsAscii}
@@ -14,12 +14,14 @@ use Rattle.ft_applications.specs.declared.syntax.Command.{Command}
 use Rattle.ft_applications.specs.declared.syntax.Command.TheVariants as command
 use Rattle.ft_applications.specs.Reading.{kinds}
 use Rattle.ft_applications.specs.Grammar.{IsCommand, AreCommands}
-use Rattle.ft_applications.specs.Building.{Declaration, names, rule_of, claim_of}
-use Rattle.ft_applications.specs.Transcript.{IsSource, is_plain_character, done, lines, accepted_line, shown_line}
+use Rattle.ft_items.specs.Good.{is_new}
+use Rattle.ft_applications.specs.Building.{Declaration, names, claim_of, declared, with_rule}
+use Rattle.ft_applications.specs.Events.{Event, accepts, repeats, shows, event_of_rule, done, events, run_of}
+use Rattle.ft_applications.specs.Transcript.{IsSource, is_plain_character, repeated_line, text_of, status_of}
 use Rattle.ft_applications.specs.OneLine.{IsLine, AreLines}
 use Rattle.ft_applications.proofs.Plain.{plain_is_ascii}
-use Rattle.ft_applications.proofs.Lines.{some_same, none_some, first_then}
-use Rattle.ft_applications.proofs.Feeds.{in_name, joined_left, joined_right, right_of, name_clean, AreClean, accepted_is_line, shown_is_line}
+use Rattle.ft_applications.proofs.Lines.{some_same, none_some, first_then, not_both}
+use Rattle.ft_applications.proofs.Feeds.{in_name, joined_left, joined_right, right_of, name_clean, AreClean, accepted_is_line, repeated_is_line, shown_is_line}
 
 -- ---- names among tokens
 
@@ -75,33 +77,77 @@ clean_more : (ds : List Declaration) (d : Declaration) → AreClean (names ds) �
 clean_more [] d h k = (k, tt)
 clean_more (e ∷ ds) d h k = (h.0, clean_more ds d h.1 k)
 
--- the rules after a command, and its line
-abbrev IsStep : List Declaration × List ℕ → Type 0
-IsStep s = AreClean (names s.0) × IsLine s.1
+-- an event with the names that its line has
+abbrev IsCleanEvent : Event → Type 0
+IsCleanEvent (accepts d) = list_all in_name d.name ≡ true
+IsCleanEvent (repeats n) = list_all in_name n ≡ true
+IsCleanEvent (shows ds c) = AreClean (names ds)
 
-declared_clean : (ds : List Declaration) (n : List ℕ) (b : Bool) (R : Option Rule) (s : List Declaration × List ℕ) → AreClean (names ds) → list_all in_name n ≡ true
-    → option_map (λ es. (es, accepted_line n)) (cond b (option_map (λ R. ds ++ record { name = n; rule = R } ∷ []) R) None) ≡ Some s → IsStep s
-declared_clean ds n false R s h k e = absurd (none_some s e)
-declared_clean ds n true None s h k e = absurd (none_some s e)
-declared_clean ds n true (Some R) s h k e = subst IsStep (some_same _ s e) (clean_more ds (record { name = n; rule = R }) h k, accepted_is_line n k)
+-- the rules after a command, and what it does
+abbrev IsStep : List Declaration × Event → Type 0
+IsStep s = AreClean (names s.0) × IsCleanEvent s.1
 
-shown_clean : (ds : List Declaration) (o : Option Claim) (s : List Declaration × List ℕ) → AreClean (names ds)
-    → option_map (λ c. (ds, shown_line (names ds) c)) o ≡ Some s → IsStep s
+rule_clean : (ds : List Declaration) (n : List ℕ) (R : Rule) → AreClean (names ds) → list_all in_name n ≡ true → IsStep (with_rule ds n R, event_of_rule ds n R)
+rule_clean ds n R h k = go (is_new (names ds) n)
+  where
+    go : (b : Bool) → IsStep (cond b (ds ++ record { name = n; rule = R } ∷ []) ds, cond b (accepts (record { name = n; rule = R })) (repeats n))
+    go true = (clean_more ds (record { name = n; rule = R }) h k, k)
+    go false = (h, k)
+
+declared_clean : (ds : List Declaration) (n : List ℕ) (o : Option Rule) (s : List Declaration × Event) → AreClean (names ds) → list_all in_name n ≡ true
+    → option_map (λ R. (with_rule ds n R, event_of_rule ds n R)) o ≡ Some s → IsStep s
+declared_clean ds n None s h k e = absurd (none_some s e)
+declared_clean ds n (Some R) s h k e = subst IsStep (some_same _ s e) (rule_clean ds n R h k)
+
+shown_clean : (ds : List Declaration) (o : Option Claim) (s : List Declaration × Event) → AreClean (names ds)
+    → option_map (λ c. (ds, shows ds c)) o ≡ Some s → IsStep s
 shown_clean ds None s h e = absurd (none_some s e)
-shown_clean ds (Some c) s h e = subst IsStep (some_same _ s e) (h, shown_is_line (names ds) c h)
+shown_clean ds (Some c) s h e = subst IsStep (some_same _ s e) (h, h)
 
-done_clean : (ds : List Declaration) (c : Command) (s : List Declaration × List ℕ) → AreClean (names ds) → IsCleanCommand c → done ds c ≡ Some s → IsStep s
-done_clean ds (command.Rule n ps c) s h k e = declared_clean ds n _ (rule_of ds ps c) s h k e
+done_clean : (ds : List Declaration) (c : Command) (s : List Declaration × Event) → AreClean (names ds) → IsCleanCommand c → done ds c ≡ Some s → IsStep s
+done_clean ds (command.Rule n ps c) s h k e = declared_clean ds n (declared ds ps c) s h k e
 done_clean ds (command.Show a) s h k e = shown_clean ds (claim_of ds a) s h e
 
-one_each : (ds : List Declaration) (cs : List Command) (text : List ℕ) → AreClean (names ds) → AreCleanCommands cs → lines ds cs ≡ Some text → AreLines (length cs) text
-one_each ds [] text h k e = subst (AreLines zero) (some_same [] text e) AreLines.no_line
-one_each ds (c ∷ cs) text h k e =
-    let one = first_then (λ ds. lines ds cs) (done ds c) text e in
-    let step = done_clean ds c one.0 h k.0 one.1.1.0 in
-    subst (AreLines (suc (length cs))) one.1.1.2 (AreLines.next_line step.1 (one_each one.0.0 cs one.1.0 step.0 k.1 one.1.1.1))
+-- the events, one for each command
+abbrev AreCleanEvents : List Event → Type 0
+AreCleanEvents [] = Unit {0}
+AreCleanEvents (e ∷ es) = IsCleanEvent e × AreCleanEvents es
 
-pub one_line_each : ((text : List ℕ) → IsMadeOf 0 text (tokens_of text)) → (bs : List ℕ) (cs : List Command) (text : List ℕ) → IsSource bs cs → lines [] cs ≡ Some text → AreLines (length cs) text
-one_line_each made bs cs text s e =
+events_clean : (ds : List Declaration) (cs : List Command) (es : List Event) → AreClean (names ds) → AreCleanCommands cs → events ds cs ≡ Some es → AreCleanEvents es × (length es ≡ length cs)
+events_clean ds [] es h k e = subst (λ es. AreCleanEvents es × (length es ≡ zero)) (some_same [] es e) (tt, refl)
+events_clean ds (c ∷ cs) es h k e =
+    let one = first_then (λ ds. events ds cs) (done ds c) es e in
+    let step = done_clean ds c one.0 h k.0 one.1.1.0 in
+    let more = events_clean one.0.0 cs one.1.0 step.0 k.1 one.1.1.1 in
+    subst (λ es. AreCleanEvents es × (length es ≡ suc (length cs))) one.1.1.2 ((step.1, more.0), ap suc more.1)
+
+lines_of_all : (es : List Event) → AreCleanEvents es → status_of es ≡ 0 → AreLines (length es) (text_of es)
+lines_of_all [] h z = AreLines.no_line
+lines_of_all (accepts d ∷ es) h z = AreLines.next_line (accepted_is_line d.name h.0) (lines_of_all es h.1 z)
+lines_of_all (repeats n ∷ es) h z = absurd (not_both 9 refl z)
+lines_of_all (shows ds c ∷ es) h z = AreLines.next_line (shown_is_line (names ds) c h.0) (lines_of_all es h.1 z)
+
+one_line : (line : List ℕ) → IsLine line → AreLines 1 line
+one_line line h = subst (AreLines 1) (append-nil line) (AreLines.next_line h AreLines.no_line)
+
+lines_of_run : (es : List Event) → AreCleanEvents es → status_of es ≡ 9 → AreLines (suc (length (run_of es))) (text_of es)
+lines_of_run [] h z = absurd (not_both 0 z refl)
+lines_of_run (accepts d ∷ es) h z = AreLines.next_line (accepted_is_line d.name h.0) (lines_of_run es h.1 z)
+lines_of_run (repeats n ∷ es) h z = one_line (repeated_line n) (repeated_is_line n h.0)
+lines_of_run (shows ds c ∷ es) h z = AreLines.next_line (shown_is_line (names ds) c h.0) (lines_of_run es h.1 z)
+
+clean_of : ((text : List ℕ) → IsMadeOf 0 text (tokens_of text)) → (bs : List ℕ) (cs : List Command) (es : List Event) → IsSource bs cs → events [] cs ≡ Some es → AreCleanEvents es × (length es ≡ length cs)
+clean_of made bs cs es s e =
     let plain : list_all is_plain_character (chars bs) ≡ true = ap (list_all is_plain_character) (chars-IsAscii bs (plain_is_ascii bs s.characters)) ∙ s.characters in
-    one_each [] cs text tt (commands_clean cs (kinds (tokens_of (chars bs))) s.grammar (made_clean 0 (chars bs) (tokens_of (chars bs)) (made (chars bs)) plain)) e
+    events_clean [] cs es tt (commands_clean cs (kinds (tokens_of (chars bs))) s.grammar (made_clean 0 (chars bs) (tokens_of (chars bs)) (made (chars bs)) plain)) e
+
+pub one_line_each : ((text : List ℕ) → IsMadeOf 0 text (tokens_of text)) → (bs : List ℕ) (cs : List Command) (es : List Event) → IsSource bs cs → events [] cs ≡ Some es → status_of es ≡ 0 → AreLines (length cs) (text_of es)
+one_line_each made bs cs es s e z =
+    let clean = clean_of made bs cs es s e in
+    subst (λ n. AreLines n (text_of es)) clean.1 (lines_of_all es clean.0 z)
+
+pub one_line_each_run : ((text : List ℕ) → IsMadeOf 0 text (tokens_of text)) → (bs : List ℕ) (cs : List Command) (es : List Event) → IsSource bs cs → events [] cs ≡ Some es → status_of es ≡ 9
+    → AreLines (length (run_of es) + 1) (text_of es)
+one_line_each_run made bs cs es s e z =
+    let one : suc (length (run_of es)) ≡ length (run_of es) + 1 = omega arith in
+    subst (λ n. AreLines n (text_of es)) one (lines_of_run es (clean_of made bs cs es s e).0 z)

@@ -1,26 +1,18 @@
 -- What is read of a whole source is in the grammar.
-use Rattle.std.proofs.Common.{◌≡◌, ◌∙◌, sym, ap, refl, subst, ℕ, zero, suc, ◌≤◌, ◌<◌, ◌+◌, List, [], ◌∷◌, ◌++◌, Ok, Err, Result, Option, Some, None, append_assoc, append-nil, length, drop, true, false, Bool, if◌then◌else◌, arith}
-use Rattle.ft_base.specs.declared.word.Word.{Word}
+use Rattle.std.proofs.Common.{◌≡◌, ◌∙◌, sym, ap, refl, subst, ℕ, zero, suc, List, [], ◌∷◌, ◌++◌, Ok, Err, Option, Some, None, append_assoc, append-nil, length, drop, true, if◌then◌else◌}
 use Rattle.ft_base.specs.declared.word.Word.TheVariants as word
-use Rattle.ft_base.specs.contracts.word.WordPartialEq.TheImpl as word_eq
-use Rattle.ft_lexer.specs.declared.token.Mark.{Mark}
 use Rattle.ft_lexer.specs.declared.token.Mark.TheVariants as mark
-use Rattle.ft_lexer.specs.contracts.token.MarkPartialEq.TheImpl as mark_eq
 use Rattle.ft_lexer.specs.declared.token.Kind.{Kind}
 use Rattle.ft_lexer.specs.declared.token.Kind.TheVariants as kind
-use Rattle.ft_applications.specs.declared.fault.Fault.{Fault}
-use Rattle.ft_applications.specs.declared.fault.Fault.TheVariants.{NotYet, Memory}
-use Rattle.ft_applications.specs.declared.syntax.Application.{Application}
-use Rattle.ft_applications.specs.declared.syntax.Application.TheVariants as application
+use Rattle.ft_applications.specs.declared.fault.Fault.TheVariants.{NotYet}
 use Rattle.ft_applications.specs.declared.syntax.Premise.{Premise}
-use Rattle.ft_applications.specs.declared.syntax.Premise.TheVariants as premise
 use Rattle.ft_applications.specs.declared.syntax.Conclusion.{Conclusion}
 use Rattle.ft_applications.specs.declared.syntax.Conclusion.TheVariants as conclusion
 use Rattle.ft_applications.specs.declared.syntax.Command.{Command}
 use Rattle.ft_applications.specs.declared.syntax.Command.TheVariants as command
-use Rattle.ft_applications.specs.Reading.{◌>>=◌, ◌>>◌, go_on, Outcome, Reader, and_then, expression, level, name, one_argument, arguments_from, expect_mark, sees_mark, sees_name, sees_word, sees_end, is_mark, is_word, premise_inside, one_premise, premises_from, concluded, rule, show, one_command, commands_from, source, value_of}
-use Rattle.ft_applications.specs.Grammar.{left, right, colon, type_word, IsApplication, AreArguments, applied, no_argument, name_alone, in_parentheses, IsPremise, type_premise, term_premise, ArePremises, no_premise, next_premise, IsConclusion, type_conclusion, term_conclusion, IsCommand, a_rule, a_show, AreCommands, the_end, next_command}
-use Rattle.ft_applications.proofs.Sound.{err_ok, ok_ok, in_turn, by_test, false_true, taken, not_taken, name_is, left_only, right_only, colon_only, type_only, rule_only, show_only, mark_is, expected, word_is, application_is, PremiseAnswer, InsideOf, inside_is}
+use Rattle.ft_applications.specs.Reading.{◌>>=◌, go_on, Outcome, Reader, and_then, expression, name, expect_mark, sees_mark, sees_word, sees_end, premise_inside, one_premise, premises_from, concluded, rule, show, one_command, commands_from, source, value_of}
+use Rattle.ft_applications.specs.Grammar.{left, right, colon, type_word, ArePremises, no_premise, next_premise, IsConclusion, type_conclusion, term_conclusion, IsCommand, a_rule, a_show, AreCommands, the_end, next_command}
+use Rattle.ft_applications.proofs.Sound.{err_ok, ok_ok, in_turn, by_test, false_true, taken, not_taken, name_is, left_only, right_only, colon_only, type_only, rule_only, show_only, mark_is, expected, word_is, application_is, PremiseAnswer, inside_is}
 
 premise_closed : (us rest : List Kind) (o : Option Premise)
     → (premise_inside >>= (λ given. expect_mark mark.RightParen >>= (λ _. λ us. Ok (Some given, us)))) us ≡ Ok (o, rest) → PremiseAnswer o (left ∷ us) rest

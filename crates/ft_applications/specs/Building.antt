@@ -1,5 +1,5 @@
 -- What a command means over the rules before it: which expressions are built, what they claim, and which rule is declared.
-use Rattle.std.specs.Prelude.{ℕ, zero, suc, ◌+◌, Bool, true, false, cond, not, nat_lt, ◌&&◌, List, [], ◌∷◌, ◌++◌, map, length, Option, Some, None, option_map, option_and_then}
+use Rattle.std.specs.Prelude.{ℕ, zero, suc, ◌+◌, Bool, true, cond, nat_lt, ◌&&◌, List, [], ◌∷◌, ◌++◌, map, length, Option, Some, None, option_map, option_and_then}
 use Rattle.ft_theory.specs.Expressions.{Expression, symbol}
 use Rattle.ft_theory.specs.Small.{is_small}
 use Rattle.ft_theory.specs.Statements.{Claim, is_type, type_goal, term_goal, Statement, plain, fill_goal}
@@ -121,6 +121,10 @@ rule_by qs g = option_and_then (λ qs. option_map (λ g. record { premises = qs;
 abbrev pub rule_of : List Declaration → List Premise → Conclusion → Option Rule
 rule_of ds ps c = rule_by (premises_of ds (metavariable_count ds) [] ps) (goal_of_conclusion ds (premise_names ps) c)
 
--- the rules with one more of this name: the name is new, and there are fewer than 65,536 rules before it
-abbrev pub declared : List Declaration → List ℕ → Option Rule → Option (List Declaration)
-declared ds n R = cond (is_new (names ds) n && nat_lt (length ds) 65536) (option_map (λ R. ds ++ record { name = n; rule = R } ∷ []) R) None
+-- the rule that a command declares: it is built, and there are fewer than 65,536 rules before it
+abbrev pub declared : List Declaration → List Premise → Conclusion → Option Rule
+declared ds ps c = cond (nat_lt (length ds) 65536) (rule_of ds ps c) None
+
+-- The rules after one more rule of this name. The first rule of a name counts, so a second one adds none.
+abbrev pub with_rule : List Declaration → List ℕ → Rule → List Declaration
+with_rule ds n R = cond (is_new (names ds) n) (ds ++ record { name = n; rule = R } ∷ []) ds

@@ -1,5 +1,5 @@
 -- The transcript: what `run` writes for a source, with its status.
-use Rattle.std.specs.Prelude.{ℕ, zero, suc, ◌≡◌, Bool, true, cond, List, [], ◌∷◌, ◌++◌, Option, Some, None, option_map, option_and_then, codes, encode_utf8_all, ◌||◌, ◌&&◌, ◌==◌, nat_le}
+use Rattle.std.specs.Prelude.{ℕ, ◌≡◌, Bool, true, List, [], ◌∷◌, ◌++◌, Some, codes, ◌||◌, ◌&&◌, ◌==◌, nat_le}
 use Rattle.std.specs.Str.{chars}
 use Rattle.std.specs.List.{list_all}
 use Rattle.ft_theory.specs.Statements.{Claim, plain}
@@ -7,11 +7,11 @@ use Rattle.ft_theory.specs.Rules.{Rule}
 use Rattle.ft_theory.specs.Steps.{Prim}
 use Rattle.ft_lexer.specs.Tokens.{tokens_of}
 use Rattle.ft_applications.specs.declared.syntax.Command.{Command}
-use Rattle.ft_applications.specs.declared.syntax.Command.TheVariants as command
 use Rattle.ft_applications.specs.Reading.{kinds}
 use Rattle.ft_applications.specs.Grammar.{AreCommands}
 use Rattle.ft_applications.specs.Texts.{name_text, claim_text}
-use Rattle.ft_applications.specs.Building.{Declaration, theory, names, claim_of, rule_of, declared}
+use Rattle.ft_applications.specs.Building.{theory, names}
+use Rattle.ft_applications.specs.Events.{Event, accepts, repeats, shows, events, run_of}
 
 -- a letter or a digit of ASCII, a space, a line feed, a parenthesis or a colon
 abbrev pub is_plain_character : ℕ → Bool
@@ -36,40 +36,39 @@ accepted_line n = codes "accepted " ++ name_text n ++ line_feed
 abbrev pub shown_line : List (List ℕ) → Claim → List ℕ
 shown_line ns c = codes "|- " ++ claim_text ns c ++ line_feed
 
--- what a command does over the rules before it: the rules after it, and its line; None where it is not built
-abbrev pub done : List Declaration → Command → Option (List Declaration × List ℕ)
-done ds (command.Rule n ps c) = option_map (λ es. (es, accepted_line n)) (declared ds n (rule_of ds ps c))
-done ds (command.Show a) = option_map (λ c. (ds, shown_line (names ds) c)) (claim_of ds a)
+-- the line of a rule of the name of an earlier one
+abbrev pub repeated_line : List ℕ → List ℕ
+repeated_line n = codes "error rule " ++ name_text n ++ codes " declared twice" ++ line_feed
 
--- the lines of commands in their order, each built over the rules before it; None where one is not
-abbrev pub lines : List Declaration → List Command → Option (List ℕ)
-lines ds [] = Some []
-lines ds (c ∷ cs) = option_and_then (λ s. option_map (λ text. s.1 ++ text) (lines s.0 cs)) (done ds c)
+-- the lines of a run, one for each command; the first rule of the name of an earlier one has the last line
+abbrev pub text_of : List Event → List ℕ
+text_of [] = []
+text_of (accepts d ∷ es) = accepted_line d.name ++ text_of es
+text_of (repeats n ∷ es) = repeated_line n
+text_of (shows ds c ∷ es) = shown_line (names ds) c ++ text_of es
+
+-- the status of a run: 9 where a rule has the name of an earlier one, else 0
+abbrev pub status_of : List Event → ℕ
+status_of [] = 0
+status_of (accepts d ∷ es) = status_of es
+status_of (repeats n ∷ es) = 9
+status_of (shows ds c ∷ es) = status_of es
 
 -- a thesis is shown, with the rules accepted before its line
 pub record Shown : Type 0 where
   pub rules : List Rule
   pub thesis : Claim
 
--- the claim is shown over the rules, where there is one
-abbrev pub shown_claim : List Rule → Option Claim → List Shown
-shown_claim T None = []
-shown_claim T (Some c) = record { rules = T; thesis = c } ∷ []
+-- the theses that are shown, in their order
+abbrev pub theses : List Event → List Shown
+theses [] = []
+theses (accepts d ∷ es) = theses es
+theses (repeats n ∷ es) = theses es
+theses (shows ds c ∷ es) = record { rules = theory ds; thesis = c } ∷ theses es
 
--- what a command shows
-abbrev pub shown_by : List Declaration → Command → List Shown
-shown_by ds (command.Rule n ps c) = []
-shown_by ds (command.Show a) = shown_claim (theory ds) (claim_of ds a)
-
--- the rules after a command that is built, else those before it
-abbrev pub rules_after : List Declaration → Option (List Declaration × List ℕ) → List Declaration
-rules_after ds None = ds
-rules_after ds (Some s) = s.0
-
--- what commands show, in their order
-abbrev pub shown_in : List Declaration → List Command → List Shown
-shown_in ds [] = []
-shown_in ds (c ∷ cs) = shown_by ds c ++ shown_in (rules_after ds (done ds c)) cs
+-- the theses that are shown in a run
+abbrev pub shown_in : List Event → List Shown
+shown_in es = theses (run_of es)
 
 -- the thesis is primitively derivable over the rules, in the empty context
 abbrev pub IsDerivable : Shown → Type 0
@@ -84,7 +83,8 @@ AllDerivable (s ∷ ss) = IsDerivable s × AllDerivable ss
 abbrev pub not_yet_line : List ℕ
 not_yet_line = codes "error not yet" ++ line_feed
 
--- The transcript of a source: the lines of its commands, with status 0, where they are built; else one line, with status 7.
+-- The transcript of a source: where its commands are built, the lines of their run, with its status; else one line, with
+-- status 7.
 pub data IsTranscript (bytes : List ℕ) : List ℕ → ℕ → Type 0 where
-  of_commands : (cs : List Command) (text : List ℕ) → IsSource bytes cs → lines [] cs ≡ Some text → IsTranscript bytes text 0
-  of_another : ((cs : List Command) (text : List ℕ) → IsSource bytes cs → lines [] cs ≡ Some text → ⊥) → IsTranscript bytes not_yet_line 7
+  of_commands : (cs : List Command) (es : List Event) → IsSource bytes cs → events [] cs ≡ Some es → IsTranscript bytes (text_of es) (status_of es)
+  of_another : ((cs : List Command) (es : List Event) → IsSource bytes cs → events [] cs ≡ Some es → ⊥) → IsTranscript bytes not_yet_line 7

@@ -1,12 +1,13 @@
 //! Laws of the grammar and of the transcript.
-ghost use Rattle.std.specs.Prelude.{◌≡◌, ◌++◌, ℕ, List, [], Ok, Some, length};
+ghost use Rattle.std.specs.Prelude.{◌≡◌, ◌++◌, ◌+◌, ℕ, List, [], Ok, Some, length};
 ghost use Rattle.ft_lexer.specs.declared.token.Kind.{Kind as TokenKind};
 ghost use Rattle.ft_applications.specs.declared.syntax.Command.{Command as Tree};
 ghost use Rattle.ft_applications.specs.Reading as spec;
 ghost use Rattle.ft_applications.specs.Grammar.{AreCommands};
 ghost use Rattle.ft_applications.specs.Building.{Declaration};
+ghost use Rattle.ft_applications.specs.Events.{Event, events, run_of};
 ghost use Rattle.ft_applications.specs.OneLine.{AreLines};
-ghost use Rattle.ft_applications.specs.Transcript.{IsSource, IsTranscript, lines};
+ghost use Rattle.ft_applications.specs.Transcript.{IsSource, IsTranscript, text_of, status_of};
 
 use ft_lexer::laws::a_text_is_made_of_its_tokens;
 
@@ -31,14 +32,17 @@ pub fn one_transcript()
     ensures one { (bytes text text' : List ℕ) (status status' : ℕ) → IsTranscript bytes text status → IsTranscript bytes text' status' → (text ≡ text') × (status ≡ status') }
 {}
 
-/// Where commands and further ones after them are built, the lines of the former are the beginning of the lines of all.
+/// Where commands and further ones after them are built, and no rule among the former has the name of an earlier one, the
+/// lines of the former are the beginning of the lines of all.
 pub fn lines_go_on()
-    ensures law { (ds : List Declaration) (cs more : List Tree) (text all : List ℕ) → lines ds cs ≡ Some text → lines ds (cs ++ more) ≡ Some all → (rest : List ℕ) × (all ≡ text ++ rest) }
+    ensures law { (ds : List Declaration) (cs more : List Tree) (es all : List Event) → events ds cs ≡ Some es → status_of es ≡ 0 → events ds (cs ++ more) ≡ Some all → (rest : List ℕ) × (text_of all ≡ text_of es ++ rest) }
 {}
 
-/// Where the commands of a source are built, there is one line for each.
+/// Where the commands of a source are built, there is one line for each; or, where a rule has the name of an earlier one, for
+/// each of the commands before it, and one more.
 pub fn one_line_for_each_command()
-    ensures law { (bytes : List ℕ) (cs : List Tree) (text : List ℕ) → IsSource bytes cs → lines [] cs ≡ Some text → AreLines (length cs) text }
+    ensures all { (bytes : List ℕ) (cs : List Tree) (es : List Event) → IsSource bytes cs → events [] cs ≡ Some es → status_of es ≡ 0 → AreLines (length cs) (text_of es) }
+    ensures ended { (bytes : List ℕ) (cs : List Tree) (es : List Event) → IsSource bytes cs → events [] cs ≡ Some es → status_of es ≡ 9 → AreLines (length (run_of es) + 1) (text_of es) }
 {
     a_text_is_made_of_its_tokens();
 }

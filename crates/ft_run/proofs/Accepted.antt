@@ -18,6 +18,8 @@ use Rattle.ft_applications.specs.Building.{Declaration, theory, names, first_nam
 use Rattle.ft_run.specs.declared.session.Known.{Known}
 use Rattle.ft_run.specs.Session.{Progress, numbered, boundaries_in, declaration, declarations, IsSimpleGoal, FitsKnown, AreKnown, IsSession, HasEntry, AreMade, goals_in}
 use Rattle.ft_run.specs.Claiming.{rule_in}
+use Rattle.ft_applications.specs.Histories.{declares, told_rule, told}
+use Rattle.ft_run.proofs.Telling.{told_last, steps_last}
 use Rattle.ft_run.proofs.Keeping.{declarations_length}
 
 -- Metavariables that are made: what they declare, and why a rule may have them.
@@ -144,7 +146,19 @@ session_in s ks k ms b h f m e =
           ∙ ap (λ ns. ns ++ k.name ∷ []) h.names_are
           ∙ sym (names_last ds d)
           ∙ ap names (sym (declarations_last s.trees ks k));
+      steps = steps_last s.items (rule k.name ms b) h.steps tt;
     }
+
+-- what the rule tells
+told_rule_in : (s : State) (k : Known) (ms : List ℕ) (b : ℕ) → AreMade s k.first (goals_in s.trees k.premises.items) ms → HasEntry s b (goal_in s.trees k.conclusion)
+    → told (s.items ++ rule k.name ms b ∷ []) ≡ told s.items ++ declares k.name (declaration s.trees k).rule ∷ []
+told_rule_in s k ms b m e =
+    let W : Store = store_of s.items in
+    let M : Made W k.first (goals_in s.trees k.premises.items) ms = made_in s k.first (goals_in s.trees k.premises.items) ms m in
+    let premises : premises_of M.ds ≡ numbered k.first (boundaries_in s.trees k.premises.items) = M.premises ∙ ap (numbered k.first) (plain_goals s.trees k.premises.items) in
+    told_last s.items (rule k.name ms b)
+    ∙ ap₂ (λ os o. told s.items ++ told_rule k.name os o) M.found (entry_there s b (goal_in s.trees k.conclusion) e)
+    ∙ ap (λ ps. told s.items ++ declares k.name (record { premises = ps; conclusion = goal_in s.trees k.conclusion }) ∷ []) premises
 
 -- Names that are new, and room.
 
@@ -185,6 +199,15 @@ pub rules_accepted : (s t : State) (ks js : List Known) (p : Progress) (k : Know
 rules_accepted s t ks js p k i v a j =
     ap₂ (λ (t : State) js. declarations t.trees js) a j ∙ declarations_last s.trees ks k ∙ ap (λ (p : Progress). p.rules ++ declaration p.state.trees k ∷ []) v
 
+pub told_accepted : (s t : State) (ks : List Known) (p : Progress) (k : Known) (n : List ℕ) (ms : List ℕ) (b : ℕ) → record { state = s; rules = declarations s.trees ks } ≡ p
+    → AreMade p.state k.first (goals_in p.state.trees k.premises.items) ms → HasEntry p.state b (goal_in p.state.trees k.conclusion)
+    → n ≡ k.name → t ≡ with_item s (rule n ms b) → told t.items ≡ told p.state.items ++ declares k.name (declaration p.state.trees k).rule ∷ []
+told_accepted s t ks p k n ms b v m e q a =
+    let st : s ≡ p.state = ap (λ p. p.state) v in
+    ap (λ (t : State). told t.items) a
+    ∙ ap₂ (λ (s : State) n. told (s.items ++ rule n ms b ∷ [])) st q
+    ∙ told_rule_in p.state k ms b m e
+
 pub state_accepted : (s t : State) (ks : List Known) (p : Progress) (n m : List ℕ) (ms : List ℕ) (b : ℕ) → record { state = s; rules = declarations s.trees ks } ≡ p
     → n ≡ m → t ≡ with_item s (rule n ms b) → t ≡ with_item p.state (rule m ms b)
 state_accepted s t ks p n m ms b v q a = a ∙ ap₂ (λ (p : Progress) n. with_item p.state (rule n ms b)) v q
@@ -202,30 +225,25 @@ new_there p n o h e = new_where_none p.rules n o h e
 
 -- a place of the name: it is not new
 pub not_new : (p : Progress) (n : List ℕ) (o : Option ℕ) → IfSome o (λ k. (k < length p.rules) × (first_named zero p.rules n ≡ Some (k, rule_in p.rules k))) → is_some o ≡ true
-    → (is_new (names p.rules) n && nat_lt (length p.rules) 65536) ≡ false
+    → is_new (names p.rules) n ≡ false
 not_new p n None h e = absurd (clash e)
   where
     clash : false ≡ true → ⊥
     clash e = cc
-not_new p n (Some k) h e = ap (λ b. b && nat_lt (length p.rules) 65536) (old_in p.rules n zero (k, rule_in p.rules k) h.1)
+not_new p n (Some k) h e = old_in p.rules n zero (k, rule_in p.rules k) h.1
 
-known_length : (s : State) (ks : List Known) (p : Progress) → record { state = s; rules = declarations s.trees ks } ≡ p → length p.rules ≡ length ks
+pub known_length : (s : State) (ks : List Known) (p : Progress) → record { state = s; rules = declarations s.trees ks } ≡ p → length p.rules ≡ length ks
 known_length s ks p v = ap (λ (p : Progress). length p.rules) (sym v) ∙ declarations_length s.trees ks
 
 -- fewer known rules than the most: there is room
 pub room_there : (s : State) (ks : List Known) (p : Progress) → record { state = s; rules = declarations s.trees ks } ≡ p → length ks < 65536 → length p.rules < 65536
 room_there s ks p v l = subst (λ n. n < 65536) (sym (known_length s ks p v)) l
 
-and_false : (b : Bool) → (b && false) ≡ false
-and_false true = refl
-and_false false = refl
+pub room_found : (s : State) (ks : List Known) (p : Progress) → record { state = s; rules = declarations s.trees ks } ≡ p → length ks < 65536 → nat_lt (length p.rules) 65536 ≡ true
+room_found s ks p v l = lt-ltb (length p.rules) 65536 (room_there s ks p v l)
 
 -- as many as the most: there is none
-pub no_room : (s : State) (ks : List Known) (p : Progress) (n : List ℕ) → record { state = s; rules = declarations s.trees ks } ≡ p → 65536 ≤ length ks → (is_new (names p.rules) n && nat_lt (length p.rules) 65536) ≡ false
-no_room s ks p n v l =
+pub no_room : (s : State) (ks : List Known) (p : Progress) → record { state = s; rules = declarations s.trees ks } ≡ p → 65536 ≤ length ks → nat_lt (length p.rules) 65536 ≡ false
+no_room s ks p v l =
     let l2 : 65536 ≤ length p.rules = subst (λ n. 65536 ≤ n) (sym (known_length s ks p v)) l in
-    ap (λ b. is_new (names p.rules) n && b) (le-ltb (length p.rules) 65536 l2) ∙ and_false (is_new (names p.rules) n)
-
--- a new name, and fewer rules than the most
-pub both_hold : (p : Progress) (n : List ℕ) → is_new (names p.rules) n ≡ true → length p.rules < 65536 → (is_new (names p.rules) n && nat_lt (length p.rules) 65536) ≡ true
-both_hold p n e l = ap₂ (λ a b. a && b) e (lt-ltb (length p.rules) 65536 l)
+    le-ltb (length p.rules) 65536 l2

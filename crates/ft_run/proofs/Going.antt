@@ -10,7 +10,9 @@ use Rattle.ft_kernel.specs.State.{State, with_item}
 use Rattle.ft_run.specs.declared.session.Known.{Known}
 use Rattle.ft_run.specs.Session.{Progress, declarations, IsSession, HasEntry, HasMet, AreMade, Keeps, GoesOn}
 use Rattle.ft_run.specs.Asking.{HasGoal}
-use Rattle.ft_run.proofs.Keeping.{nth_front, nth_after}
+use Rattle.ft_applications.specs.Histories.{told}
+use Rattle.ft_run.proofs.Telling.{told_metavariable, steps_last}
+use Rattle.ft_run.proofs.Keeping.{nth_front, nth_after, keeps_tell}
 use Rattle.ft_run.proofs.Accepted.{entry_there, goal_no_thesis}
 
 map_length : {A B : Type 0} (f : A → B) (xs : List A) → length (map f xs) ≡ length xs
@@ -46,6 +48,10 @@ one_more s n b = ap length (metavariables_append s.items (metavariable n b ∷ [
 -- a rule is none
 pub none_more : (s : State) (n : Name) (ms : List ℕ) (b : ℕ) → metavariables_in (with_item s (rule n ms b)).items ≡ metavariables_in s.items
 none_more s n ms b = metavariables_append s.items (rule n ms b ∷ []) ∙ append-nil (metavariables_in s.items)
+
+-- a shown mark is none
+pub shown_no_more : (s : State) (j : ℕ) → metavariables_in (with_item s (shown j)).items ≡ metavariables_in s.items
+shown_no_more s j = metavariables_append s.items (shown j ∷ []) ∙ append-nil (metavariables_in s.items)
 
 -- Metavariables stay.
 
@@ -116,6 +122,7 @@ session_met s n b ks h =
       known = h.known;
       rules = ap (λ (W : Store). W.rules) more ∙ same.0 ∙ h.rules;
       names_are = ap (λ (W : Store). W.names) more ∙ same.1 ∙ h.names_are;
+      steps = steps_last s.items (metavariable n b) h.steps tt;
     }
 
 -- after a push of a metavariable, whether there was memory for it or not
@@ -136,22 +143,24 @@ mets_after (Err m) s t n b p v good e a g h = tt
 -- How a session goes on.
 
 pub goes_kept : (p q : Progress) → Keeps p q → GoesOn p q
-goes_kept p q k = record { trees = k.trees; items = (map entry k.items.0, k.items.1); rules = k.rules }
+goes_kept p q k = record { trees = k.trees; items = (map entry k.items.0, k.items.1); tells = keeps_tell p q k; rules = k.rules }
 
 pub goes_same : (p : Progress) → GoesOn p p
-goes_same p = record { trees = ([], sym (append-nil p.state.trees)); items = ([], sym (append-nil p.state.items)); rules = refl }
+goes_same p = record { trees = ([], sym (append-nil p.state.trees)); items = ([], sym (append-nil p.state.items)); tells = refl; rules = refl }
 
 pub goes_then : (p q r : Progress) → GoesOn p q → GoesOn q r → GoesOn p r
 goes_then p q r f g = record {
   trees = (f.trees.0 ++ g.trees.0, g.trees.1 ∙ ap (λ ts. ts ++ g.trees.0) f.trees.1 ∙ append_assoc p.state.trees f.trees.0 g.trees.0);
   items = (f.items.0 ++ g.items.0, g.items.1 ∙ ap (λ is. is ++ g.items.0) f.items.1 ∙ append_assoc p.state.items f.items.0 g.items.0);
+  tells = g.tells ∙ f.tells;
   rules = g.rules ∙ f.rules;
 }
 
-pub goes_item : (p q : Progress) (i : Item) → q.state ≡ with_item p.state i → q.rules ≡ p.rules → GoesOn p q
-goes_item p q i a e = record {
+pub goes_item : (p q : Progress) (n : Name) (b : ℕ) → q.state ≡ with_item p.state (metavariable n b) → q.rules ≡ p.rules → GoesOn p q
+goes_item p q n b a e = record {
   trees = ([], ap (λ (s : State). s.trees) a ∙ sym (append-nil p.state.trees));
-  items = (i ∷ [], ap (λ (s : State). s.items) a);
+  items = (metavariable n b ∷ [], ap (λ (s : State). s.items) a);
+  tells = ap (λ (s : State). told s.items) a ∙ told_metavariable p.state.items n b;
   rules = e;
 }
 

@@ -11,6 +11,8 @@ use Rattle.ft_syntax.specs.Table.{Extends}
 use Rattle.ft_judge.specs.Meaning.{claim_in}
 use Rattle.ft_judge.specs.declared.judgement.Goal.{Goal}
 use Rattle.ft_kernel.specs.State.{State, with_item}
+use Rattle.ft_applications.specs.Histories.{told, IsOfApplications, AllOfApplications}
+use Rattle.ft_run.proofs.Telling.{told_entries, steps_last}
 use Rattle.ft_run.proofs.Forms.{form_kept, goal_kept, form_below, goal_below}
 use Rattle.ft_applications.specs.Building.{Declaration, theory, names, plains}
 use Rattle.ft_run.specs.declared.session.Known.{Known}
@@ -50,6 +52,7 @@ session_extends s t ks h x e =
       known = known_kept s.trees t.trees x ks h.known;
       rules = ap (λ is. (store_of is).rules) e ∙ h.rules ∙ ap theory (sym same);
       names_are = ap (λ is. (store_of is).names) e ∙ h.names_are ∙ ap names (sym same);
+      steps = subst AllOfApplications (sym e) h.steps;
     }
 
 pub keeps_extends : (s t : State) (ks : List Known) → IsSession s ks → Extends s.trees t.trees → t.items ≡ s.items
@@ -73,6 +76,10 @@ keeps_then p q r f g = record {
   );
   rules = g.rules ∙ f.rules;
 }
+
+-- what is kept tells nothing more
+pub keeps_tell : (p q : Progress) → Keeps p q → told q.state.items ≡ told p.state.items
+keeps_tell p q k = ap told k.items.1 ∙ told_entries p.state.items k.items.0
 
 entries_append : (xs ys : List Item) → entries_in (xs ++ ys) ≡ entries_in xs ++ entries_in ys
 entries_append [] ys = refl
@@ -119,13 +126,14 @@ nth_after [] a = refl
 nth_after (x ∷ xs) a = nth_after xs a
 
 -- one more entry
-pub session_entry : (s : State) (e : Entry) (ks : List Known) → IsSession s ks → IsSession (with_item s (entry e)) ks
-session_entry s e ks h =
+pub session_entry : (s : State) (e : Entry) (ks : List Known) → IsSession s ks → IsOfApplications (entry e) → IsSession (with_item s (entry e)) ks
+session_entry s e ks h f =
     let more = store_last empty_store s.items (entry e) in
     record {
       known = h.known;
       rules = ap (λ W. W.rules) more ∙ h.rules;
       names_are = ap (λ W. W.names) more ∙ h.names_are;
+      steps = steps_last s.items (entry e) h.steps f;
     }
 
 pub keeps_entry : (s : State) (e : Entry) (ds : List Declaration) → Keeps (record { state = s; rules = ds }) (record { state = with_item s (entry e); rules = ds })
@@ -154,9 +162,9 @@ entry_keeps_from p s t e ks v w =
     (subst (λ t. Keeps (record { state = s; rules = declarations s.trees ks }) (record { state = t; rules = declarations t.trees ks })) (sym w) (keeps_entry s e (declarations s.trees ks)))
 
 -- after a push of an entry, whether there was memory for it or not
-pub session_after : (r : Result ℕ Memory) (s t : State) (e : Entry) (ks : List Known) → IsSession s ks → OnOk r (t ≡ with_item s (entry e)) → OnErr r (t ≡ s) → IsSession t ks
-session_after (Ok j) s t e ks h a b = subst (λ t. IsSession t ks) (sym a) (session_entry s e ks h)
-session_after (Err m) s t e ks h a b = subst (λ t. IsSession t ks) (sym b) h
+pub session_after : (r : Result ℕ Memory) (s t : State) (e : Entry) (ks : List Known) → IsSession s ks → IsOfApplications (entry e) → OnOk r (t ≡ with_item s (entry e)) → OnErr r (t ≡ s) → IsSession t ks
+session_after (Ok j) s t e ks h f a b = subst (λ t. IsSession t ks) (sym a) (session_entry s e ks h f)
+session_after (Err m) s t e ks h f a b = subst (λ t. IsSession t ks) (sym b) h
 
 pub keeps_after : (r : Result ℕ Memory) (p : Progress) (s t : State) (e : Entry) (ks : List Known) → record { state = s; rules = declarations s.trees ks } ≡ p → OnOk r (t ≡ with_item s (entry e)) → OnErr r (t ≡ s)
     → Keeps p (record { state = t; rules = declarations t.trees ks })

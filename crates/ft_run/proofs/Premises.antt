@@ -1,5 +1,5 @@
 -- Premises one by one, and the rule that they make.
-use Rattle.std.proofs.Common.{◌≡◌, ◌∙◌, sym, ap, ap₂, refl, subst, ℕ, suc, ◌+◌, ◌<◌, List, [], ◌∷◌, ◌++◌, map, length, take, drop, get_or, ◌≤◌, Option, Some, None, option_map, Bool, true, false, cond, ◌&&◌, nat_lt, append_assoc, append-nil, arith, Result, Ok, Err, OnOk}
+use Rattle.std.proofs.Common.{◌≡◌, ◌∙◌, sym, ap, ap₂, refl, subst, ℕ, suc, ◌+◌, ◌<◌, List, [], ◌∷◌, ◌++◌, map, length, take, drop, get_or, ◌≤◌, Option, Some, None, option_map, Bool, true, false, cond, nat_lt, append_assoc, append-nil, arith, Result, Ok, Err, OnOk}
 use Rattle.std.proofs.lemmas.List.{map-append, drop_all}
 use Rattle.std.proofs.Math.Seq.{take-suc, drop-cons}
 use Rattle.ft_theory.specs.Expressions.{Expression}
@@ -14,11 +14,13 @@ use Rattle.ft_kernel.specs.State.{State, with_item}
 use Rattle.ft_syntax.specs.Table.{Extends}
 use Rattle.ft_applications.specs.declared.syntax.Premise.{Premise}
 use Rattle.ft_applications.specs.declared.syntax.Conclusion.{Conclusion}
-use Rattle.ft_applications.specs.Building.{Declaration, names, premises_of, before_premises, goal_of_premise, goal_of_conclusion, name_of_premise, premise_names, metavariable_count, rule_by, rule_of, declared}
+use Rattle.ft_applications.specs.Building.{Declaration, premises_of, before_premises, goal_of_premise, goal_of_conclusion, name_of_premise, premise_names, metavariable_count, rule_by, rule_of, declared}
 use Rattle.ft_run.specs.Session.{Progress, numbered, boundaries_in, goals_in, FitsGoal, AllFitGoals, HasMet, AreMade, GoesOn, Keeps, IsCounted}
+use Rattle.ft_applications.specs.Histories.{told, declares}
+use Rattle.ft_run.specs.Running.{IsDeclared}
 use Rattle.ft_run.specs.Asking.{goal_of_new}
 use Rattle.ft_run.specs.Declaring.{first_number}
-use Rattle.ft_run.proofs.Keeping.{boundaries_kept, goals_fit, keeps_then}
+use Rattle.ft_run.proofs.Keeping.{boundaries_kept, goals_fit, keeps_then, keeps_tell}
 use Rattle.ft_run.proofs.Forms.{goal_kept}
 use Rattle.ft_run.proofs.Going.{length_last, made_stays, none_more, same_metavariables}
 
@@ -168,16 +170,14 @@ rule_is : (ds : List Declaration) (ps : List Premise) (c : Conclusion) (m : ℕ)
     → goal_of_conclusion ds (premise_names ps) c ≡ Some g → rule_of ds ps c ≡ Some (record { premises = qs; conclusion = g })
 rule_is ds ps c m qs g e f h = ap₂ rule_by (ap (λ m. premises_of ds m [] ps) (sym e) ∙ f) h
 
-pub rule_declared : (ds : List Declaration) (n : Name) (ps : List Premise) (c : Conclusion) (m : ℕ) (qs : List (ℕ × Statement)) (g : Claim) → m ≡ metavariable_count ds → premises_of ds m [] ps ≡ Some qs
-    → goal_of_conclusion ds (premise_names ps) c ≡ Some g → (is_new (names ds) n && nat_lt (length ds) 65536) ≡ true
-    → declared ds n (rule_of ds ps c) ≡ Some (ds ++ record { name = n; rule = record { premises = qs; conclusion = g } } ∷ [])
-rule_declared ds n ps c m qs g e f h b =
-    ap₂ (λ b R. cond b (option_map (λ R. ds ++ record { name = n; rule = R } ∷ []) R) None) b (rule_is ds ps c m qs g e f h)
+pub rule_declared : (ds : List Declaration) (ps : List Premise) (c : Conclusion) (m : ℕ) (qs : List (ℕ × Statement)) (g : Claim) → m ≡ metavariable_count ds → premises_of ds m [] ps ≡ Some qs
+    → goal_of_conclusion ds (premise_names ps) c ≡ Some g → nat_lt (length ds) 65536 ≡ true → declared ds ps c ≡ Some (record { premises = qs; conclusion = g })
+rule_declared ds ps c m qs g e f h b = ap₂ (λ b R. cond b R None) b (rule_is ds ps c m qs g e f h)
 
-nothing_declared : (ds : List Declaration) (n : Name) (R : Option Rule) → R ≡ None → declared ds n R ≡ None
-nothing_declared ds n R e = ap (declared ds n) e ∙ go (is_new (names ds) n && nat_lt (length ds) 65536)
+nothing_declared : (ds : List Declaration) (ps : List Premise) (c : Conclusion) → rule_of ds ps c ≡ None → declared ds ps c ≡ None
+nothing_declared ds ps c e = ap (λ R. cond (nat_lt (length ds) 65536) R None) e ∙ go (nat_lt (length ds) 65536)
   where
-    go : (b : Bool) → cond b (option_map (λ R. ds ++ record { name = n; rule = R } ∷ []) None) None ≡ None
+    go : (b : Bool) → cond {A = Option Rule} b None None ≡ None
     go true = refl
     go false = refl
 
@@ -185,14 +185,14 @@ no_conclusion : (o : Option (List (ℕ × Statement))) → rule_by o None ≡ No
 no_conclusion None = refl
 no_conclusion (Some qs) = refl
 
-pub premises_undeclared : (ds : List Declaration) (n : Name) (ps : List Premise) (c : Conclusion) (m : ℕ) → m ≡ metavariable_count ds → premises_of ds m [] ps ≡ None → declared ds n (rule_of ds ps c) ≡ None
-premises_undeclared ds n ps c m e f = nothing_declared ds n (rule_of ds ps c) (ap (λ o. rule_by o (goal_of_conclusion ds (premise_names ps) c)) (ap (λ m. premises_of ds m [] ps) (sym e) ∙ f))
+pub premises_undeclared : (ds : List Declaration) (ps : List Premise) (c : Conclusion) (m : ℕ) → m ≡ metavariable_count ds → premises_of ds m [] ps ≡ None → declared ds ps c ≡ None
+premises_undeclared ds ps c m e f = nothing_declared ds ps c (ap (λ o. rule_by o (goal_of_conclusion ds (premise_names ps) c)) (ap (λ m. premises_of ds m [] ps) (sym e) ∙ f))
 
-pub conclusion_undeclared : (ds : List Declaration) (n : Name) (ps : List Premise) (c : Conclusion) → goal_of_conclusion ds (premise_names ps) c ≡ None → declared ds n (rule_of ds ps c) ≡ None
-conclusion_undeclared ds n ps c f = nothing_declared ds n (rule_of ds ps c) (ap (rule_by (premises_of ds (metavariable_count ds) [] ps)) f ∙ no_conclusion (premises_of ds (metavariable_count ds) [] ps))
+pub conclusion_undeclared : (ds : List Declaration) (ps : List Premise) (c : Conclusion) → goal_of_conclusion ds (premise_names ps) c ≡ None → declared ds ps c ≡ None
+conclusion_undeclared ds ps c f = nothing_declared ds ps c (ap (rule_by (premises_of ds (metavariable_count ds) [] ps)) f ∙ no_conclusion (premises_of ds (metavariable_count ds) [] ps))
 
-pub taken_undeclared : (ds : List Declaration) (n : Name) (R : Option Rule) → (is_new (names ds) n && nat_lt (length ds) 65536) ≡ false → declared ds n R ≡ None
-taken_undeclared ds n R e = ap (λ b. cond b (option_map (λ R. ds ++ record { name = n; rule = R } ∷ []) R) None) e
+pub full_undeclared : (ds : List Declaration) (ps : List Premise) (c : Conclusion) → nat_lt (length ds) 65536 ≡ false → declared ds ps c ≡ None
+full_undeclared ds ps c e = ap (λ b. cond b (rule_of ds ps c) None) e
 
 count_last : (ds : List Declaration) (d : Declaration) → metavariable_count (ds ++ d ∷ []) ≡ metavariable_count ds + length d.rule.premises
 count_last [] d = omega arith
@@ -219,25 +219,29 @@ made_later p q m k gs ms keeps f h e =
     (subst (λ gs. AreMade q.state m gs ms) (sym (goals_kept p.state.trees q.state.trees keeps.trees gs f))
     (made_stays p.state q.state (map entry keeps.items.0) m (goals_in p.state.trees gs) ms keeps.items.1 h)))
 
-pub declared_after : {A E : Type 0} (r : Result A E) (o p q s : Progress) (rs : List Declaration) (n a : Name) (ps : List Premise) (c : Conclusion) (m k : ℕ) (gs : List Goal) (ms : List ℕ) (g : Goal)
-    → m ≡ metavariable_count o.rules → p.rules ≡ o.rules → Keeps p q → Keeps q s → s.state.trees ≡ q.state.trees → AllFitGoals p.state.trees gs → AreMade p.state m (goals_in p.state.trees gs) ms
+pub declared_after : {A E : Type 0} (r : Result A E) (o p q s t : Progress) (n a : Name) (ps : List Premise) (c : Conclusion) (m k : ℕ) (gs : List Goal) (ms : List ℕ) (g : Goal)
+    → m ≡ metavariable_count o.rules → GoesOn o p → Keeps p q → Keeps q s → s.state.trees ≡ q.state.trees → AllFitGoals p.state.trees gs → AreMade p.state m (goals_in p.state.trees gs) ms
     → premises_of o.rules m [] ps ≡ Some (numbered m (boundaries_in p.state.trees gs)) → goal_of_conclusion p.rules (premise_names ps) c ≡ Some (goal_in q.state.trees g) → k ≡ first_number ms → a ≡ n
-    → OnOk r (rs ≡ s.rules ++ record { name = a; rule = record { premises = numbered k (boundaries_in s.state.trees gs); conclusion = goal_in s.state.trees g } } ∷ [])
-    → OnOk r ((is_new (names s.rules) a && nat_lt (length s.rules) 65536) ≡ true)
-    → OnOk r (declared o.rules n (rule_of o.rules ps c) ≡ Some rs)
-declared_after (Err x) o p q s rs n a ps c m k gs ms g count same kp kq trees f made premises concludes first copy h b = tt
-declared_after (Ok x) o p q s rs n a ps c m k gs ms g count same kp kq trees f made premises concludes first copy h b =
-    let rules : s.rules ≡ o.rules = kq.rules ∙ kp.rules ∙ same in
+    → OnOk r (t.rules ≡ s.rules ++ record { name = a; rule = record { premises = numbered k (boundaries_in s.state.trees gs); conclusion = goal_in s.state.trees g } } ∷ [])
+    → OnOk r (told t.state.items ≡ told s.state.items ++ declares a (record { premises = numbered k (boundaries_in s.state.trees gs); conclusion = goal_in s.state.trees g }) ∷ [])
+    → OnOk r (nat_lt (length s.rules) 65536 ≡ true)
+    → OnOk r (IsDeclared o t n ps c)
+declared_after (Err x) o p q s t n a ps c m k gs ms g count goes kp kq trees f made premises concludes first copy h tell b = tt
+declared_after (Ok x) o p q s t n a ps c m k gs ms g count goes kp kq trees f made premises concludes first copy h tell b =
+    let rules : s.rules ≡ o.rules = kq.rules ∙ kp.rules ∙ goes.rules in
     let whole : numbered k (boundaries_in s.state.trees gs) ≡ numbered m (boundaries_in p.state.trees gs) =
     ap (λ k. numbered k (boundaries_in s.state.trees gs)) first ∙ first_numbered p.state p.state.trees s.state.trees m gs ms made
     ∙ ap (numbered m) (boundaries_kept p.state.trees s.state.trees (keeps_then p q s kp kq).trees gs f) in
     let goal : goal_of_conclusion o.rules (premise_names ps) c ≡ Some (goal_in s.state.trees g) =
-    ap (λ ds. goal_of_conclusion ds (premise_names ps) c) (sym same) ∙ concludes ∙ ap (λ ts. Some (goal_in ts g)) (sym trees) in
-    let new : (is_new (names o.rules) n && nat_lt (length o.rules) 65536) ≡ true = ap₂ (λ ds n. is_new (names ds) n && nat_lt (length ds) 65536) (sym rules) (sym copy) ∙ b in
-    rule_declared o.rules n ps c m (numbered m (boundaries_in p.state.trees gs)) (goal_in s.state.trees g) count premises goal new
-    ∙ ap₂ (λ ds n. Some (ds ++ record { name = n; rule = record { premises = numbered m (boundaries_in p.state.trees gs); conclusion = goal_in s.state.trees g } } ∷ [])) (sym rules) (sym copy)
-    ∙ ap (λ qs. Some (s.rules ++ record { name = a; rule = record { premises = qs; conclusion = goal_in s.state.trees g } } ∷ [])) (sym whole)
-    ∙ ap Some (sym h)
+    ap (λ ds. goal_of_conclusion ds (premise_names ps) c) (sym goes.rules) ∙ concludes ∙ ap (λ ts. Some (goal_in ts g)) (sym trees) in
+    let room : nat_lt (length o.rules) 65536 ≡ true = ap (λ ds. nat_lt (length ds) 65536) (sym rules) ∙ b in
+    let R : Rule = record { premises = numbered k (boundaries_in s.state.trees gs); conclusion = goal_in s.state.trees g } in (
+      R,
+      rule_declared o.rules ps c m (numbered m (boundaries_in p.state.trees gs)) (goal_in s.state.trees g) count premises goal room
+          ∙ ap (λ qs. Some (record { premises = qs; conclusion = goal_in s.state.trees g })) (sym whole),
+      h ∙ ap₂ (λ ds n. ds ++ record { name = n; rule = R } ∷ []) rules copy,
+      tell ∙ ap₂ (λ ts n. ts ++ declares n R ∷ []) (keeps_tell q s kq ∙ keeps_tell p q kp ∙ goes.tells) copy,
+    )
 
 pub counted_after : {A E : Type 0} (r : Result A E) (o p q s t : Progress) (a n : Name) (ms : List ℕ) (b m k l : ℕ) (gs : List Goal) (g : Claim) → m ≡ metavariable_count o.rules → p.rules ≡ o.rules → Keeps p q → Keeps q s
     → length (metavariables_in p.state.items) ≡ m + l → length gs ≡ l
@@ -251,3 +255,38 @@ counted_after (Ok x) o p q s t a n ms b m k l gs g count same kp kq more long st
     ∙ ap length (none_more s.state n ms b ∙ same_metavariables q s kq ∙ same_metavariables p q kp)
     ∙ more ∙ counted_next s.rules s.state.trees a k gs g m l here long
     ∙ ap metavariable_count (sym rules)
+
+-- Premises that are asked for, and for which nothing is made.
+
+-- whatever the number of the first metavariable, the first i premises ask for so many boundaries
+abbrev pub AreWanted : List Declaration → List Premise → ℕ → Type 0
+AreWanted ds ps i = (m : ℕ) → (bs : List Statement) × (length bs ≡ i) × IsAskedFor ds m ps i bs
+
+pub wanted_first : (ds : List Declaration) (ps : List Premise) → AreWanted ds ps 0
+wanted_first ds ps m = ([], refl, asked_first ds m ps)
+
+pub wanted_next : (ds es : List Declaration) (ps : List Premise) (i : ℕ) (p : Premise) (g : Claim) → es ≡ ds → i < length ps → p ≡ get_or ps i p
+    → goal_of_new es (premise_names (take i ps)) p ≡ Some g → AreWanted ds ps i → AreWanted ds ps (i + 1)
+wanted_next ds es ps i p g same l e new h m =
+    let one : suc i ≡ i + 1 = omega arith in
+    let bs : List Statement = (h m).0 in
+    subst (λ i. (bs : List Statement) × (length bs ≡ i) × IsAskedFor ds m ps i bs) one (
+      bs ++ plain g ∷ [],
+      length_last bs (plain g) ∙ ap suc (h m).1,
+      asked_next ds m ps i p bs g l e (h m).1 (ap (λ ds. goal_of_new ds (premise_names (take i ps)) p) (sym same) ∙ new) (h m).2,
+    )
+
+pub wanted_none : (ds es : List Declaration) (ps : List Premise) (i : ℕ) (p : Premise) (m : ℕ) → es ≡ ds → i < length ps → p ≡ get_or ps i p
+    → goal_of_new es (premise_names (take i ps)) p ≡ None → AreWanted ds ps i → premises_of ds m [] ps ≡ None
+wanted_none ds es ps i p m same l e new h =
+    asked_none ds m ps i p (h m).0 l e (ap (λ ds. goal_of_new ds (premise_names (take i ps)) p) (sym same) ∙ new) (h m).2
+
+pub wanted_all : (ds : List Declaration) (ps : List Premise) (i m : ℕ) → length ps ≤ i → AreWanted ds ps i → (qs : List (ℕ × Statement)) × (premises_of ds m [] ps ≡ Some qs)
+wanted_all ds ps i m l h = (numbered m (h m).0, asked_all ds m ps i (h m).0 l (h m).2)
+
+-- a rule that is built, where nothing is made
+pub built_rule : (ds es : List Declaration) (ps : List Premise) (c : Conclusion) (g : Claim) → ((m : ℕ) → (qs : List (ℕ × Statement)) × (premises_of ds m [] ps ≡ Some qs)) → es ≡ ds
+    → goal_of_conclusion es (premise_names ps) c ≡ Some g → nat_lt (length ds) 65536 ≡ true → (R : Rule) × (declared ds ps c ≡ Some R)
+built_rule ds es ps c g h same e b =
+    let qs = h (metavariable_count ds) in
+    (record { premises = qs.0; conclusion = g }, rule_declared ds ps c (metavariable_count ds) qs.0 g refl qs.1 (ap (λ ds. goal_of_conclusion ds (premise_names ps) c) (sym same) ∙ e) b)

@@ -4,3 +4,4 @@ pub mod Claiming
 pub mod Asking
 pub mod Printing
 pub mod Declaring
+pub mod Running

@@ -9,6 +9,7 @@ use Rattle.ft_judge.specs.Meaning.{claim_in, goal_in, FormBelow, GoalBelow}
 use Rattle.ft_judge.specs.declared.judgement.Goal.{Goal}
 use Rattle.ft_kernel.specs.State.{State}
 use Rattle.ft_applications.specs.Building.{Declaration, theory, names, metavariable_count}
+use Rattle.ft_applications.specs.Histories.{told, AllOfApplications}
 use Rattle.ft_run.specs.declared.session.Known.{Known}
 use Rattle.ft_run.specs.declared.session.Claimed.{Claimed}
 
@@ -84,11 +85,12 @@ abbrev pub AreKnown : List Expression → List Known → Type 0
 AreKnown ts [] = Unit {0}
 AreKnown ts (k ∷ ks) = FitsKnown ts k × AreKnown ts ks
 
--- the store of the kernel's list has the declared rules, and no others
+-- the store of the kernel's list has the declared rules, and no others; each item of the list is of this language
 pub record IsSession (s : State) (ks : List Known) : Type 0 where
   pub known : AreKnown s.trees ks
   pub rules : (store_of s.items).rules ≡ theory (declarations s.trees ks)
   pub names_are : (store_of s.items).names ≡ names (declarations s.trees ks)
+  pub steps : AllOfApplications s.items
 
 -- an entry has the claim, as a thesis without domains that rests on nothing
 abbrev pub HasEntry : State → ℕ → Claim → Type 0
@@ -119,10 +121,11 @@ pub record Keeps (p q : Progress) : Type 0 where
   pub items : (es : List Entry) × (q.state.items ≡ p.state.items ++ map entry es)
   pub rules : q.rules ≡ p.rules
 
--- the later state has further trees and further items, and the same rules
+-- the later state has further trees and further items, which tell nothing more, and the same rules
 pub record GoesOn (p q : Progress) : Type 0 where
   pub trees : (more : List Expression) × (q.state.trees ≡ p.state.trees ++ more)
   pub items : (more : List Item) × (q.state.items ≡ p.state.items ++ more)
+  pub tells : told q.state.items ≡ told p.state.items
   pub rules : q.rules ≡ p.rules
 
 -- the list has no other metavariables than those of its rules

@@ -10,6 +10,7 @@ ghost use Rattle.ft_judge.specs.Meaning.{claim_in, goal_in, GoalBelow};
 ghost use Rattle.ft_judge.specs.declared.judgement.Goal.TheVariants as goal;
 ghost use Rattle.ft_kernel.specs.State.{with_item};
 ghost use Rattle.ft_kernel.specs.Steps.{step_of};
+ghost use Rattle.ft_applications.specs.Histories.{IsStepOfApplications};
 ghost use Rattle.ft_applications.specs.Building.{type_claimed, avoids, name_of_premise, premise_names, goal_of_premise, goal_of_conclusion};
 ghost use Rattle.ft_applications.specs.declared.fault.Fault.TheVariants as fault;
 ghost use Rattle.ft_run.specs.Session.{Keeps, GoesOn, FitsGoal, HasEntry, HasMet};
@@ -100,6 +101,7 @@ fn term(form: Form) -> Option<Goal>
 impl Session {
     // A boundary without domains that rests on nothing.
     fn push_goal(&mut self, goal: &Goal, step: Step) -> Result<B, Memory>
+        requires step { IsStepOfApplications (step_of step) }
         requires below { GoalBelow (length self.old.state.trees) goal.now }
         requires allowed { Allowed self.old.state.items (entry (record { statement = plain (goal_in self.old.state.trees goal.now); set = []; step = step_of step })) }
         ensures entry { IfOk result (λ b. HasEntry self.new.state b (goal_in self.old.state.trees goal.now)) }
@@ -195,6 +197,19 @@ impl Session {
         }
     }
 
+    // What a premise asks for, where its name is none of those before it.
+    pub(crate) fn wanted(&mut self, taken: &[Premise], premise: &Premise) -> Result<Asked, Fault>
+        ensures asked { IfOk result (λ x. IsAsked self.new.state x.goal x.ty) }
+        ensures goal { IfOk result (λ x. goal_of_new self.old.rules (premise_names taken.now) premise.now ≡ Some (goal_in self.new.state.trees x.goal)) }
+        ensures none { IsErrOf result fault.NotYet → goal_of_new self.old.rules (premise_names taken.now) premise.now ≡ None }
+        ensures keeps { Keeps self.old self.new }
+    {
+        if !is_new(taken, name(premise)) {
+            return Err(Fault::NotYet);
+        }
+        self.asked(taken, premise)
+    }
+
     // The metavariable of a premise, after those before it.
     #[tactic(auto, using(crate::proofs::Going::goes_kept, crate::proofs::Going::goes_then, crate::proofs::Going::goes_item, crate::proofs::Going::goes_same))]
     pub(crate) fn premise(&mut self, taken: &[Premise], premise: &Premise) -> Result<Made, Fault>
@@ -206,10 +221,7 @@ impl Session {
         ensures none { IsErrOf result fault.NotYet → goal_of_new self.old.rules (premise_names taken.now) premise.now ≡ None }
         ensures goes { GoesOn self.old self.new }
     {
-        if !is_new(taken, name(premise)) {
-            return Err(Fault::NotYet);
-        }
-        let Asked { goal, ty } = self.asked(taken, premise)?;
+        let Asked { goal, ty } = self.wanted(taken, premise)?;
         let b = self.boundary(&goal, ty)?;
         let met = self.met(name(premise), b)?;
         Ok(Made { goal, met })

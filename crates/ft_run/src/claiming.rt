@@ -12,6 +12,7 @@ ghost use Rattle.ft_judge.specs.Meaning.{claim_in, goal_in, FormBelow, GoalBelow
 ghost use Rattle.ft_kernel.specs.State.{place_of_name};
 ghost use Rattle.ft_kernel.specs.Steps.{step_of};
 ghost use Rattle.ft_applications.specs.Building.{claim_of, first_named, plains};
+ghost use Rattle.ft_applications.specs.Histories.{IsStepOfApplications};
 ghost use Rattle.ft_applications.specs.declared.fault.Fault.TheVariants as fault;
 ghost use Rattle.ft_applications.specs.declared.syntax.Application.TheVariants as tree_of;
 ghost use Rattle.ft_run.specs.Session.{Keeps, IsClaimed, AreClaimed, HasEntry, IsSimpleGoal, claims_in};
@@ -67,6 +68,7 @@ impl Session {
 
     // A thesis without domains that rests on nothing.
     fn push(&mut self, form: &Form, step: Step) -> Result<J, Memory>
+        requires step { IsStepOfApplications (step_of step) }
         requires below { FormBelow (length self.old.state.trees) form.now }
         requires allowed { Allowed self.old.state.items (entry (record { statement = plain (claim_in self.old.state.trees form.now); set = []; step = step_of step })) }
         ensures entry { IfOk result (λ j. HasEntry self.new.state j (claim_in self.old.state.trees form.now)) }

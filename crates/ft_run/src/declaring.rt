@@ -1,11 +1,13 @@
 //! Rules that are declared: their premises and conclusion are asked for, and they are accepted.
 
-ghost use Rattle.std.specs.Prelude.{◌≡◌, ◌+◌, [], length, Some, None, IfOk, OnOk, OnErr, IsErrOf};
+ghost use Rattle.std.specs.Prelude.{◌≡◌, ◌+◌, [], length, Some, None, true, IfOk, OnOk, IsErrOf};
 ghost use Rattle.ft_items.specs.Store.{metavariables_in};
-ghost use Rattle.ft_applications.specs.Building.{premises_of, rule_of, declared};
+ghost use Rattle.ft_items.specs.Good.{is_new};
+ghost use Rattle.ft_applications.specs.Building.{names, premises_of, declared};
 ghost use Rattle.ft_applications.specs.declared.fault.Fault.TheVariants as fault;
 ghost use Rattle.ft_run.specs.Session.{GoesOn, AllFitGoals, AreMade, goals_in, boundaries_in, numbered, IsCounted};
 ghost use Rattle.ft_run.specs.Declaring.{first_number};
+ghost use Rattle.ft_run.specs.Running.{IsDeclared};
 
 use crate::asking::{Asked, Made};
 use crate::session::Session;
@@ -51,18 +53,18 @@ impl Session {
         Ok(Premises { goals, mets })
     }
 
-    // Declares a rule, where it is built over the rules before it. After an error the rules are as before.
+    // Declares a rule of a new name, where it is built over the rules before it.
     pub(crate) fn declare(
         &mut self,
         name: &Name,
         premises: &[Premise],
         conclusion: &Conclusion,
     ) -> Result<(), Fault>
+        requires new { is_new (names self.old.rules) name.now ≡ true }
         requires counted { IsCounted self.old }
-        ensures rules { OnOk result (declared self.old.rules name.now (rule_of self.old.rules premises.now conclusion.now) ≡ Some self.new.rules) }
+        ensures declared { OnOk result (IsDeclared self.old self.new name.now premises.now conclusion.now) }
         ensures counted { OnOk result (IsCounted self.new) }
-        ensures none { IsErrOf result fault.NotYet → declared self.old.rules name.now (rule_of self.old.rules premises.now conclusion.now) ≡ None }
-        ensures err { OnErr result (self.new.rules ≡ self.old.rules) }
+        ensures none { IsErrOf result fault.NotYet → declared self.old.rules premises.now conclusion.now ≡ None }
     {
         let Premises { goals, mets } = self.premises(premises)?;
         let Asked { goal, ty } = self.concluded(premises, conclusion)?;

@@ -6,11 +6,13 @@ mod asking;
 mod claiming;
 mod declaring;
 mod given;
+mod judging;
 mod running;
 mod session;
 #[cfg(test)]
 mod tests;
 mod texts;
 
-pub use session::{Claimed, Known, Session};
+pub use running::run;
+pub use session::{Claimed, Ending, Known, Run, Session};
 pub use texts::push_claim;

@@ -34,6 +34,20 @@ pub struct Session {
     pub(crate) alloc: Global,
 }
 
+/// How a run ended: all commands were run, or a rule had the name of an earlier one.
+#[derive(Clone, Copy, Debug, PartialEq, Eq)]
+pub enum Ending {
+    Done,
+    Twice,
+}
+
+/// A run's session, with how the run ended.
+#[derive(Drop)]
+pub struct Run {
+    pub session: Session,
+    pub ending: Ending,
+}
+
 impl Model for Session {
     ghost use Rattle.std.specs.Coded.{codes};
     ghost use Rattle.ft_syntax.specs.Code.{coded_expression};
@@ -59,5 +73,12 @@ impl Session {
             known: Vec::new(alloc),
             alloc,
         }
+    }
+
+    /// What the session did. It takes no memory.
+    pub fn kernel(&self) -> &Kernel
+        ensures { result.now ≡ self.now.state }
+    {
+        &self.kernel
     }
 }

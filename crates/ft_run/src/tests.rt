@@ -1,6 +1,7 @@
 //! What sessions write for some sources, a session without rules, and the texts of claims.
 
-use crate::session::{Known, Session};
+use crate::running::run;
+use crate::session::{Ending, Known, Run, Session};
 use crate::texts::push_claim;
 use ft_applications::{Application, Fault, read_source};
 use ft_base::{Name, Text};
@@ -14,16 +15,20 @@ const NATURALS: &str = "rule Nat type\nrule O : Nat\nrule S (n : Nat) : Nat\n";
 
 const ACCEPTED: &str = "accepted Nat\naccepted O\naccepted S\n";
 
-// Whether a new session writes the text for the source; or, without a text, does not build it.
-fn gives(alloc: Global, source: &str, text: Option<&str>) -> Result<bool, Fail> {
+// Whether a run writes the text for the source, and ends so; or, without a text, is not built.
+fn ends(alloc: Global, source: &str, text: Option<&str>, ending: Ending) -> Result<bool, Fail> {
     let commands = read_source(alloc, source.as_bytes())?;
-    let mut session = Session::new(alloc);
     let mut out = Text::new(alloc);
-    match session.run(commands.as_slice(), &mut out) {
-        Ok(()) => Ok(text == str::from_utf8(out.bytes()).ok()),
+    match run(alloc, commands.as_slice(), &mut out) {
+        Ok(ran) => Ok(ran.ending == ending && text == str::from_utf8(out.bytes()).ok()),
         Err(Fault::NotYet) => Ok(text == None),
         Err(Fault::Memory) => Ok(false),
     }
+}
+
+// The same, for a run to the end.
+fn gives(alloc: Global, source: &str, text: Option<&str>) -> Result<bool, Fail> {
+    ends(alloc, source, text, Ending::Done)
 }
 
 #[test]
@@ -65,7 +70,6 @@ fn a_premise_hides_a_rule_from_those_after_it(rt: HostRuntime) -> Result<(), Fai
 #[test]
 fn what_is_not_built_is_told(rt: HostRuntime) -> Result<(), Fail> {
     let alloc = rt.alloc();
-    assert!(rt; gives(alloc, "rule Nat type\nrule Nat type\n", None)?);
     assert!(rt; gives(alloc, "rule F (A type) (A type) type\n", None)?);
     let with_two = format!(in alloc; "{NATURALS}show S O O\n")?;
     assert!(rt; gives(alloc, &with_two, None)?);
@@ -79,12 +83,41 @@ fn what_is_not_built_is_told(rt: HostRuntime) -> Result<(), Fail> {
 }
 
 #[test]
+fn a_rule_of_the_name_of_an_earlier_one_ends_the_run(rt: HostRuntime) -> Result<(), Fail> {
+    let alloc = rt.alloc();
+    let twice = Some("accepted Nat\nerror rule Nat declared twice\n");
+    let source = "rule Nat type\nrule Nat type\n";
+    assert!(rt; ends(alloc, source, twice, Ending::Twice)?);
+    let other = "rule Nat type\nrule Nat (x : Nat) type\nshow Nat\n";
+    assert!(rt; ends(alloc, other, twice, Ending::Twice)?);
+    Ok(())
+}
+
+#[test]
+fn commands_after_the_end_of_the_run_are_built_too(rt: HostRuntime) -> Result<(), Fail> {
+    let alloc = rt.alloc();
+    assert!(rt; gives(alloc, "rule Nat type\nrule Nat type\nshow Nat Nat\n", None)?);
+    assert!(rt; gives(alloc, "rule Nat type\nrule Nat : O\n", None)?);
+    Ok(())
+}
+
+#[test]
+fn a_run_is_kept_up_to_its_end(rt: HostRuntime) -> Result<(), Fail> {
+    let alloc = rt.alloc();
+    let source = format!(in alloc; "{NATURALS}show S (S O)\nrule O type\nshow O\n")?;
+    let commands = read_source(alloc, source.as_bytes())?;
+    let mut out = Text::new(alloc);
+    let Run { session, .. } = run(alloc, commands.as_slice(), &mut out)?;
+    assert!(rt; session.kernel().rules() == 3);
+    Ok(())
+}
+
+#[test]
 fn a_rule_without_premises_is_claimed(rt: HostRuntime) -> Result<(), Fail> {
     let alloc = rt.alloc();
     let commands = read_source(alloc, b"rule Nat type\n")?;
-    let mut session = Session::new(alloc);
     let mut out = Text::new(alloc);
-    session.run(commands.as_slice(), &mut out)?;
+    let Run { mut session, .. } = run(alloc, commands.as_slice(), &mut out)?;
     let nat = Name::new(alloc, "Nat")?.ok_or("no name")?;
     let claimed = session.claim(&Application::Apply(nat, Items::new(alloc)))?;
     assert!(rt; matches!(claimed.form, Form::Ty(_)));

@@ -1,6 +1,5 @@
-use Rattle.std.proofs.Common.{◌≡◌, ◌∙◌, sym, ap, arith, Err}
+use Rattle.std.proofs.Common.{◌≡◌, ap, arith}
 use Rattle.ft_applications.specs.Reading.{expression}
-use Rattle.ft_applications.specs.declared.fault.Fault.TheVariants.{NotYet}
 use Rattle.ft_applications.proofs.Turns.{deeper}
 use Rattle.ft_applications.proofs.reader.+expression.Goals as goal
 

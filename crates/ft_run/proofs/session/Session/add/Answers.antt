@@ -1,4 +1,4 @@
-use Rattle.ft_run.proofs.Accepted.{accepted_allowed, session_accepted, rules_accepted, state_accepted}
+use Rattle.ft_run.proofs.Accepted.{accepted_allowed, session_accepted, rules_accepted, told_accepted, state_accepted}
 use Rattle.ft_run.proofs.session.Session.add.Goals as goal
 
 pub push_rule-requires : goal.push_rule-requires
@@ -18,3 +18,8 @@ returns-clause-rules c =
 pub returns-clause-state : goal.returns-clause-state
 returns-clause-state c =
     state_accepted c.self.inside.kernel c.push_rule.new.self c.self.inside.known.items c.args.self.now c.in_ok-copy.field-0 c.args.known.name c.args.premises c.args.b c.self.view_is c.in_ok-copy.ensures c.in_default.ensures.list
+
+pub returns-clause-told : goal.returns-clause-told
+returns-clause-told c =
+    told_accepted c.self.inside.kernel c.push_rule.new.self c.self.inside.known.items c.args.self.now c.args.known c.in_ok-copy.field-0 c.args.premises c.args.b c.self.view_is
+    c.requires.made c.requires.entry c.in_ok-copy.ensures c.in_default.ensures.list

@@ -1,5 +1,9 @@
-use Rattle.ft_run.proofs.Lines.{ok_any, counted_kept}
+use Rattle.std.proofs.Common.{◌∙◌, ap, sym}
+use Rattle.ft_applications.specs.declared.syntax.Command.TheVariants as command
+use Rattle.ft_run.proofs.Lines.{rule_was_run}
 use Rattle.ft_run.proofs.session.Session.command.Goals as goal
 
-pub returns-in-Show-clause-counted : goal.returns-in-Show-clause-counted
-returns-in-Show-clause-counted c = ok_any c.show.result (counted_kept c.args.self.now c.show.new.self c.show.ensures.keeps c.requires.counted)
+pub returns-in-Rule-clause-was : goal.returns-in-Rule-clause-was
+returns-in-Rule-clause-was c =
+    rule_was_run c.rule_command.result c.args.self.now c.rule_command.new.self c.args.out.now c.rule_command.new.out c.args.command.now c.in-Rule.name c.as_slice.result.now c.in-Rule.conclusion
+    (c.in-Rule.is ∙ ap (λ ps. command.Rule c.in-Rule.name ps c.in-Rule.conclusion) (sym c.as_slice.ensures)) c.rule_command.ensures.was

@@ -17,12 +17,12 @@ accept-requires-clause-made c =
     (keeps_then c.premises.new.self c.concluded.new.self c.boundary.new.self c.concluded.ensures.keeps c.boundary.ensures.keeps)
     c.in_ok-goals.ensures.fits c.in_ok-goals.ensures.made c.first-first.ensures
 
-pub returns-clause-rules : goal.returns-clause-rules
-returns-clause-rules c =
-    declared_after c.accept.result c.args.self.now c.premises.new.self c.concluded.new.self c.boundary.new.self c.accept.new.self.rules c.args.name.now c.in_ok-copy.field-0 c.args.premises.now c.args.conclusion.now
+pub returns-clause-declared : goal.returns-clause-declared
+returns-clause-declared c =
+    declared_after c.accept.result c.args.self.now c.premises.new.self c.concluded.new.self c.boundary.new.self c.accept.new.self c.args.name.now c.in_ok-copy.field-0 c.args.premises.now c.args.conclusion.now
     (length (metavariables_in c.args.self.now.state.items)) c.first-first.result c.in_ok-goals.field-0.goals.items c.in_ok-goals.field-0.mets c.in_ok-goal.field-0.goal
-    c.requires.counted c.premises.ensures.goes.rules c.concluded.ensures.keeps c.boundary.ensures.keeps c.boundary.ensures.trees c.in_ok-goals.ensures.fits c.in_ok-goals.ensures.made
-    c.in_ok-goals.ensures.premises c.in_ok-goal.ensures.goal c.first-first.ensures c.in_ok-copy.ensures c.accept.ensures.rules c.accept.ensures.new
+    c.requires.counted c.premises.ensures.goes c.concluded.ensures.keeps c.boundary.ensures.keeps c.boundary.ensures.trees c.in_ok-goals.ensures.fits c.in_ok-goals.ensures.made
+    c.in_ok-goals.ensures.premises c.in_ok-goal.ensures.goal c.first-first.ensures c.in_ok-copy.ensures c.accept.ensures.rules c.accept.ensures.told c.accept.ensures.room
 
 pub returns-clause-counted : goal.returns-clause-counted
 returns-clause-counted c =

@@ -11,7 +11,7 @@ use Rattle.ft_run.proofs.session.Session.push.Goals as goal
 
 pub invariant_of-self : goal.invariant_of-self
 invariant_of-self c =
-    session_after c.push_judgement.result c.self.inside.kernel c.push_judgement.new.self _ c.self.inside.known.items c.self.invariant c.push_judgement.ensures.list c.push_judgement.ensures.err
+    session_after c.push_judgement.result c.self.inside.kernel c.push_judgement.new.self _ c.self.inside.known.items c.self.invariant (c.requires.step, c.new-2.ensures) c.push_judgement.ensures.list c.push_judgement.ensures.err
 
 pub returns-clause-entry : goal.returns-clause-entry
 returns-clause-entry c =

@@ -1,2 +1,10 @@
-pub mod Ending
-pub mod Sources
+pub mod Asking
+pub mod Inputs
+pub mod Numbers
+pub mod Filing
+pub mod Going
+pub mod Calling
+pub mod Telling
+pub mod Refusing
+pub mod Stating
+pub mod Bridge

@@ -1,1 +1,7 @@
+pub mod Words
+pub mod Statuses
+pub mod Verdicts
+pub mod Exports
 pub mod Answer
+pub mod Calls
+pub mod Laws

@@ -1,74 +1,101 @@
 //! The call.
 
-ghost use Rattle.std.specs.Prelude.{◌≡◌, ◌<◌, ◌≤◌, ◌+◌, ◌⊎◌, [], List, ℕ, Some, length, map, string_bytes, IfSome};
+ghost use Rattle.std.specs.Prelude.{◌≡◌, ◌≤◌, ◌⊎◌, [], List, ℕ, Some, length, map, string_bytes};
+ghost use Rattle.ft_base.specs.Names.{is_name_token};
+ghost use Rattle.ft_items.specs.Item.{Item};
+ghost use Rattle.ft_items.specs.Store.{Derivable};
+ghost use Rattle.ft_items.specs.Good.{Reject, Counts, Accepted, Rejected};
+ghost use Rattle.ft_items.specs.Texts.{IsTextOf};
+ghost use Rattle.ft_items.specs.Faults.{Fault, HasFault};
+ghost use Rattle.ft_sound.specs.Soundness.{EachEntry};
 ghost use Rattle.ft_outside.specs.Outside.{Rose, Appends, IsAtEnd};
-ghost use Rattle.ft_applications.specs.Transcript.{IsSource, IsTranscript, AllDerivable, lines, shown_in};
+ghost use Rattle.ft_applications.specs.Events.{Event, events};
+ghost use Rattle.ft_applications.specs.Transcript.{IsSource, AllDerivable, shown_in};
 ghost use Rattle.ft_applications.specs.declared.syntax.Command.{Command as Tree};
-ghost use Rattle.ft_top.specs.Answer.{IsRun, IsAnswer, IsStatus, IsOverLimit, Ends, HasNoFault, limit, usage_line, read_line, line_of, number_of};
+ghost use Rattle.ft_check.specs.Built.{verdict_built};
+ghost use Rattle.ft_top.specs.declared.words.Job.{Job as Asked};
+ghost use Rattle.ft_top.specs.declared.words.Job.TheVariants as asked;
+ghost use Rattle.ft_top.specs.Words.{IsAsked, IsNoJob, ReadsSource, limit};
+ghost use Rattle.ft_top.specs.Verdicts.{IsVerdict, verdict_line};
+ghost use Rattle.ft_top.specs.Exports.{IsExport, BreaksOff};
+ghost use Rattle.ft_top.specs.Statuses.{IsStatus, IsReadWhole, IsOverLimit, Ends, HasNoFault, usage_line, read_line};
+ghost use Rattle.ft_top.specs.Answer.{IsText, IsAnswer, IsBroken};
+ghost use Rattle.ft_top.specs.Calls.{IsCall};
 
+use crate::checking::check;
+use crate::exporting::export;
+use crate::laws::{accepted_is_derivable, headline};
+use crate::running::run;
 use crate::status::Status;
-use crate::transcript::transcript;
-use ft_outside::{Failed, Sink, Source, write_all};
+use crate::words::{Job, job_of};
+use crate::writing::stop;
+use ft_outside::{Sink, Source};
 use std::alloc::Global;
 
-// Writes the text, and answers the status; or that the write failed.
-fn finish<O: Sink>(output: &mut O, text: &[u8], status: Status) -> u8
-    requires { number_of status ≡ 4 → ⊥ }
-    ensures ended { Ends text.now (number_of status) result (O.written output.old) (O.written output.new) }
+// Does the job.
+fn answer<I: Source, O: Sink>(alloc: Global, job: Job, input: &mut I, output: &mut O) -> u8
+    ensures called { IsCall job (I.left input.old) (I.left input.new) (I.taken input.old) (I.taken input.new) (I.faults input.old) (I.faults input.new) (O.written output.old) (O.written output.new) result }
     ensures rose { result ≡ 4 → Rose (O.faults output.old) (O.faults output.new) }
 {
-    match write_all(output, text) {
-        Ok(()) => status.number(),
-        Err(Failed) => Status::WriteFault.number(),
+    match job {
+        Job::Run => run(alloc, input, output),
+        Job::Export => export(alloc, input, output),
+        Job::Check => check(alloc, input, output),
     }
 }
 
-// Ends a call that has no transcript, with the line of its status; without memory nothing is written.
-fn stop<O: Sink>(output: &mut O, status: Status) -> u8
-    requires { number_of status ≡ 4 → ⊥ }
-    ensures ended { Ends (line_of status) (number_of status) result (O.written output.old) (O.written output.new) }
-    ensures rose { result ≡ 4 → Rose (O.faults output.old) (O.faults output.new) }
-    ensures memory { number_of status ≡ 17 → result ≡ 17 }
-    ensures same { result ≡ 17 → O.written output.new ≡ O.written output.old }
-{
-    match status {
-        Status::Memory => status.number(),
-        _ => finish(output, status.line(), status),
-    }
-}
-
-/// The one word `run` reads a source from the input and writes its transcript to the output. Other words read nothing. The
-/// answer is the number of a status.
+/// Does what the words ask for. `run` reads a source from the input and writes its transcript to the output; `export` reads a
+/// source and writes the derivation of what its run did; `check` reads a derivation file and writes the verdict on it. Other
+/// words read nothing. The answer is the number of a status.
 pub fn top<I: Source, O: Sink>(alloc: Global, words: &[String], input: &mut I, output: &mut O) -> u8
     ensures status { IsStatus result }
 
-    ensures usage { result ≡ 2 → IsRun (map string_bytes words.now) → ⊥ }
-    ensures refused { (IsRun (map string_bytes words.now) → ⊥) → Ends usage_line 2 result (O.written output.old) (O.written output.new) }
-    ensures unread { (IsRun (map string_bytes words.now) → ⊥) → input.new ≡ input.old }
+    ensures usage { result ≡ 2 → IsNoJob (map string_bytes words.now) }
+    ensures refused { IsNoJob (map string_bytes words.now) → Ends usage_line 2 result (O.written output.old) (O.written output.new) }
+    ensures unread { IsNoJob (map string_bytes words.now) → input.new ≡ input.old }
 
     ensures read { result ≡ 3 → Rose (I.faults input.old) (I.faults input.new) }
-    ensures read_line { result ≡ 3 → Appends (O.written output.old) read_line (O.written output.new) }
+    ensures read_line { result ≡ 3 → (IsAsked (map string_bytes words.now) asked.Export → ⊥) → Appends (O.written output.old) read_line (O.written output.new) }
     ensures write { result ≡ 4 → Rose (O.faults output.old) (O.faults output.new) }
-    ensures long { result ≡ 5 → IsOverLimit (I.taken input.old) (I.taken input.new) }
-    ensures memory { result ≡ 17 → O.written output.new ≡ O.written output.old }
+    ensures long { result ≡ 5 → (job : Asked) × (IsAsked (map string_bytes words.now) job × IsOverLimit job (I.taken input.old) (I.taken input.new)) }
+    // Without memory nothing is written; but `export` may have written a beginning.
+    ensures memory { result ≡ 17 → (IsAsked (map string_bytes words.now) asked.Export → ⊥) → O.written output.new ≡ O.written output.old }
+    ensures broken { result ≡ 17 → IsAsked (map string_bytes words.now) asked.Export → (bytes : List ℕ) → I.left input.old ≡ Some bytes
+        → (O.written output.new ≡ O.written output.old) ⊎ BreaksOff bytes (O.written output.old) (O.written output.new) }
 
-    ensures end { (result ≡ 0) ⊎ (result ≡ 7) → IsAtEnd (I.left input.new) }
+    ensures end { IsReadWhole result → IsAtEnd (I.left input.new) }
 
     // Where the source tells its bytes: what is written and answered in each case, and where no fault comes.
-    ensures told { (bytes : List ℕ) → I.left input.old ≡ Some bytes → (result ≡ 17) ⊎ ((text : List ℕ) × ((status : ℕ) ×
-        (IsAnswer (map string_bytes words.now) bytes (I.faults input.old) (I.faults input.new) text status
-        × Ends text status result (O.written output.old) (O.written output.new)))) }
-    ensures answer { (bytes : List ℕ) → I.left input.old ≡ Some bytes → IsRun (map string_bytes words.now) → length bytes ≤ limit
+    ensures told { (bytes : List ℕ) → I.left input.old ≡ Some bytes → (result ≡ 17)
+        ⊎ (((text : List ℕ) × ((status : ℕ) × (IsAnswer (map string_bytes words.now) bytes (I.faults input.old) (I.faults input.new) text status
+        × (result ≡ status) × Appends (O.written output.old) text (O.written output.new))))
+        ⊎ ((result ≡ 4) × IsBroken (map string_bytes words.now) bytes (I.faults input.old) (I.faults input.new) (O.written output.old) (O.written output.new))) }
+    ensures answer { (job : Asked) (bytes : List ℕ) → I.left input.old ≡ Some bytes → IsAsked (map string_bytes words.now) job → length bytes ≤ limit job
         → HasNoFault (I.faults input.old) (I.faults input.new) → HasNoFault (O.faults output.old) (O.faults output.new)
-        → (result ≡ 17) ⊎ ((text : List ℕ) × ((status : ℕ) × (IsTranscript bytes text status × (result ≡ status) × Appends (O.written output.old) text (O.written output.new)))) }
+        → (result ≡ 17) ⊎ ((text : List ℕ) × ((status : ℕ) × (IsText job bytes text status × (result ≡ status) × Appends (O.written output.old) text (O.written output.new)))) }
 
-    // What is shown, where the whole transcript was written, and where a write failed after a beginning of it.
-    ensures begun { result ≡ 4 → (bytes : List ℕ) → I.left input.old ≡ Some bytes → IsRun (map string_bytes words.now) → length bytes ≤ limit → HasNoFault (I.faults input.old) (I.faults input.new)
-        → (cs : List Tree) (text : List ℕ) → IsSource bytes cs → lines [] cs ≡ Some text → AllDerivable (shown_in [] cs) }
-    ensures derivable { result ≡ 0 → (bytes : List ℕ) → I.left input.old ≡ Some bytes → (cs : List Tree) → IsSource bytes cs → AllDerivable (shown_in [] cs) }
+    // What a source shows, where all was written, and where a write failed after a beginning of it.
+    ensures derivable { (result ≡ 0) ⊎ (result ≡ 9) → (job : Asked) → ReadsSource job → IsAsked (map string_bytes words.now) job → (bytes : List ℕ) → I.left input.old ≡ Some bytes
+        → (cs : List Tree) (es : List Event) → IsSource bytes cs → events [] cs ≡ Some es → AllDerivable (shown_in es) }
+    ensures begun { result ≡ 4 → (job : Asked) → ReadsSource job → IsAsked (map string_bytes words.now) job → (bytes : List ℕ) → I.left input.old ≡ Some bytes
+        → length bytes ≤ limit job → HasNoFault (I.faults input.old) (I.faults input.new)
+        → (cs : List Tree) (es : List Event) → IsSource bytes cs → events [] cs ≡ Some es → AllDerivable (shown_in es) }
+
+    // What was exported is a derivation that `check` accepts.
+    ensures exported { (result ≡ 0) ⊎ (result ≡ 9) → IsAsked (map string_bytes words.now) asked.Export → (bytes : List ℕ) → I.left input.old ≡ Some bytes
+        → (text : List ℕ) × (IsExport bytes text result × Appends (O.written output.old) text (O.written output.new) × ((c : Counts) × IsVerdict text (verdict_line (Accepted c)) 0)) }
+
+    // What a verdict tells of the file.
+    ensures accepted { result ≡ 0 → IsAsked (map string_bytes words.now) asked.Check → (bytes : List ℕ) → I.left input.old ≡ Some bytes
+        → (items : List Item) × ((c : Counts) × (IsTextOf is_name_token bytes items × (verdict_built items ≡ Accepted c) × EachEntry (λ W e. Derivable W e.statement e.set) items)) }
+    ensures rejected { result ≡ 15 → (bytes : List ℕ) → I.left input.old ≡ Some bytes
+        → (items : List Item) × ((k : ℕ) × ((why : Reject) × (IsTextOf is_name_token bytes items × (verdict_built items ≡ Rejected k why)))) }
+    ensures filed { result ≡ 16 → (bytes : List ℕ) → I.left input.old ≡ Some bytes → (fault : Fault) × HasFault is_name_token bytes fault }
 {
-    match transcript(alloc, words, input) {
-        Ok(text) => finish(output, text.bytes(), Status::Done),
-        Err(status) => stop(output, status),
+    headline();
+    accepted_is_derivable();
+    match job_of(words) {
+        Some(job) => answer(alloc, job, input, output),
+        None => stop(output, Status::Usage),
     }
 }

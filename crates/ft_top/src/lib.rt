@@ -1,11 +1,22 @@
-//! The call that the program makes: words and a source in, a transcript and a status out.
+//! The call that the program makes: words and an input in, a text and a status out.
 #![tactic(auto)]
 
 mod call;
+mod checking;
+mod exporting;
+#[cfg(test)]
+mod file_tests;
+mod laws;
+mod reading;
+mod running;
 mod status;
 #[cfg(test)]
 mod tests;
-mod transcript;
+mod verdicts;
+mod words;
+mod writing;
 
 pub use call::top;
+pub use laws::{accepted_is_derivable, built_verdict, headline, one_verdict};
 pub use status::Status;
+pub use words::Job;

@@ -1,15 +1,17 @@
 //! Statuses, with their numbers and lines.
 
 ghost use Rattle.std.specs.Prelude.{◌≡◌};
-ghost use Rattle.ft_top.specs.Answer.{number_of, line_of, status_of_reading, status_of_running};
+ghost use Rattle.ft_top.specs.declared.status.Status.TheVariants as ended;
+ghost use Rattle.ft_top.specs.Statuses.{number_of, line_of, status_of_reading, status_of_running};
 
 use ft_applications::Fault;
+use ft_base::Memory;
 use ft_outside::ReadErr;
 
 /// How a call ended.
 #[derive(Clone, Copy, Debug, PartialEq, Eq)]
 pub enum Status {
-    /// The source was read to its end, and its whole transcript was written.
+    /// The input was read to its end, and all that it asks for was written.
     Done,
     /// The words are others than the program takes.
     Usage,
@@ -17,10 +19,16 @@ pub enum Status {
     ReadFault,
     /// A write failed.
     WriteFault,
-    /// The input is longer than a source may be.
+    /// The input is longer than it may be.
     TooLong,
     /// The source is not in the language, or a command of it is not built over the rules before it.
     Syntax,
+    /// A rule has the name of an earlier one, and ended the run.
+    Twice,
+    /// An item of the derivation file is rejected.
+    Rejected,
+    /// The input is no derivation file.
+    FileFault,
     /// Memory was refused.
     Memory,
 }
@@ -37,6 +45,9 @@ impl Status {
             Status::WriteFault => 4,
             Status::TooLong => 5,
             Status::Syntax => 7,
+            Status::Twice => 9,
+            Status::Rejected => 15,
+            Status::FileFault => 16,
             Status::Memory => 17,
         }
     }
@@ -50,7 +61,12 @@ impl Status {
             Status::ReadFault => b"error read\n",
             Status::TooLong => b"error too long\n",
             Status::Syntax => b"error not yet\n",
-            Status::Done | Status::WriteFault | Status::Memory => b"",
+            Status::Done
+            | Status::WriteFault
+            | Status::Twice
+            | Status::Rejected
+            | Status::FileFault
+            | Status::Memory => b"",
         }
     }
 }
@@ -75,5 +91,13 @@ impl From<Fault> for Status {
             Fault::NotYet => Status::Syntax,
             Fault::Memory => Status::Memory,
         }
+    }
+}
+
+impl From<Memory> for Status {
+    ghost from_gives = { λ _ s. s ≡ ended.Memory };
+
+    fn from(_: Memory) -> Status {
+        Status::Memory
     }
 }

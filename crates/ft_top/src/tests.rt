@@ -1,4 +1,4 @@
-//! What is written for some sources, with the status: values that were worked out by hand.
+//! What is written for some inputs, with the status: values that were worked out by hand.
 
 ghost use Rattle.std.specs.Prelude.{◌<◌};
 
@@ -7,9 +7,9 @@ use ft_outside::{MemSink, MemSource};
 use std::alloc::Global;
 use std::test::Fail;
 
-const ROOM: usize = 1_048_576;
+pub(crate) const ROOM: usize = 1_048_576;
 
-const NATURALS: &str = "rule Nat type\nrule O : Nat\nrule S (n : Nat) : Nat\n";
+pub(crate) const NATURALS: &str = "rule Nat type\nrule O : Nat\nrule S (n : Nat) : Nat\n";
 
 const ACCEPTED: &str = "accepted Nat\naccepted O\naccepted S\n";
 
@@ -52,7 +52,7 @@ fn gives(alloc: Global, call: &Call<'_>, status: Status, text: &str) -> Result<b
 }
 
 // A text, so many times.
-fn repeated(alloc: Global, text: &str, times: usize) -> Result<String, Fail> {
+pub(crate) fn repeated(alloc: Global, text: &str, times: usize) -> Result<String, Fail> {
     let mut all = String::new(alloc);
     for _ in 0..times {
         all.push_str(text)?;
@@ -76,9 +76,10 @@ fn the_empty_source_has_no_line(rt: HostRuntime) -> Result<(), Fail> {
 }
 
 #[test]
-fn a_name_that_is_declared_twice_is_not_yet_built(rt: HostRuntime) -> Result<(), Fail> {
+fn a_name_that_is_declared_twice_ends_the_run(rt: HostRuntime) -> Result<(), Fail> {
     let call = run("rule Nat type\nrule Nat type\n");
-    assert!(rt; gives(rt.alloc(), &call, Status::Syntax, "error not yet\n")?);
+    let text = "accepted Nat\nerror rule Nat declared twice\n";
+    assert!(rt; gives(rt.alloc(), &call, Status::Twice, text)?);
     Ok(())
 }
 
@@ -91,7 +92,14 @@ fn a_rule_without_its_argument_is_not_yet_built(rt: HostRuntime) -> Result<(), F
 
 #[test]
 fn other_words_are_refused(rt: HostRuntime) -> Result<(), Fail> {
-    let words: [&[&str]; 4] = [&["run", "run"], &[], &["Run"], &["run "]];
+    let words: [&[&str]; 6] = [
+        &["run", "run"],
+        &[],
+        &["Run"],
+        &["run "],
+        &["Export"],
+        &["check", "export"],
+    ];
     for other in words {
         let call = Call {
             words: other,
@@ -110,6 +118,23 @@ fn a_read_that_fails_is_told(rt: HostRuntime) -> Result<(), Fail> {
         ..run("rule Nat type\n")
     };
     assert!(rt; gives(rt.alloc(), &call, Status::ReadFault, "error read\n")?);
+    let call = Call {
+        words: &["check"],
+        ..call
+    };
+    assert!(rt; gives(rt.alloc(), &call, Status::ReadFault, "error read\n")?);
+    Ok(())
+}
+
+#[test]
+fn an_export_has_no_line_where_a_read_fails(rt: HostRuntime) -> Result<(), Fail> {
+    let call = Call {
+        words: &["export"],
+        piece: 4,
+        failing_reads: &[2],
+        ..run("rule Nat type\n")
+    };
+    assert!(rt; gives(rt.alloc(), &call, Status::ReadFault, "")?);
     Ok(())
 }
 
@@ -121,6 +146,18 @@ fn a_write_that_fails_ends_the_call(rt: HostRuntime) -> Result<(), Fail> {
         ..run("rule Nat type\n")
     };
     assert!(rt; gives(rt.alloc(), &call, Status::WriteFault, "accep")?);
+    Ok(())
+}
+
+#[test]
+fn an_export_breaks_off_where_a_write_fails(rt: HostRuntime) -> Result<(), Fail> {
+    let call = Call {
+        words: &["export"],
+        piece: 12,
+        failing_writes: &[2],
+        ..run("rule Nat type\n")
+    };
+    assert!(rt; gives(rt.alloc(), &call, Status::WriteFault, "andromeda de")?);
     Ok(())
 }
 
@@ -145,5 +182,31 @@ fn a_source_has_at_most_1048576_bytes(rt: HostRuntime) -> Result<(), Fail> {
     assert!(rt; gives(alloc, &run(&source), Status::Done, "")?);
     source.push_str(" ")?;
     assert!(rt; gives(alloc, &run(&source), Status::TooLong, "error too long\n")?);
+    let export = Call {
+        words: &["export"],
+        ..run(&source)
+    };
+    assert!(rt; gives(alloc, &export, Status::TooLong, "")?);
+    Ok(())
+}
+
+#[test]
+fn the_derivation_of_the_empty_source_has_two_lines(rt: HostRuntime) -> Result<(), Fail> {
+    let call = Call {
+        words: &["export"],
+        ..run("")
+    };
+    let text = "andromeda derivation 1\nend\n";
+    assert!(rt; gives(rt.alloc(), &call, Status::Done, text)?);
+    Ok(())
+}
+
+#[test]
+fn nothing_is_exported_of_what_is_not_built(rt: HostRuntime) -> Result<(), Fail> {
+    let call = Call {
+        words: &["export"],
+        ..run("rule Nat type\nshow O\n")
+    };
+    assert!(rt; gives(rt.alloc(), &call, Status::Syntax, "")?);
     Ok(())
 }

@@ -1,0 +1,25 @@
+//! The input of a job.
+
+ghost use Rattle.std.specs.Prelude.{◌≡◌, ◌≤◌, length, IfOk, OnOk, IfErr, IfSome};
+ghost use Rattle.ft_outside.specs.Outside.{IsAtEnd};
+ghost use Rattle.ft_top.specs.Words.{limit};
+ghost use Rattle.ft_top.specs.Statuses.{IsCauseOfReading};
+
+use crate::status::Status;
+use crate::words::Job;
+use ft_outside::{Source, read_source};
+use std::alloc::Global;
+
+/// All the bytes of the input, at most as many as the job reads.
+pub(crate) fn read_input<I: Source>(
+    alloc: Global,
+    job: Job,
+    input: &mut I,
+) -> Result<Vec<u8>, Status>
+    ensures bytes { IfOk result (λ v. IfSome (I.left input.old) (λ bytes. bytes ≡ v.items)) }
+    ensures within { IfOk result (λ v. length v.items ≤ limit job) }
+    ensures end { OnOk result (IsAtEnd (I.left input.new)) }
+    ensures cause { IfErr result (λ s. IsCauseOfReading job (I.left input.old) (I.taken input.old) (I.taken input.new) (I.faults input.old) (I.faults input.new) s) }
+{
+    Ok(read_source(alloc, input, job.limit())?)
+}

@@ -1,0 +1,42 @@
+//! Texts that are written, and the ends of a call.
+
+ghost use Rattle.std.specs.Prelude.{◌≡◌, ◌⊎◌};
+ghost use Rattle.ft_outside.specs.Outside.{Rose};
+ghost use Rattle.ft_top.specs.Statuses.{Ends, line_of, number_of};
+
+use crate::status::Status;
+use ft_base::Text;
+use ft_outside::{Failed, Sink, write_all};
+
+/// A text that is to be written, with the status for it.
+#[derive(Debug, Drop)]
+pub(crate) struct Written {
+    pub text: Text,
+    pub status: Status,
+}
+
+/// Writes the text, and answers the status; or that the write failed.
+pub(crate) fn finish<O: Sink>(output: &mut O, text: &[u8], status: Status) -> u8
+    requires { number_of status ≡ 4 → ⊥ }
+    ensures ended { Ends text.now (number_of status) result (O.written output.old) (O.written output.new) }
+    ensures rose { result ≡ 4 → Rose (O.faults output.old) (O.faults output.new) }
+{
+    match write_all(output, text) {
+        Ok(()) => status.number(),
+        Err(Failed) => Status::WriteFault.number(),
+    }
+}
+
+/// Ends a call that has no text of its own, with the line of its status; without memory nothing is written.
+pub(crate) fn stop<O: Sink>(output: &mut O, status: Status) -> u8
+    requires { number_of status ≡ 4 → ⊥ }
+    ensures ended { Ends (line_of status) (number_of status) result (O.written output.old) (O.written output.new) }
+    ensures rose { result ≡ 4 → Rose (O.faults output.old) (O.faults output.new) }
+    ensures memory { number_of status ≡ 17 → result ≡ 17 }
+    ensures same { result ≡ 17 → O.written output.new ≡ O.written output.old }
+{
+    match status {
+        Status::Memory => status.number(),
+        _ => finish(output, status.line(), status),
+    }
+}

@@ -1,6 +1,6 @@
 //! Whether an entry is the conclusion of a rule at arguments.
 
-ghost use Rattle.std.specs.Prelude.{◌≡◌, ◌<◌, ℕ, length, option_map, IfOk, IfSome};
+ghost use Rattle.std.specs.Prelude.{◌≡◌, length, option_map, IfOk};
 ghost use Rattle.ft_theory.specs.Expressions.{instantiate, symbol};
 ghost use Rattle.ft_theory.specs.Statements.{fill_goal, map_claim, plain};
 ghost use Rattle.ft_items.specs.Item.{Stated as StatedNumbers};
@@ -23,21 +23,9 @@ use crate::reject::Reject;
 use crate::result::{against_result, is_same_set};
 use ft_assume::Assume;
 use ft_base::Memory;
-use ft_judge::{Form, Goal};
-use ft_syntax::{E, Terms};
+use ft_judge::{Form, Goal, head_of_form};
+use ft_syntax::Terms;
 use std::alloc::Global;
-
-// The head of the form: its type or its term.
-fn head_of_form(form: &Form) -> Option<E>
-    ensures is { result ≡ Rattle.ft_judge.specs.Meaning.head_of_form form.now }
-    ensures below { (n : ℕ) → FormBelow n form.now → IfSome result (λ e. e < n) }
-{
-    match *form {
-        Form::Ty(a) => Some(a),
-        Form::Tm(t, _) => Some(t),
-        _ => None,
-    }
-}
 
 // Whether the head of the form, where it has one, is the symbol at the arguments.
 fn has_applied(put: &mut Put, terms: &Terms, form: &Form, r: u64) -> Result<bool, Memory>

@@ -1,15 +1,15 @@
 //! Filling a boundary, and taking a thesis apart.
 
-ghost use Rattle.std.specs.Prelude.{◌≡◌, List, option_map, IfOk};
+ghost use Rattle.std.specs.Prelude.{◌≡◌, ◌<◌, ℕ, List, option_map, IfOk, IfSome};
 ghost use Rattle.ft_theory.specs.Expressions.{Expression};
 ghost use Rattle.ft_theory.specs.Statements.{fill as fill_statement, boundary_of as boundary_of_statement};
 ghost use Rattle.ft_syntax.specs.Table.{tree};
-ghost use Rattle.ft_judge.specs.Meaning.{thesis_in, boundary_in, IsHeadFor, filled, head_in, head_of_thesis, boundary_of_thesis, head_of_statement};
+ghost use Rattle.ft_judge.specs.Meaning.{thesis_in, boundary_in, FormBelow, IsHeadFor, filled, head_in, head_of_thesis, boundary_of_thesis, head_of_statement};
 
 use crate::domains::Domains;
 use crate::judgement::{Boundary, Form, Goal, Thesis};
 use ft_base::Memory;
-use ft_syntax::{Arg, Terms};
+use ft_syntax::{Arg, E, Terms};
 use std::alloc::Global;
 
 /// The boundary filled with the head, which is an expression for the goal of a type or a term, and a dummy for that of an
@@ -71,11 +71,19 @@ pub fn head_of(t: &Thesis) -> Arg
     ensures meaning { (ts : List Expression) → option_map (tree ts) result.body ≡ head_of_statement (thesis_in ts t.now) }
 {
     let binders = t.domains.items().len() as u64;
-    let body = match t.form {
-        Form::Ty(a) => Some(a),
-        Form::Tm(e, _) => Some(e),
-        Form::EqTy(_, _) => None,
-        Form::EqTm(_, _, _) => None,
-    };
+    let body = head_of_form(&t.form);
     Arg { binders, body }
+}
+
+/// The head of a form: its type or its term, or None for an equation. It takes no memory.
+pub fn head_of_form(form: &Form) -> Option<E>
+    ensures head { result ≡ Rattle.ft_judge.specs.Meaning.head_of_form form.now }
+    ensures below { (n : ℕ) → FormBelow n form.now → IfSome result (λ e. e < n) }
+{
+    match *form {
+        Form::Ty(a) => Some(a),
+        Form::Tm(t, _) => Some(t),
+        Form::EqTy(..) => None,
+        Form::EqTm(..) => None,
+    }
 }

@@ -5,27 +5,16 @@ ghost use Rattle.ft_theory.specs.Expressions.{Expression};
 ghost use Rattle.ft_theory.specs.Statements.{fill_goal, type_goal, term_goal};
 ghost use Rattle.ft_items.specs.Equal.{fits_goal};
 ghost use Rattle.ft_syntax.specs.Table.{tree};
-ghost use Rattle.ft_judge.specs.Meaning.{claim_in, goal_in, head_of_form, FormBelow, GoalBelow};
+ghost use Rattle.ft_judge.specs.Meaning.{claim_in, goal_in, FormBelow, GoalBelow};
 ghost use Rattle.ft_run.specs.Session.{AllFitGoals, FitsGoal, AllBelow};
 ghost use Rattle.ft_run.specs.Given.{argument_of, fits_goals, fits_one};
 
 use crate::session::Claimed;
 use ft_base::Memory;
-use ft_judge::{Form, Goal};
+use ft_judge::{Form, Goal, head_of_form};
 use ft_kernel::Judgements;
 use ft_syntax::{Arg, E, Terms};
 use std::alloc::Global;
-
-fn head(form: Form) -> Option<E>
-    ensures { result ≡ head_of_form form }
-{
-    match form {
-        Form::Ty(head) => Some(head),
-        Form::Tm(head, _) => Some(head),
-        Form::EqTy(..) => None,
-        Form::EqTm(..) => None,
-    }
-}
 
 // The heads of what is claimed, as arguments without binders.
 pub(crate) fn arguments(alloc: Global, given: &[Claimed]) -> Result<Vec<Arg>, Memory>
@@ -35,7 +24,7 @@ pub(crate) fn arguments(alloc: Global, given: &[Claimed]) -> Result<Vec<Arg>, Me
     for x in given {
         let argument = Arg {
             binders: 0,
-            body: head(x.form),
+            body: head_of_form(&x.form),
         };
         found.push(argument)?;
     }

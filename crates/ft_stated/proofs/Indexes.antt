@@ -110,6 +110,16 @@ items_last : (ts : List Expression) (xs : List Stated) (x : Stated) → items_in
 items_last ts [] x = refl
 items_last ts (y ∷ xs) x = ap (λ z. item_in ts y ∷ z) (items_last ts xs x)
 
+-- the items up to the next place
+pub taken_next : (ts : List Expression) (xs : List Stated) (k : ℕ) (x : Stated) → k < length xs → x ≡ get_or xs k x → items_in ts (take (k + 1) xs) ≡ items_in ts (take k xs) ++ item_in ts x ∷ []
+taken_next ts xs k x lt at = ap (items_in ts) (take_next xs k x lt ∙ ap (λ y. take k xs ++ y ∷ []) (sym at)) ∙ items_last ts (take k xs) x
+
+pub taken_many : (ts : List Expression) (xs : List Stated) (k : ℕ) → k < length xs → length (items_in ts (take k xs)) ≡ k
+taken_many ts xs k lt = length-map (take k xs) (item_in ts) ∙ length_taken xs k (omega (arith, lt))
+
+pub taken_all : (ts : List Expression) (xs : List Stated) (k : ℕ) → length xs ≤ k → items_in ts (take k xs) ≡ items_in ts xs
+taken_all ts xs k le = ap (items_in ts) (take_all xs k le)
+
 -- the indexes of one more item
 pub indexes_next : (ts : List Expression) (xs : List Stated) (k place : ℕ) (x : Stated) (es ms rs es' ms' rs' : List ℕ)
     → AreIndexes (items_in ts (take k xs)) es ms rs → k < length xs → x ≡ get_or xs k x → place ≡ k
@@ -121,10 +131,10 @@ indexes_next ts xs k place x es ms rs es' ms' rs' h lt at is e m r = (one is_ent
     before = items_in ts (take k xs)
 
     after : items_in ts (take (k + 1) xs) ≡ before ++ item_in ts x ∷ []
-    after = ap (items_in ts) (take_next xs k x lt ∙ ap (λ y. take k xs ++ y ∷ []) (sym at)) ∙ items_last ts (take k xs) x
+    after = taken_next ts xs k x lt at
 
     many : length before ≡ k
-    many = length-map (take k xs) (item_in ts) ∙ length_taken xs k (omega (arith, lt))
+    many = taken_many ts xs k lt
 
     one : (p : Item → Bool) (ks ks' : List ℕ) → IsIndexOf p before ks → ks' ≡ with_place (p (item_in ts x)) ks place → IsIndexOf p (items_in ts (take (k + 1) xs)) ks'
     one p ks ks' h e =
@@ -133,7 +143,7 @@ indexes_next ts xs k place x es ms rs es' ms' rs' h lt at is e m r = (one is_ent
         (index_more p before (item_in ts x) ks h))
 
 pub indexes_end : (ts : List Expression) (xs : List Stated) (k : ℕ) (es ms rs : List ℕ) → AreIndexes (items_in ts (take k xs)) es ms rs → length xs ≤ k → AreIndexes (items_in ts xs) es ms rs
-indexes_end ts xs k es ms rs h le = subst (λ X. AreIndexes (items_in ts X) es ms rs) (take_all xs k le) h
+indexes_end ts xs k es ms rs h le = subst (λ X. AreIndexes X es ms rs) (taken_all ts xs k le) h
 
 -- how many there are of each kind
 entries_many : (items : List Item) → number_of is_entry items ≡ length (entries_in items)

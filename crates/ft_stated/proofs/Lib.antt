@@ -1,1 +1,4 @@
+mod FirstPlaces
+mod GreatestNumbers
 mod Indexes
+mod Kept

@@ -1,3 +1,4 @@
+pub mod First
 pub mod Steps
 pub mod Lines
 pub mod Places

@@ -1,13 +1,15 @@
 //! The items of a file over their table of expressions.
 
-ghost use Rattle.std.specs.Prelude.{◌≡◌, ◌<◌, ◌≤◌, length, Some, IfOk, IfSome, IfNone};
-ghost use Rattle.ft_items.specs.Store.{nth, entries_in, metavariables_in, rules_in};
+ghost use Rattle.std.specs.Prelude.{◌≡◌, ◌<◌, ◌≤◌, length, take, Some, IfOk, IfSome, IfNone};
+ghost use Rattle.ft_items.specs.Store.{nth, entries_in, variables_in, metavariables_in, rules_in};
 ghost use Rattle.ft_stated.specs.Lines.{item_in, items_in, StatedBelow, AllBelow};
 ghost use Rattle.ft_stated.specs.Places.{EntryStands, MetavariableStands, RuleStands};
+ghost use Rattle.ft_stated.specs.First.{first_place, greatest_number, is_rule_of, is_variable_of};
 
+use crate::firsts::{Firsts, number_after};
 use crate::index::Index;
 use crate::stated::Stated;
-use ft_base::Memory;
+use ft_base::{Memory, Name};
 use ft_syntax::Terms;
 use std::marker::Model;
 
@@ -18,6 +20,7 @@ pub struct Items {
     terms: Terms,
     stated: Vec<Stated>,
     index: Index,
+    firsts: Firsts,
 }
 
 impl Model for Items {
@@ -33,10 +36,11 @@ impl Model for Items {
     ghost use Rattle.std.specs.Prelude.{length};
     ghost use Rattle.ft_stated.specs.Lines.{items_in, AllBelow};
     ghost use Rattle.ft_stated.specs.Places.{AreIndexes};
+    ghost use Rattle.ft_stated.specs.First.{AreFirsts};
 
     ghost view = { λ x. record { trees = x.terms; items = items_in x.terms x.stated.items } };
 
-    ghost invariant = { λ x. AllBelow (length x.terms) x.stated.items × AreIndexes (items_in x.terms x.stated.items) x.index.entries.items x.index.metavariables.items x.index.rules.items };
+    ghost invariant = { λ x. AllBelow (length x.terms) x.stated.items × AreIndexes (items_in x.terms x.stated.items) x.index.entries.items x.index.metavariables.items x.index.rules.items × AreFirsts (items_in x.terms x.stated.items) x.firsts.variables.entries x.firsts.rules.entries x.firsts.greatest.items };
 }
 
 impl Items {
@@ -46,10 +50,12 @@ impl Items {
         ensures { IfOk result (λ x. x ≡ record { trees = terms; items = items_in terms stated.items }) }
     {
         let index = Index::of(*stated.allocator(), &stated)?;
+        let firsts = Firsts::of(*stated.allocator(), &stated)?;
         Ok(Items {
             terms,
             stated,
             index,
+            firsts,
         })
     }
 
@@ -98,6 +104,28 @@ impl Items {
         ensures none { IfNone result (length (rules_in self.now.items) ≤ n) }
     {
         place_at(&self.index.rules, n)
+    }
+
+    /// The place of the first variable of a number, or None where there is none. It takes no memory.
+    pub fn var_place(&self, number: u64) -> Option<u64>
+        ensures { result ≡ first_place (is_variable_of number) self.now.items }
+    {
+        self.firsts.variables.get(&number).copied()
+    }
+
+    /// The place of the first rule of a name, or None where there is none. It takes no memory.
+    pub fn name_place(&self, name: &Name) -> Option<u64>
+        ensures { result ≡ first_place (is_rule_of name.now) self.now.items }
+    {
+        self.firsts.rules.get(name).copied()
+    }
+
+    /// The greatest number of a variable before place `i`, or None where no variable stands before it. It takes no memory.
+    pub fn greatest_before(&self, i: u64) -> Option<u64>
+        ensures { result ≡ greatest_number (variables_in (take i self.now.items)) }
+    {
+        let n = self.firsts.greatest.partition_point(|g| g.place < i);
+        number_after(&self.firsts.greatest, n)
     }
 }
 

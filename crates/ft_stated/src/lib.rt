@@ -1,6 +1,7 @@
 //! The items of a file as it states them, before they are checked.
 #![tactic(auto)]
 
+mod firsts;
 mod index;
 mod items;
 mod numbers;

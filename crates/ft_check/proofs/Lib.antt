@@ -6,6 +6,7 @@ mod Naming
 mod Premises
 mod RuleReasons
 mod Stating
+mod Before
 mod BuiltLaws
 mod StepKinds
 mod NamedTheses

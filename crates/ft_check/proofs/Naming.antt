@@ -1,6 +1,5 @@
 -- The names of the rules of a list, and their number.
-use Rattle.std.proofs.Common.{◌≡◌, ℕ, nat_eq, nat_lt, ◌<◌, ◌≤◌, Bool, true, false, ◌&&◌, not, List, [], ◌∷◌, refl, sym, ap, ◌∙◌, map, length, arith}
-use Rattle.std.specs.Str.{bytes_eq}
+use Rattle.std.proofs.Common.{◌≡◌, ℕ, nat_lt, ◌<◌, ◌≤◌, Bool, true, false, ◌&&◌, not, List, [], ◌∷◌, refl, sym, ap, ◌∙◌, map, length, take, arith, Option}
 use Rattle.std.specs.List.{list_all}
 use Rattle.std.proofs.lemmas.List.{length-map}
 use Rattle.std.proofs.lemmas.Bool.{lt-ltb, ltb-true, ltb-false}
@@ -8,40 +7,22 @@ use Rattle.ft_items.specs.Item.{Name, Item, variable, metavariable, rule, entry,
 use Rattle.ft_items.specs.Store.{store_of, rules_in}
 use Rattle.ft_items.specs.Good.{Good, equal_names, is_new}
 use Rattle.ft_items.proofs.Lists.{store_is}
-use Rattle.ft_check.specs.Entries.{new_name}
+use Rattle.ft_stated.specs.First.{first_place, is_rule_of}
+use Rattle.ft_check.proofs.Before.{is_not_before, none_before}
 
--- the test of the program is that of the definitions
-bytes_eq-names : (m n : Name) → bytes_eq m n ≡ equal_names m n
-bytes_eq-names [] [] = refl
-bytes_eq-names [] (d ∷ n) = refl
-bytes_eq-names (c ∷ m) [] = refl
-bytes_eq-names (c ∷ m) (d ∷ n) = ap (λ b. nat_eq c d && b) (bytes_eq-names m n)
-
-pub other_name : (m n : Name) → not (bytes_eq m n) ≡ (not (equal_names m n) && true)
-other_name m n = ap not (bytes_eq-names m n) ∙ go (equal_names m n)
-  where
-    go : (b : Bool) → not b ≡ (not b && true)
-    go true = refl
-    go false = refl
-
-names_new : (n : Name) (xs : List (Name × List ℕ × ℕ)) → is_new (map (λ (x : Name × List ℕ × ℕ). x.0) xs) n ≡ new_name n xs
-names_new n [] = refl
-names_new n (x ∷ xs) = ap (λ b. not (equal_names x.0 n) && b) (names_new n xs)
-
-new_all : (n : Name) (items : List Item) → new_name n (rules_in items) ≡ list_all (λ i. new_name n (rules_in (i ∷ []))) items
+new_all : (n : Name) (items : List Item) → is_new (map (λ (x : Name × List ℕ × ℕ). x.0) (rules_in items)) n ≡ list_all (λ i. not (is_rule_of n i)) items
 new_all n [] = refl
-new_all n (rule m ms p ∷ items) = go (not (equal_names m n)) (new_all n items)
-  where
-    go : (b : Bool) → new_name n (rules_in items) ≡ list_all (λ i. new_name n (rules_in (i ∷ []))) items → (b && new_name n (rules_in items)) ≡ ((b && true) && list_all (λ i. new_name n (rules_in (i ∷ []))) items)
-    go true h = h
-    go false h = refl
+new_all n (rule m ms p ∷ items) = ap (λ b. not (equal_names m n) && b) (new_all n items)
 new_all n (variable v m p ∷ items) = new_all n items
 new_all n (metavariable m p ∷ items) = new_all n items
 new_all n (entry e ∷ items) = new_all n items
 new_all n (shown p ∷ items) = new_all n items
 
-pub new_is : (items : List Item) (n : Name) → Good items → list_all (λ i. new_name n (rules_in (i ∷ []))) items ≡ is_new (store_of items).names n
-new_is items n g = sym (ap (λ ns. is_new ns n) (store_is items g).names ∙ names_new n (rules_in items) ∙ new_all n items)
+-- a name is new before the place of the first rule that has it
+pub new_is : (items : List Item) (i : ℕ) (n : Name) (o : Option ℕ) → o ≡ first_place (is_rule_of n) items → Good (take i items) → is_not_before i o ≡ is_new (store_of (take i items)).names n
+new_is items i n o e g =
+    ap (is_not_before i) e ∙ sym (none_before (is_rule_of n) items i)
+    ∙ sym (ap (λ ns. is_new ns n) (store_is (take i items) g).names ∙ new_all n (take i items))
 
 -- how many rules a good list has
 pub rules_many : (items : List Item) → Good items → length (store_of items).rules ≡ length (rules_in items)

@@ -1,13 +1,16 @@
 -- The reasons against items, by what their numbers name.
-use Rattle.std.proofs.Common.{◌≡◌, ℕ, nat_eq, nat_lt, Bool, true, false, ◌&&◌, not, Option, Some, None, List, [], ◌∷◌, refl, sym, ap, ap₂, ◌∙◌, map}
+use Rattle.std.proofs.Common.{◌≡◌, ℕ, nat_eq, nat_lt, Bool, true, false, ◌&&◌, not, Option, Some, None, List, [], ◌∷◌, refl, sym, ap, ap₂, ◌∙◌, map, max, take, ◌<◌, ◌≤◌, arith}
 use Rattle.std.specs.List.{list_all}
+use Rattle.std.proofs.lemmas.Bool.{lt-ltb, le-ltb, ltb-true, ltb-false}
 use Rattle.ft_items.specs.Item.{Name, Item, variable, metavariable, rule, entry, shown}
 use Rattle.ft_items.specs.Sets.{metavariables_only}
 use Rattle.ft_items.specs.Store.{Assertion, annotated, nth, store_of, entries_in, variables_in}
 use Rattle.ft_items.specs.Equal.{is_thesis}
 use Rattle.ft_items.specs.Good.{Reject as Reason, Reference as reference, Kind as kind, Premise as premise, Number as number, Loose as loose, Good, is_next, is_plain_type, reason_of_shown, reason_of_metavariable, reason_of_variable, unless}
 use Rattle.ft_items.proofs.Lists.{store_is}
-use Rattle.ft_check.specs.Entries.{no_variable, numbers_below}
+use Rattle.ft_stated.specs.First.{at_least, first_place, greatest_number, is_variable_of}
+use Rattle.ft_check.specs.Entries.{no_variable}
+use Rattle.ft_check.proofs.Before.{equal_swapped, is_not_before, none_before}
 
 -- a shown mark
 pub shown_missing : (o : Option Assertion) → None ≡ o → Some reference ≡ reason_of_shown o
@@ -59,34 +62,43 @@ annotated_number : (x : ℕ × Name × ℕ) (o : Option Assertion) → (annotate
 annotated_number x None = refl
 annotated_number x (Some a) = refl
 
-next_below : (f : ℕ × Name × ℕ → Option Assertion) (v : ℕ) (xs : List (ℕ × Name × ℕ)) → is_next (map (λ (x : ℕ × Name × ℕ). annotated x (f x)) xs) v ≡ numbers_below v xs
-next_below f v [] = refl
-next_below f v (x ∷ xs) = ap₂ (λ n b. nat_lt n v && b) (annotated_number x (f x)) (next_below f v xs)
+-- the test that the greatest number, where there is one, is smaller
+abbrev pub is_below : ℕ → Option ℕ → Bool
+is_below v None = true
+is_below v (Some w) = nat_lt w v
 
-below_all : (v : ℕ) (items : List Item) → numbers_below v (variables_in items) ≡ list_all (λ i. numbers_below v (variables_in (i ∷ []))) items
-below_all v [] = refl
-below_all v (variable w n p ∷ items) = go (nat_lt w v) (below_all v items)
+below_both : (a b v : ℕ) → (nat_lt a v && nat_lt b v) ≡ nat_lt (max a b) v
+below_both a b v = go (nat_lt a v) (nat_lt b v) refl refl
   where
-    go : (b : Bool) → numbers_below v (variables_in items) ≡ list_all (λ i. numbers_below v (variables_in (i ∷ []))) items → (b && numbers_below v (variables_in items)) ≡ ((b && true) && list_all (λ i. numbers_below v (variables_in (i ∷ []))) items)
-    go true h = h
-    go false h = refl
-below_all v (metavariable n p ∷ items) = below_all v items
-below_all v (rule n ms p ∷ items) = below_all v items
-below_all v (entry e ∷ items) = below_all v items
-below_all v (shown p ∷ items) = below_all v items
+    go : (c d : Bool) → nat_lt a v ≡ c → nat_lt b v ≡ d → (c && d) ≡ nat_lt (max a b) v
+    go true true t u = let l : a < v = ltb-true a v t in let r : b < v = ltb-true b v u in sym (lt-ltb (max a b) v (omega (arith, l, r)))
+    go true false t f = let r : v ≤ b = ltb-false b v f in sym (le-ltb (max a b) v (omega (arith, r)))
+    go false d f u = let l : v ≤ a = ltb-false a v f in sym (le-ltb (max a b) v (omega (arith, l)))
 
-pub next_is : (items : List Item) (v : ℕ) → Good items → list_all (λ i. numbers_below v (variables_in (i ∷ []))) items ≡ is_next (store_of items).variables v
-next_is items v g = sym (ap (λ G. is_next G v) (store_is items g).variables ∙ next_below (λ x. nth (entries_in items) x.2) v (variables_in items) ∙ below_all v items)
+below_greatest : (a v : ℕ) (o : Option ℕ) → (nat_lt a v && is_below v o) ≡ nat_lt (at_least a o) v
+below_greatest a v None = go (nat_lt a v)
+  where
+    go : (b : Bool) → (b && true) ≡ b
+    go true = refl
+    go false = refl
+below_greatest a v (Some b) = below_both a b v
+
+next_below : (f : ℕ × Name × ℕ → Option Assertion) (v : ℕ) (xs : List (ℕ × Name × ℕ)) → is_next (map (λ (x : ℕ × Name × ℕ). annotated x (f x)) xs) v ≡ is_below v (greatest_number xs)
+next_below f v [] = refl
+next_below f v (x ∷ xs) = ap₂ (λ n b. nat_lt n v && b) (annotated_number x (f x)) (next_below f v xs) ∙ below_greatest x.0 v (greatest_number xs)
+
+pub next_is : (items : List Item) (v : ℕ) (o : Option ℕ) → o ≡ greatest_number (variables_in items) → Good items → is_below v o ≡ is_next (store_of items).variables v
+next_is items v o e g = ap (is_below v) e ∙ sym (ap (λ G. is_next G v) (store_is items g).variables ∙ next_below (λ x. nth (entries_in items) x.2) v (variables_in items))
 
 -- the variables of a list, by their numbers
-pub lacks_all : (v : ℕ) (items : List Item) → no_variable v (variables_in items) ≡ list_all (λ i. no_variable v (variables_in (i ∷ []))) items
+lacks_all : (v : ℕ) (items : List Item) → no_variable v (variables_in items) ≡ list_all (λ i. not (is_variable_of v i)) items
 lacks_all v [] = refl
-lacks_all v (variable w n p ∷ items) = go (not (nat_eq v w)) (lacks_all v items)
-  where
-    go : (b : Bool) → no_variable v (variables_in items) ≡ list_all (λ i. no_variable v (variables_in (i ∷ []))) items → (b && no_variable v (variables_in items)) ≡ ((b && true) && list_all (λ i. no_variable v (variables_in (i ∷ []))) items)
-    go true h = h
-    go false h = refl
+lacks_all v (variable w n p ∷ items) = ap₂ (λ b c. not b && c) (equal_swapped v w) (lacks_all v items)
 lacks_all v (metavariable n p ∷ items) = lacks_all v items
 lacks_all v (rule n ms p ∷ items) = lacks_all v items
 lacks_all v (entry e ∷ items) = lacks_all v items
 lacks_all v (shown p ∷ items) = lacks_all v items
+
+-- no variable has the number before the place of the first that has it
+pub lacks_before : (items : List Item) (i v : ℕ) (o : Option ℕ) → o ≡ first_place (is_variable_of v) items → is_not_before i o ≡ no_variable v (variables_in (take i items))
+lacks_before items i v o e = ap (is_not_before i) e ∙ sym (lacks_all v (take i items) ∙ none_before (is_variable_of v) items i)

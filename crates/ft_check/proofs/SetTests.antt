@@ -41,32 +41,6 @@ metavariables_each (Var v ∷ S) = refl
 pub metavariables_all : (S : List AtomValue) (A : List Atom) → atoms_of S ≡ A → list_all (λ a. metavariables_only (atom_of a ∷ [])) S ≡ metavariables_only A
 metavariables_all S A e = metavariables_each S ∙ ap metavariables_only e
 
--- a test of all, up to a place
-pub all_next : {A : Type 0} (f : A → Bool) (xs : List A) (k : ℕ) (x : A) → nth xs k ≡ Some x → f x ≡ true → list_all f (take k xs) ≡ true → list_all f (take (k + 1) xs) ≡ true
-all_next f [] k x h e a = none_some h
-all_next f (y ∷ xs) zero x h e a = let same : y ≡ x = cc in ap (λ b. b && true) (ap f same ∙ e)
-all_next f (y ∷ xs) (suc k) x h e a = go (f y) refl (all_next f xs k x h e)
-  where
-    step : suc k + 1 ≡ suc (k + 1)
-    step = omega arith
-
-    go : (b : Bool) → f y ≡ b → (list_all f (take k xs) ≡ true → list_all f (take (k + 1) xs) ≡ true) → list_all f (take (suc k + 1) (y ∷ xs)) ≡ true
-    go true t ih = ap (λ n. list_all f (take n (y ∷ xs))) step ∙ ap (λ b. b && list_all f (take (k + 1) xs)) t ∙ ih (sym (ap (λ b. b && list_all f (take k xs)) t) ∙ a)
-    go false t ih = let clash : false ≡ true = sym (ap (λ b. b && list_all f (take k xs)) t) ∙ a in cc
-
-pub all_over : {A : Type 0} (f : A → Bool) (xs : List A) (i k : ℕ) → i ≤ k → k ≤ i → list_all f (take k xs) ≡ true → list_all f (take i xs) ≡ true
-all_over f xs i k h g a = let same : k ≡ i = omega (arith, h, g) in subst (λ n. list_all f (take n xs) ≡ true) same a
-
-pub all_not : {A : Type 0} (f : A → Bool) (xs : List A) (k i : ℕ) (x : A) → nth xs k ≡ Some x → k < i → f x ≡ false → list_all f (take i xs) ≡ false
-all_not f [] k i x h lt e = none_some h
-all_not f (y ∷ xs) k zero x h lt e = absurd (omega (arith, lt))
-all_not f (y ∷ xs) zero (suc i) x h lt e = let same : y ≡ x = cc in ap (λ b. b && list_all f (take i xs)) (ap f same ∙ e)
-all_not f (y ∷ xs) (suc k) (suc i) x h lt e = go (f y) (all_not f xs k i x h (omega (arith, lt)) e)
-  where
-    go : (b : Bool) → list_all f (take i xs) ≡ false → (b && list_all f (take i xs)) ≡ false
-    go true h = h
-    go false h = refl
-
 -- metavariables that differ, from a place on
 drop_next : {A : Type 0} (xs : List A) (k : ℕ) (d : A) → k < length xs → drop k xs ≡ get_or xs k d ∷ drop (k + 1) xs
 drop_next [] k d h = absurd (omega (arith, h))

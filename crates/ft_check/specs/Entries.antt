@@ -4,7 +4,6 @@ use Rattle.ft_theory.specs.Expressions.{Expression}
 use Rattle.ft_items.specs.Item.{Stated, Name, Entry as AnyEntry, Item, variable, metavariable, rule, entry, shown}
 use Rattle.ft_items.specs.Sets.{Atom, met, is_within}
 use Rattle.ft_items.specs.Store.{Assertion, nth, entry_named, store_of, metavariables_in}
-use Rattle.ft_items.specs.Good.{equal_names}
 use Rattle.ft_judge.specs.Meaning.{thesis_in, boundary_in, ThesisBelow, BoundaryBelow}
 use Rattle.ft_check.specs.declared.entry.RuleLine.{RuleLine}
 use Rattle.ft_check.specs.declared.entry.Entry.{Entry}
@@ -82,17 +81,7 @@ abbrev pub is_nil : {A : Type 0} → List A → Bool
 is_nil [] = true
 is_nil (x ∷ xs) = false
 
--- the test that the number of each variable is smaller
-abbrev pub numbers_below : ℕ → List (ℕ × Name × ℕ) → Bool
-numbers_below v [] = true
-numbers_below v (x ∷ xs) = nat_lt x.0 v && numbers_below v xs
-
 -- the test that no variable has the number
 abbrev pub no_variable : ℕ → List (ℕ × Name × ℕ) → Bool
 no_variable v [] = true
 no_variable v (x ∷ xs) = not (nat_eq v x.0) && no_variable v xs
-
--- the test that no rule has the name
-abbrev pub new_name : Name → List (Name × List ℕ × ℕ) → Bool
-new_name n [] = true
-new_name n (x ∷ xs) = not (equal_names x.0 n) && new_name n xs

@@ -9,8 +9,7 @@ ghost use Rattle.ft_items.specs.Store.{Declared, each, metavariable_named, metav
 ghost use Rattle.ft_items.specs.Rows.{atoms, differ as all_differ, on_earlier};
 ghost use Rattle.ft_items.specs.Equal.{is_thesis, is_plain};
 ghost use Rattle.ft_items.specs.Good.{Good, is_new as is_new_among, reason_of_rule};
-ghost use Rattle.ft_stated.specs.Lines.{item_in};
-ghost use Rattle.ft_check.specs.Entries.{boundary_set, entry_in, new_name, rest_on_earlier as all_rest_on_earlier};
+ghost use Rattle.ft_check.specs.Entries.{boundary_set, entry_in, rest_on_earlier as all_rest_on_earlier};
 ghost use Rattle.ft_check.specs.Rejects.{reason_of, IsReason};
 
 use crate::entry::{Entry, entry_before, has_rule_before, metavariable_before};
@@ -18,30 +17,16 @@ use crate::reject::Reject;
 use crate::sets::{differ, is_within};
 use ft_assume::Assume;
 use ft_base::Name;
-use ft_stated::{Items, Numbers, Stated};
-
-// Whether the item is no rule, or one of another name.
-#[tactic(auto, using(crate::proofs::Naming::other_name))]
-fn has_other_name(x: &Stated, name: &Name) -> bool
-    ensures { (ts : List Expression) → result ≡ new_name name.now (rules_in (item_in ts x.now ∷ [])) }
-{
-    match x {
-        Stated::Rule(other, _, _) => *other != *name,
-        _ => true,
-    }
-}
+use ft_stated::{Items, Numbers};
 
 // Whether no rule before place i has the name.
 fn is_new(items: &Items, i: u64, name: &Name) -> bool
-    requires { i ≤ length items.now.items }
     ensures { Good (take i items.now.items) → result ≡ is_new_among (store_of (take i items.now.items)).names name.now }
 {
-    for k in 0..i {
-        if !has_other_name(items.item(k), name) {
-            return false;
-        }
+    match items.name_place(name) {
+        Some(place) => i <= place,
+        None => true,
     }
-    true
 }
 
 // Whether each number is that of a metavariable before place i.

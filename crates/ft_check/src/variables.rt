@@ -5,44 +5,20 @@ ghost use Rattle.ft_theory.specs.Expressions.{Expression};
 ghost use Rattle.ft_items.specs.Item.{Name, variable};
 ghost use Rattle.ft_items.specs.Store.{store_of, variables_in};
 ghost use Rattle.ft_items.specs.Good.{Good, is_next as is_greatest, reason_of_variable};
-ghost use Rattle.ft_stated.specs.Lines.{item_in};
-ghost use Rattle.ft_check.specs.Entries.{entry_in, no_variable, numbers_below};
+ghost use Rattle.ft_check.specs.Entries.{entry_in, no_variable};
 ghost use Rattle.ft_check.specs.Rejects.{reason_of, IsReason};
 
 use crate::entry::{Entry, entry_before};
 use crate::reject::Reject;
-use ft_stated::{Items, Stated};
-
-// Whether the item is no variable, or one with a smaller number.
-fn is_smaller(x: &Stated, v: u64) -> bool
-    ensures { (ts : List Expression) → result ≡ numbers_below v (variables_in (item_in ts x.now ∷ [])) }
-{
-    match x {
-        Stated::Var(number, _, _) => *number < v,
-        _ => true,
-    }
-}
+use ft_stated::Items;
 
 // Whether each variable before place i has a smaller number.
 fn is_next(items: &Items, i: u64, v: u64) -> bool
-    requires { i ≤ length items.now.items }
     ensures { Good (take i items.now.items) → result ≡ is_greatest (store_of (take i items.now.items)).variables v }
 {
-    for k in 0..i {
-        if !is_smaller(items.item(k), v) {
-            return false;
-        }
-    }
-    true
-}
-
-// Whether the item is no variable, or one with another number.
-fn is_other(x: &Stated, v: u64) -> bool
-    ensures { (ts : List Expression) → result ≡ no_variable v (variables_in (item_in ts x.now ∷ [])) }
-{
-    match x {
-        Stated::Var(number, _, _) => v != *number,
-        _ => true,
+    match items.greatest_before(i) {
+        Some(greatest) => greatest < v,
+        None => true,
     }
 }
 
@@ -51,12 +27,10 @@ pub fn lacks_variable(items: &Items, i: u64, v: u64) -> bool
     requires { i ≤ length items.now.items }
     ensures { result ≡ no_variable v (variables_in (take i items.now.items)) }
 {
-    for k in 0..i {
-        if !is_other(items.item(k), v) {
-            return false;
-        }
+    match items.var_place(v) {
+        Some(place) => i <= place,
+        None => true,
     }
-    true
 }
 
 // The reason against an entry as the type of a variable.

@@ -30,6 +30,45 @@ fn numbers_stand_in_the_order_of_pushing(rt: HostRuntime) -> Result<(), Fail> {
     Ok(())
 }
 
+fn empty_rule(alloc: Global, name: Name) -> Stated
+    ensures { (n : ℕ) → StatedBelow n result }
+{
+    Stated::Rule(name, Numbers::new(alloc), 0)
+}
+
+#[test]
+fn the_first_of_a_number_or_a_name_is_found(rt: HostRuntime) -> Result<(), Fail> {
+    let alloc = rt.alloc();
+    let terms = Terms::new(alloc);
+    let x = Name::new(alloc, "x")?.ok_or("no name")?;
+    let a = Name::new(alloc, "a")?.ok_or("no name")?;
+    let b = Name::new(alloc, "b")?.ok_or("no name")?;
+    let stated = vec![in alloc;
+        type_boundary(alloc),
+        Stated::Var(3, x.copy()?, 0),
+        empty_rule(alloc, a.copy()?),
+        Stated::Var(1, x.copy()?, 0),
+        Stated::Var(3, x.copy()?, 0),
+        empty_rule(alloc, a.copy()?),
+        empty_rule(alloc, b.copy()?),
+        Stated::Var(8, x.copy()?, 0),
+    ]?;
+    let items = Items::new(terms, stated)?;
+    assert_eq!(rt; items.var_place(3), Some(1));
+    assert_eq!(rt; items.var_place(1), Some(3));
+    assert_eq!(rt; items.var_place(8), Some(7));
+    assert_eq!(rt; items.var_place(2), None);
+    assert_eq!(rt; items.name_place(&a), Some(2));
+    assert_eq!(rt; items.name_place(&b), Some(6));
+    assert_eq!(rt; items.name_place(&x), None);
+    assert_eq!(rt; items.greatest_before(1), None);
+    assert_eq!(rt; items.greatest_before(2), Some(3));
+    assert_eq!(rt; items.greatest_before(4), Some(3));
+    assert_eq!(rt; items.greatest_before(7), Some(3));
+    assert_eq!(rt; items.greatest_before(8), Some(8));
+    Ok(())
+}
+
 #[test]
 fn items_stand_at_their_places(rt: HostRuntime) -> Result<(), Fail> {
     let alloc = rt.alloc();

@@ -2,6 +2,7 @@
 use Rattle.std.proofs.Common.{◌≡◌, ℕ, zero, suc, ◌<◌, ◌≤◌, List, [], ◌∷◌, ◌++◌, refl, sym, ap, ap₂, ◌∙◌, subst, length, arith, length-append}
 use Rattle.ft_theory.specs.Expressions.{Expression}
 use Rattle.ft_theory.specs.Statements.{Statement, Claim, abstracted, plain}
+use Rattle.ft_items.specs.Item.{Name}
 use Rattle.ft_items.specs.Store.{variables_in}
 use Rattle.ft_items.specs.Good.{Good}
 use Rattle.ft_syntax.specs.Table.{tree, Extends, AllBelow as TreesBelow}
@@ -12,7 +13,7 @@ use Rattle.ft_judge.specs.declared.judgement.Goal.{Goal}
 use Rattle.ft_judge.specs.declared.judgement.Goal.TheVariants as goal
 use Rattle.ft_judge.specs.declared.judgement.Thesis.{Thesis as ThesisValue}
 use Rattle.ft_judge.specs.declared.judgement.Boundary.{Boundary as BoundaryValue}
-use Rattle.ft_kernel.specs.State.{State, next_number}
+use Rattle.ft_kernel.specs.State.{State, next_number, place_of_name, rule_names}
 use Rattle.ft_kernel.specs.Lines.{item_in, items_in, ContentBelow, AllBelow}
 use Rattle.ft_kernel.specs.Invariant.{IsKernel}
 use Rattle.ft_kernel.specs.declared.line.Content.{Content}
@@ -94,8 +95,8 @@ all_below_more n m [] le h = tt
 all_below_more n m (l ∷ ls) le h = (content_below_more n m l.content le h.0, all_below_more n m ls le h.1)
 
 -- the kernel keeps what it keeps
-pub kernel_extended : (ts us : List Expression) (ls : List Line) (es ms rs : List ℕ) (vs : List (ℕ × ℕ)) (next : ℕ) → IsKernel ts ls es ms rs vs next → Extends ts us → IsKernel us ls es ms rs vs next
-kernel_extended ts us ls es ms rs vs next k h =
+pub kernel_extended : (ts us : List Expression) (ls : List Line) (es ms rs : List ℕ) (vs : List (ℕ × ℕ)) (ns : List (Name × ℕ)) (next : ℕ) → IsKernel ts ls es ms rs vs ns next → Extends ts us → IsKernel us ls es ms rs vs ns next
+kernel_extended ts us ls es ms rs vs ns next k h =
     let same : items_in us ls ≡ items_in ts ls = ap (λ X. items_in X ls) h.1 ∙ items_kept ts h.0 ls k.below in
     let longer : length ts ≤ length us = omega (arith, ap length h.1, length-append ts h.0) in
     record {
@@ -105,6 +106,7 @@ kernel_extended ts us ls es ms rs vs next k h =
       metavariables_are = k.metavariables_are;
       rules_are = k.rules_are;
       variables_are = k.variables_are;
+      names_are = λ n. k.names_are n ∙ ap (λ X. place_of_name (rule_names X) n) (sym same);
       next_is = k.next_is ∙ ap (λ X. next_number (variables_in X)) (sym same);
       entries_numbered = k.entries_numbered;
       metavariables_numbered = k.metavariables_numbered;

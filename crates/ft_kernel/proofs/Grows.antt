@@ -1,16 +1,17 @@
 -- A list of lines with one more line.
 use Rattle.std.proofs.Common.{◌≡◌, ◌≢◌, ℕ, suc, ◌+◌, ◌<◌, max, nat_eq, nat_lt, Bool, true, false, cond, Option, Some, None, List, [], ◌∷◌, ◌++◌, refl, sym, ap, ap₂, ◌⊎◌, inl, inr, ◌∙◌, subst, length, map, arith}
-use Rattle.std.proofs.lemmas.List.{map-append}
+use Rattle.std.proofs.lemmas.List.{map-append, append-nil}
 use Rattle.ft_theory.specs.Expressions.{Expression}
 use Rattle.ft_items.specs.Item.{Name, Item, variable, metavariable, rule, entry, shown}
 use Rattle.ft_items.specs.Store.{entries_in, variables_in, metavariables_in, rules_in}
-use Rattle.ft_items.proofs.SetLemmas.{both}
-use Rattle.ft_kernel.specs.State.{next_number}
+use Rattle.ft_items.proofs.SetLemmas.{both, wrong}
+use Rattle.ft_kernel.specs.State.{next_number, rule_names}
 use Rattle.ft_kernel.specs.Lines.{item_in, items_in, ContentBelow, AllBelow, is_entry, is_metavariable, is_rule, places, place_if_numbered, place_numbered, AreNumbered}
 use Rattle.ft_kernel.specs.declared.line.Content.{Content}
 use Rattle.ft_kernel.specs.declared.line.Content.TheVariants.{Variable, Metavariable, Rule, Thesis, Boundary, Shown}
 use Rattle.ft_kernel.specs.declared.line.Line.{Line}
 use Rattle.ft_kernel.specs.declared.item.VarItem.{VarItem}
+use Rattle.ft_kernel.specs.declared.item.RuleItem.{RuleItem}
 use Rattle.std.proofs.lemmas.Bool.{eq-eqb, ltb-true, ne_eqb}
 use Rattle.ft_items.specs.Store.{Annotation}
 use Rattle.ft_items.specs.Good.{is_next}
@@ -165,6 +166,37 @@ next_more (w ∷ vs) v n p = ap (max (w.0 + 1)) (next_more vs v n p) ∙ max_tur
   where
     max_turn : (a b c : ℕ) → max a (max b c) ≡ max (max a b) c
     max_turn a b c = omega arith
+
+-- the names of the rules
+pub rules_last : (items : List Item) (i : Item) → rules_in (items ++ i ∷ []) ≡ rules_in items ++ rules_in (i ∷ [])
+rules_last [] i = refl
+rules_last (variable v n p ∷ items) i = rules_last items i
+rules_last (metavariable n p ∷ items) i = rules_last items i
+rules_last (rule n ms p ∷ items) i = ap (λ X. (n, ms, p) ∷ X) (rules_last items i)
+rules_last (entry e ∷ items) i = rules_last items i
+rules_last (shown p ∷ items) i = rules_last items i
+
+no_rule : (ts : List Expression) (c : Content) → is_rule c ≡ false → rules_in (item_in ts c ∷ []) ≡ []
+no_rule ts (Variable x) e = refl
+no_rule ts (Metavariable x) e = refl
+no_rule ts (Rule x) e = wrong (sym e)
+no_rule ts (Thesis x S s) e = refl
+no_rule ts (Boundary x S s) e = refl
+no_rule ts (Shown j) e = refl
+
+names_last : (ts : List Expression) (ls : List Line) (l : Line) → rule_names (items_in ts (ls ++ l ∷ [])) ≡ rule_names (items_in ts ls) ++ rule_names (item_in ts l.content ∷ [])
+names_last ts ls l =
+    ap rule_names (items_last ts ls l)
+    ∙ ap (map (λ (x : Name × List ℕ × ℕ). x.0)) (rules_last (items_in ts ls) (item_in ts l.content))
+    ∙ map-append (λ (x : Name × List ℕ × ℕ). x.0) (rules_in (items_in ts ls)) (rules_in (item_in ts l.content ∷ []))
+
+pub names_same : (ts : List Expression) (ls : List Line) (l : Line) → is_rule l.content ≡ false → rule_names (items_in ts (ls ++ l ∷ [])) ≡ rule_names (items_in ts ls)
+names_same ts ls l e =
+    names_last ts ls l ∙ ap (λ X. rule_names (items_in ts ls) ++ map (λ (x : Name × List ℕ × ℕ). x.0) X) (no_rule ts l.content e)
+    ∙ append-nil (rule_names (items_in ts ls))
+
+pub names_more : (ts : List Expression) (ls : List Line) (i : ℕ) (x : RuleItem) → rule_names (items_in ts (ls ++ record { number = i; content = Rule x } ∷ [])) ≡ rule_names (items_in ts ls) ++ x.name ∷ []
+names_more ts ls i x = names_last ts ls (record { number = i; content = Rule x })
 
 -- no line has the number of a variable that may come next
 pub none_numbered : (ts : List Expression) (k : ℕ) (ls : List Line) (v : ℕ) (f : ℕ × Name × ℕ → ℕ × Annotation) → ((x : ℕ × Name × ℕ) → (f x).0 ≡ x.0)

@@ -4,7 +4,7 @@ use Rattle.ft_items.specs.Item.{Name, Item, variable, metavariable, rule, entry,
 use Rattle.ft_items.specs.Store.{Assertion, nth, entries_in, variables_in, metavariables_in, rules_in}
 use Rattle.ft_items.proofs.Lists.{nth_before}
 use Rattle.ft_kernel.specs.State.{State, with_item, entry_at, variable_numbered}
-use Rattle.ft_kernel.proofs.Grows.{variables_last}
+use Rattle.ft_kernel.proofs.Grows.{variables_last, rules_last}
 
 entries_last : (items : List Item) (i : Item) → entries_in (items ++ i ∷ []) ≡ entries_in items ++ entries_in (i ∷ [])
 entries_last [] i = refl
@@ -21,14 +21,6 @@ metavariables_last (metavariable n p ∷ items) i = ap (λ X. (n, p) ∷ X) (met
 metavariables_last (rule n ms p ∷ items) i = metavariables_last items i
 metavariables_last (entry e ∷ items) i = metavariables_last items i
 metavariables_last (shown p ∷ items) i = metavariables_last items i
-
-rules_last : (items : List Item) (i : Item) → rules_in (items ++ i ∷ []) ≡ rules_in items ++ rules_in (i ∷ [])
-rules_last [] i = refl
-rules_last (variable v n p ∷ items) i = rules_last items i
-rules_last (metavariable n p ∷ items) i = rules_last items i
-rules_last (rule n ms p ∷ items) i = ap (λ X. (n, ms, p) ∷ X) (rules_last items i)
-rules_last (entry e ∷ items) i = rules_last items i
-rules_last (shown p ∷ items) i = rules_last items i
 
 numbered_before : (vs ws : List (ℕ × Name × ℕ)) (v : ℕ) (x : Name × ℕ) → variable_numbered vs v ≡ Some x → variable_numbered (vs ++ ws) v ≡ Some x
 numbered_before [] ws v x h = let clash : None ≡ Some x = h in cc

@@ -37,6 +37,7 @@ pub struct Kernel {
     metavariables: Vec<usize>,
     rules: Vec<usize>,
     variables: HashMap<u64, usize>,
+    names: HashMap<Name, u64>,
     next: u64,
 }
 
@@ -55,7 +56,7 @@ impl Model for Kernel {
 
     ghost view = { λ k. record { trees = k.terms; items = items_in k.terms k.lines.items } };
 
-    ghost invariant = { λ k. IsKernel k.terms k.lines.items k.entries.items k.metavariables.items k.rules.items k.variables.entries k.next };
+    ghost invariant = { λ k. IsKernel k.terms k.lines.items k.entries.items k.metavariables.items k.rules.items k.variables.entries k.names.entries k.next };
 }
 
 impl Kernel {
@@ -70,6 +71,7 @@ impl Kernel {
             metavariables: Vec::new(alloc),
             rules: Vec::new(alloc),
             variables: HashMap::new(alloc),
+            names: HashMap::new(alloc),
             next: 0,
         }
     }
@@ -179,10 +181,16 @@ impl Kernel {
         ensures list { OnOk result (self.new ≡ with_item self.old (rule x.name x.premises x.conclusion)) }
         ensures err { OnErr result (self.new ≡ self.old) }
     {
+        let name = x.name.copy()?;
         let number = self.rules.len() as u64;
         self.rules.push(self.lines.len())?;
         let content = Content::Rule(x);
         if let Err(e) = self.lines.push(Line { number, content }) {
+            self.rules.pop();
+            return Err(e.into());
+        }
+        if let Err(e) = self.names.insert(name, number) {
+            self.lines.pop();
             self.rules.pop();
             return Err(e.into());
         }
@@ -301,18 +309,12 @@ impl Kernel {
         }
     }
 
-    /// The first rule of a name, or None where no rule has it. It takes no memory, and goes over the rules.
+    /// The first rule of a name, or None where no rule has it. It takes no memory.
     pub fn rule_named(&self, name: &Name) -> Option<RuleId>
         ensures first { result ≡ place_of_name (rule_names self.now.items) name.now }
         ensures fresh { is_none result ≡ is_new (rule_names self.now.items) name.now }
     {
-        for k in 0..self.rules() {
-            let r = RuleId::at(k);
-            if self.rule(r).name == *name {
-                return Some(r);
-            }
-        }
-        None
+        self.names.get(name).copied().map(RuleId::at)
     }
 
     /// The rule of a number, or None where there is none. It takes no memory.

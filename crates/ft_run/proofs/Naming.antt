@@ -1,11 +1,12 @@
 -- The place of the first rule of a name.
 use Rattle.std.proofs.Common.{◌≡◌, ◌∙◌, sym, ap, refl, subst, ℕ, zero, suc, ◌+◌, ◌<◌, List, [], ◌∷◌, length, Option, Some, None, option_map, Bool, true, false, cond, if◌then◌else◌, arith, IfSome, IfNone}
-use Rattle.ft_items.specs.Good.{equal_names}
-use Rattle.ft_kernel.specs.State.{State, place_of_name}
+use Rattle.ft_items.specs.Good.{Good, equal_names}
+use Rattle.ft_items.proofs.Lists.{store_is}
+use Rattle.ft_kernel.specs.State.{State, place_of_name, rule_names}
 use Rattle.ft_applications.specs.Building.{Declaration, names, first_named}
 use Rattle.ft_theory.specs.Expressions.{Expression}
 use Rattle.ft_run.specs.declared.session.Known.{Known}
-use Rattle.ft_run.specs.Session.{Progress, declarations}
+use Rattle.ft_run.specs.Session.{Progress, declarations, IsSession}
 use Rattle.ft_run.specs.Claiming.{rule_in, names_known}
 
 pub names_declared : (ts : List Expression) (ks : List Known) → names (declarations ts ks) ≡ names_known ks
@@ -41,32 +42,29 @@ length_names : (ds : List Declaration) → length (names ds) ≡ length ds
 length_names [] = refl
 length_names (d ∷ ds) = ap suc (length_names ds)
 
-found_in : (s : State) (ks : List Known) (n : List ℕ) (k : ℕ) → place_of_name (names_known ks) n ≡ Some k
-    → (k < length (declarations s.trees ks)) × (first_named zero (declarations s.trees ks) n ≡ Some (k, rule_in (declarations s.trees ks) k))
-found_in s ks n k e =
-    let ds = declarations s.trees ks in
-    let there : place_of_name (names ds) n ≡ Some k = ap (λ ns. place_of_name ns n) (names_declared s.trees ks) ∙ e in
-    let less = place_less (names ds) n k there in
+-- the names that were declared are those of the kernel's rules
+rules_named : (s : State) (ks : List Known) → IsSession s ks → Good s.items → names (declarations s.trees ks) ≡ rule_names s.items
+rules_named s ks h g = sym h.names_are ∙ (store_is s.items g).names
+
+found_in : (ds : List Declaration) (n : List ℕ) (k : ℕ) → place_of_name (names ds) n ≡ Some k → (k < length ds) × (first_named zero ds n ≡ Some (k, rule_in ds k))
+found_in ds n k e =
+    let less = place_less (names ds) n k e in
     let long : length (names ds) ≡ length ds = length_names ds in
     let z : zero + k ≡ k = omega arith in
-    (subst (λ m. k < m) long less, first_by_place ds n zero ∙ ap (option_map (λ k. (zero + k, rule_in ds k))) there ∙ ap (λ i. Some (i, rule_in ds k)) z)
+    (subst (λ m. k < m) long less, first_by_place ds n zero ∙ ap (option_map (λ k. (zero + k, rule_in ds k))) e ∙ ap (λ i. Some (i, rule_in ds k)) z)
 
-pub place_of : (s : State) (ks : List Known) (p : Progress) (n : List ℕ) (k : ℕ) → record { state = s; rules = declarations s.trees ks } ≡ p → Some k ≡ place_of_name (names_known ks) n
-    → (k < length p.rules) × (first_named zero p.rules n ≡ Some (k, rule_in p.rules k))
-place_of s ks p n k v e = subst (λ p. (k < length p.rules) × (first_named zero p.rules n ≡ Some (k, rule_in p.rules k))) v (found_in s ks n k (sym e))
+missing_in : (ds : List Declaration) (n : List ℕ) → place_of_name (names ds) n ≡ None → first_named zero ds n ≡ None
+missing_in ds n e = first_by_place ds n zero ∙ ap (option_map (λ k. (zero + k, rule_in ds k))) e
 
-pub no_place : (s : State) (ks : List Known) (p : Progress) (n : List ℕ) → record { state = s; rules = declarations s.trees ks } ≡ p → None ≡ place_of_name (names_known ks) n → first_named zero p.rules n ≡ None
-no_place s ks p n v e =
-    let ds = declarations s.trees ks in
-    subst (λ p. first_named zero p.rules n ≡ None) v
-    (first_by_place ds n zero ∙ ap (option_map (λ k. (zero + k, rule_in ds k))) (ap (λ ns. place_of_name ns n) (names_declared s.trees ks) ∙ sym e))
+-- the kernel's answer is the place of the name among the declared rules
+named_in : (s : State) (ks : List Known) (p : Progress) (n : List ℕ) (o : Option ℕ) → IsSession s ks → Good s.items → record { state = s; rules = declarations s.trees ks } ≡ p → o ≡ place_of_name (rule_names s.items) n
+    → place_of_name (names p.rules) n ≡ o
+named_in s ks p n o h g v e = ap (λ (p : Progress). place_of_name (names p.rules) n) (sym v) ∙ ap (λ ns. place_of_name ns n) (rules_named s ks h g) ∙ sym e
 
 -- the answer in the words of the session
-pub place_some : (s : State) (ks : List Known) (p : Progress) (n : List ℕ) (o : Option ℕ) → record { state = s; rules = declarations s.trees ks } ≡ p → o ≡ place_of_name (names_known ks) n
-    → IfSome o (λ k. (k < length p.rules) × (first_named zero p.rules n ≡ Some (k, rule_in p.rules k)))
-place_some s ks p n None v e = tt
-place_some s ks p n (Some k) v e = place_of s ks p n k v e
+pub place_some : (s : State) (ks : List Known) (p : Progress) (n : List ℕ) (k : ℕ) → IsSession s ks → Good s.items → record { state = s; rules = declarations s.trees ks } ≡ p → Some k ≡ place_of_name (rule_names s.items) n
+    → (k < length p.rules) × (first_named zero p.rules n ≡ Some (k, rule_in p.rules k))
+place_some s ks p n k h g v e = found_in p.rules n k (named_in s ks p n (Some k) h g v e)
 
-pub place_none : (s : State) (ks : List Known) (p : Progress) (n : List ℕ) (o : Option ℕ) → record { state = s; rules = declarations s.trees ks } ≡ p → o ≡ place_of_name (names_known ks) n → IfNone o (first_named zero p.rules n ≡ None)
-place_none s ks p n None v e = no_place s ks p n v e
-place_none s ks p n (Some k) v e = tt
+pub place_none : (s : State) (ks : List Known) (p : Progress) (n : List ℕ) → IsSession s ks → Good s.items → record { state = s; rules = declarations s.trees ks } ≡ p → None ≡ place_of_name (rule_names s.items) n → first_named zero p.rules n ≡ None
+place_none s ks p n h g v e = missing_in p.rules n (named_in s ks p n None h g v e)

@@ -9,17 +9,16 @@ ghost use Rattle.ft_items.specs.Good.{Allowed};
 ghost use Rattle.ft_syntax.specs.Table.{tree, arguments_in, ArgumentsBelow};
 ghost use Rattle.ft_items.specs.Equal.{fit_all, heads};
 ghost use Rattle.ft_judge.specs.Meaning.{claim_in, goal_in, FormBelow, GoalBelow};
-ghost use Rattle.ft_kernel.specs.State.{place_of_name};
 ghost use Rattle.ft_kernel.specs.Steps.{step_of};
 ghost use Rattle.ft_applications.specs.Building.{claim_of, first_named, plains};
 ghost use Rattle.ft_applications.specs.Histories.{IsStepOfApplications};
 ghost use Rattle.ft_applications.specs.declared.fault.Fault.TheVariants as fault;
 ghost use Rattle.ft_applications.specs.declared.syntax.Application.TheVariants as tree_of;
 ghost use Rattle.ft_run.specs.Session.{Keeps, IsClaimed, AreClaimed, HasEntry, IsSimpleGoal, claims_in};
-ghost use Rattle.ft_run.specs.Claiming.{at_place, named_at, names_known, rule_in};
+ghost use Rattle.ft_run.specs.Claiming.{at_place, named_at, rule_in};
 
 use crate::given::{all_fit, arguments, entries, filled};
-use crate::session::{Claimed, Known, Session};
+use crate::session::{Claimed, Session};
 use ft_applications::{Application, Fault};
 use ft_assume::Assume;
 use ft_base::{Memory, Name};
@@ -34,18 +33,6 @@ pub(crate) fn parts<'a>(a: &'a Application) -> (&'a Name, &'a [Application])
     match a {
         Application::Apply(name, arguments) => (name, arguments.as_slice()),
     }
-}
-
-// The place of the first rule of the name.
-fn place(known: &[Known], name: &Name) -> Option<usize>
-    ensures { result ≡ place_of_name (names_known known.now) name.now }
-{
-    for k in 0..known.len() {
-        if known[k].name == *name {
-            return Some(k);
-        }
-    }
-    None
 }
 
 impl Session {
@@ -151,7 +138,11 @@ impl Session {
         ensures some { IfSome result (λ k. (k < length self.now.rules) × (first_named zero self.now.rules name.now ≡ Some (k, rule_in self.now.rules k))) }
         ensures none { IfNone result (first_named zero self.now.rules name.now ≡ None) }
     {
-        place(&self.known, name)
+        let _terms = self.kernel.terms();
+        match self.kernel.rule_named(name) {
+            Some(rule) => Some(rule.number() as usize),
+            None => None,
+        }
     }
 
     // The rule at a place, at what is claimed.

@@ -11,7 +11,7 @@ pub invariant_of-self-in_default : goal.invariant_of-self-in_default
 invariant_of-self-in_default c =
     let at : c.len.result ≡ length c.self.inside.lines.items = search rules in
     let number : c.len-number.result ≡ length c.self.inside.entries.items = search rules in
-    push_entry _ _ _ _ _ _ _ _ _ _ _ c.args.content c.self.invariant c.in_default.ensures.items c.in_ok-push.ensures.items at number c.requires.entry
+    push_entry _ _ _ _ _ _ _ _ _ _ _ _ c.args.content c.self.invariant c.in_default.ensures.items c.in_ok-push.ensures.items at number c.requires.entry
     (subst (λ (s : State). ContentBelow (length s.trees) c.args.content) (sym c.self.view_is) c.requires.below)
     (subst (λ (s : State). Allowed s.items (item_in s.trees c.args.content)) (sym c.self.view_is) c.requires.allowed)
 

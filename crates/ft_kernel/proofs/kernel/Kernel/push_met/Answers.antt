@@ -11,7 +11,7 @@ pub invariant_of-self-in_default : goal.invariant_of-self-in_default
 invariant_of-self-in_default c =
     let at : c.len.result ≡ length c.self.inside.lines.items = search rules in
     let number : c.len-number.result ≡ length c.self.inside.metavariables.items = search rules in
-    push_met _ _ _ _ _ _ _ _ _ _ _ c.args.x c.self.invariant c.in_default.ensures.items c.in_ok-push.ensures.items at number
+    push_met _ _ _ _ _ _ _ _ _ _ _ _ c.args.x c.self.invariant c.in_default.ensures.items c.in_ok-push.ensures.items at number
     (subst (λ (s : State). Allowed s.items (metavariable c.args.x.name c.args.x.boundary)) (sym c.self.view_is) c.requires)
 
 pub returns-clause-number : goal.returns-clause-number

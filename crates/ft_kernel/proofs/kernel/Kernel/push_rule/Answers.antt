@@ -7,11 +7,11 @@ use Rattle.ft_kernel.proofs.Grows.{places_rules}
 use Rattle.ft_kernel.proofs.Pushes.{push_rule}
 use Rattle.ft_kernel.proofs.kernel.Kernel.push_rule.Goals as goal
 
-pub invariant_of-self-in_default : goal.invariant_of-self-in_default
-invariant_of-self-in_default c =
+pub invariant_of-self-in_default-insert : goal.invariant_of-self-in_default-insert
+invariant_of-self-in_default-insert c =
     let at : c.len.result ≡ length c.self.inside.lines.items = search rules in
     let number : c.len-number.result ≡ length c.self.inside.rules.items = search rules in
-    push_rule _ _ _ _ _ _ _ _ _ _ _ c.args.x c.self.invariant c.in_default.ensures.items c.in_ok-push.ensures.items at number
+    push_rule _ _ _ _ _ _ _ _ _ _ _ _ _ _ c.args.x c.self.invariant c.in_default.ensures.items c.in_ok-push.ensures.items at number c.in_ok-name.ensures c.in_default-insert.ensures.updates.0
     (subst (λ (s : State). Allowed s.items (rule c.args.x.name c.args.x.premises c.args.x.conclusion)) (sym c.self.view_is) c.requires)
 
 pub returns-clause-number : goal.returns-clause-number

@@ -2,4 +2,4 @@ use Rattle.ft_kernel.proofs.Extended.{kernel_extended}
 use Rattle.ft_kernel.proofs.kernel.Kernel.replace.Goals as goal
 
 pub invariant_of-self : goal.invariant_of-self
-invariant_of-self c = kernel_extended _ _ _ _ _ _ _ _ c.self.invariant c.replace.ensures.goes_on
+invariant_of-self c = kernel_extended _ _ _ _ _ _ _ _ _ c.self.invariant c.replace.ensures.goes_on

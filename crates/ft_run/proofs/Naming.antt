@@ -62,9 +62,12 @@ named_in : (s : State) (ks : List Known) (p : Progress) (n : List ℕ) (o : Opti
 named_in s ks p n o h g v e = ap (λ (p : Progress). place_of_name (names p.rules) n) (sym v) ∙ ap (λ ns. place_of_name ns n) (rules_named s ks h g) ∙ sym e
 
 -- the answer in the words of the session
-pub place_some : (s : State) (ks : List Known) (p : Progress) (n : List ℕ) (k : ℕ) → IsSession s ks → Good s.items → record { state = s; rules = declarations s.trees ks } ≡ p → Some k ≡ place_of_name (rule_names s.items) n
-    → (k < length p.rules) × (first_named zero p.rules n ≡ Some (k, rule_in p.rules k))
-place_some s ks p n k h g v e = found_in p.rules n k (named_in s ks p n (Some k) h g v e)
+pub place_some : (s : State) (ks : List Known) (p : Progress) (n : List ℕ) (o : Option ℕ) → IsSession s ks → Good s.items → record { state = s; rules = declarations s.trees ks } ≡ p → o ≡ place_of_name (rule_names s.items) n
+    → IfSome o (λ k. (k < length p.rules) × (first_named zero p.rules n ≡ Some (k, rule_in p.rules k)))
+place_some s ks p n None h g v e = tt
+place_some s ks p n (Some k) h g v e = found_in p.rules n k (named_in s ks p n (Some k) h g v e)
 
-pub place_none : (s : State) (ks : List Known) (p : Progress) (n : List ℕ) → IsSession s ks → Good s.items → record { state = s; rules = declarations s.trees ks } ≡ p → None ≡ place_of_name (rule_names s.items) n → first_named zero p.rules n ≡ None
-place_none s ks p n h g v e = missing_in p.rules n (named_in s ks p n None h g v e)
+pub place_none : (s : State) (ks : List Known) (p : Progress) (n : List ℕ) (o : Option ℕ) → IsSession s ks → Good s.items → record { state = s; rules = declarations s.trees ks } ≡ p → o ≡ place_of_name (rule_names s.items) n
+    → IfNone o (first_named zero p.rules n ≡ None)
+place_none s ks p n None h g v e = missing_in p.rules n (named_in s ks p n None h g v e)
+place_none s ks p n (Some k) h g v e = tt

@@ -133,16 +133,15 @@ impl Session {
     }
 
     // The place of the first rule of the name.
-    #[tactic(auto, using(crate::proofs::Naming::place_some, crate::proofs::Naming::place_none))]
+    #[tactic(auto, using(crate::proofs::Naming::place_none))]
     pub(crate) fn place(&self, name: &Name) -> Option<usize>
         ensures some { IfSome result (λ k. (k < length self.now.rules) × (first_named zero self.now.rules name.now ≡ Some (k, rule_in self.now.rules k))) }
         ensures none { IfNone result (first_named zero self.now.rules name.now ≡ None) }
     {
         let _terms = self.kernel.terms();
-        match self.kernel.rule_named(name) {
-            Some(rule) => Some(rule.number() as usize),
-            None => None,
-        }
+        self.kernel
+            .rule_named(name)
+            .map(|rule| rule.number() as usize)
     }
 
     // The rule at a place, at what is claimed.

@@ -91,3 +91,26 @@ fn a_metavariable_has_its_body(rt: HostRuntime) -> Result<(), Fail> {
     assert_eq!(rt; kernel.terms().node(put), Node::Free(7));
     Ok(())
 }
+
+#[test]
+fn a_rule_is_found_by_its_name(rt: HostRuntime) -> Result<(), Fail> {
+    let alloc = rt.alloc();
+    let mut kernel = Kernel::new(alloc);
+    let goal = Boundary {
+        domains: Domains::new(alloc),
+        goal: Goal::Ty,
+    };
+    let b = kernel.push_boundary(goal, Assume::new(alloc), Step::Btype)?;
+    let nat = Name::new(alloc, "Nat")?.ok_or("no name")?;
+    let same = nat.copy()?;
+    assert_eq!(rt; kernel.rule_named(&same), None);
+    let r = kernel.push_rule(RuleItem {
+        name: nat,
+        premises: Metavariables::new(alloc),
+        conclusion: b,
+    })?;
+    assert_eq!(rt; kernel.rule_named(&same), Some(r));
+    let other = Name::new(alloc, "Nats")?.ok_or("no name")?;
+    assert_eq!(rt; kernel.rule_named(&other), None);
+    Ok(())
+}

@@ -1,6 +1,6 @@
 -- Rules of a good list at arguments.
 use Rattle.std.proofs.Common.{◌≡◌, ℕ, ◌+◌, ◌<◌, ◌≤◌, Bool, true, false, ◌&&◌, Option, Some, None, List, [], ◌∷◌, refl, sym, ap, ap₂, ◌∙◌, subst, length, get_or, drop, map, arith}
-use Rattle.std.specs.Prelude.{option_map}
+use Rattle.std.specs.Prelude.{option_map, IsSomeAnd}
 use Rattle.ft_theory.specs.Expressions.{Expression, Arguments, symbol, instantiate}
 use Rattle.ft_theory.specs.Statements.{Claim, Statement, plain, fill_goal, map_claim}
 use Rattle.ft_theory.specs.Rules.{Rule, rule_at, instance_of, conclusion_at}
@@ -11,12 +11,13 @@ use Rattle.ft_items.specs.Store.{Assertion, Declared, Store, claim_in, each, ent
 use Rattle.ft_items.specs.Rows.{sets, when}
 use Rattle.ft_items.specs.Good.{Reject as Reason, Good, reason_of_result}
 use Rattle.ft_judge.specs.Meaning.{goal_in}
-use Rattle.ft_judge.specs.declared.judgement.Goal.{Goal}
+use Rattle.ft_check.specs.Applying.{IsRule}
 use Rattle.ft_check.specs.Comparing.{all_same}
 use Rattle.ft_check.specs.Entries.{line_of}
+use Rattle.ft_check.specs.declared.applied.RuleAt.{RuleAt}
 use Rattle.ft_check.specs.declared.compare.Compared.{Compared}
 use Rattle.ft_check.proofs.Fits.{each_at, each_first, each_length, drop_over, named_number, some_same}
-use Rattle.ft_check.proofs.GoalsTaken.{rule_gone, rule_known}
+use Rattle.ft_check.proofs.GoalsTaken.{KnownRule, rule_gone, rule_known}
 use Rattle.ft_check.proofs.Standing.{none_some}
 
 pub rule_named : (W : Store) (r : ℕ) (R : ℕ × Rule) → rule_of W r ≡ Some R → (r ≡ R.0) × (rule_at W.rules r ≡ Some R.1)
@@ -28,17 +29,43 @@ rule_named W r R h = go (rule_at W.rules r) refl h
         let same : (r, Q) ≡ R = some_same (r, Q) R h in
         (ap (λ (x : ℕ × Rule). x.0) same, e ∙ ap (λ (x : ℕ × Rule). Some x.1) same)
 
--- the goal of the conclusion
-pub goal_found : (items : List Item) (r : ℕ) (ms : List ℕ) (p : ℕ) (R : Rule) (a : Assertion) (o : Option Claim) → Good items → rule_at (store_of items).rules r ≡ Some R → Some (ms, p) ≡ option_map line_of (nth (rules_in items) r)
-    → Some a ≡ entry_named (store_of items) p → (is_thesis a.statement ≡ false → is_plain a.statement ≡ true → o ≡ Some (claim_in a.statement)) → o ≡ Some R.conclusion
+-- A rule of a good list is read by its line, and its goal by the entry of the conclusion.
+pub no_rule : {P : Type 0} (items : List Item) (r : ℕ) (R : ℕ × Rule) → Good items → rule_of (store_of items) r ≡ Some R → None ≡ option_map line_of (nth (rules_in items) r) → P
+no_rule items r R g e h = rule_gone items r R.1 g (rule_named (store_of items) r R e).1 h
+
+known : (items : List Item) (r : ℕ) (ms : List ℕ) (p : ℕ) (R : ℕ × Rule) → Good items → rule_of (store_of items) r ≡ Some R → Some (ms, p) ≡ option_map line_of (nth (rules_in items) r) → KnownRule (store_of items) ms p R.1
+known items r ms p R g e h = rule_known items r ms p R.1 g (rule_named (store_of items) r R e).1 h
+
+pub no_goal_found : {P : Type 0} (items : List Item) (r : ℕ) (ms : List ℕ) (p : ℕ) (R : ℕ × Rule) → Good items → rule_of (store_of items) r ≡ Some R → Some (ms, p) ≡ option_map line_of (nth (rules_in items) r) → None ≡ entry_named (store_of items) p → P
+no_goal_found items r ms p R g e h q = let k = known items r ms p R g e h in none_some (q ∙ k.line.is)
+
+goal_found : (items : List Item) (r : ℕ) (ms : List ℕ) (p : ℕ) (R : ℕ × Rule) (a : Assertion) (o : Option Claim) → Good items → rule_of (store_of items) r ≡ Some R → Some (ms, p) ≡ option_map line_of (nth (rules_in items) r)
+    → Some a ≡ entry_named (store_of items) p → (is_thesis a.statement ≡ false → is_plain a.statement ≡ true → o ≡ Some (claim_in a.statement)) → o ≡ Some R.1.conclusion
 goal_found items r ms p R a o g e h q f =
-    let k = rule_known items r ms p R g e h in
+    let k = known items r ms p R g e h in
     let same : a ≡ k.line.conclusion = some_same a k.line.conclusion (q ∙ k.line.is) in
     f (ap (λ (x : Assertion). is_thesis x.statement) same ∙ k.line.boundary) (ap (λ (x : Assertion). is_plain x.statement) same ∙ k.line.plain)
     ∙ ap Some (ap (λ (x : Assertion). claim_in x.statement) same ∙ sym k.conclusion)
 
-pub no_goal_found : {P : Type 0} (items : List Item) (r : ℕ) (ms : List ℕ) (p : ℕ) (R : Rule) → Good items → rule_at (store_of items).rules r ≡ Some R → Some (ms, p) ≡ option_map line_of (nth (rules_in items) r) → None ≡ entry_named (store_of items) p → P
-no_goal_found items r ms p R g e h q = let k = rule_known items r ms p R g e h in none_some (q ∙ k.line.is)
+pub no_goal_read : {P : Type 0} (items : List Item) (r : ℕ) (ms : List ℕ) (p : ℕ) (R : ℕ × Rule) (a : Assertion) → Good items → rule_of (store_of items) r ≡ Some R → Some (ms, p) ≡ option_map line_of (nth (rules_in items) r)
+    → Some a ≡ entry_named (store_of items) p → (is_thesis a.statement ≡ false → is_plain a.statement ≡ true → None ≡ Some (claim_in a.statement)) → P
+no_goal_read items r ms p R a g e h q f = none_some (goal_found items r ms p R a None g e h q f)
+
+pub rule_read : (ts : List Expression) (items : List Item) (r : ℕ) (x : RuleAt) (ms : List ℕ) (p : ℕ) (R : ℕ × Rule) (a : Assertion) → Good items → rule_of (store_of items) r ≡ Some R → Some (ms, p) ≡ option_map line_of (nth (rules_in items) r)
+    → Some a ≡ entry_named (store_of items) p → (is_thesis a.statement ≡ false → is_plain a.statement ≡ true → Some (goal_in ts x.goal) ≡ Some (claim_in a.statement))
+    → x.symbol ≡ r → x.metavariables.now ≡ ms → IsRule ts (store_of items) x R
+rule_read ts items r x ms p R a g e h q f s m =
+    let k = known items r ms p R g e h in
+    record {
+      number = s ∙ (rule_named (store_of items) r R e).0;
+      declared = k.line.premises;
+      are = ap (each (metavariable_named (store_of items))) m ∙ k.line.are;
+      premises = k.premises;
+      conclusion = some_same _ _ (goal_found items r ms p R a (Some (goal_in ts x.goal)) g e h q f);
+    }
+
+pub not_read : {P : Type 0} (Q : RuleAt → Type 0) (o : Option RuleAt) → IsSomeAnd o Q → o ≡ None → P
+not_read Q o h e = absurd (subst (λ o. IsSomeAnd o Q) e h)
 
 -- the sets of entries, the last first
 pub union_start : (W : Store) (ps : List ℕ) (given : List Assertion) → each (entry_named W) ps ≡ Some given → [] ≡ unions (sets (drop (length ps) given))
@@ -62,14 +89,15 @@ numbers_are W (m ∷ ms) ds h =
     ap (λ ds. map (λ (q : ℕ × Statement). q.0) (premises_of ds)) s.4 ∙ ap₂ (λ n ns. n ∷ ns) (named_number W m s.0 s.2) (numbers_are W ms s.1 s.3)
 
 -- what the program compares, in the rule's own terms
-pub at_these : (ts : List Expression) (r : ℕ) (R : Rule) (xs : List Statement) (i : ℕ → ℕ → Option Expression) (a : Arguments) (g : Goal) (list : List Compared) (b : Bool) (S Q : List Atom) (e : AnyEntry) (x : Option Reason)
-    → i ≡ instance_of R.premises (heads xs) → a ≡ heads xs → goal_in ts g ≡ R.conclusion → all_same ts (instantiate (instance_of R.premises (heads xs))) list ≡ b → S ≡ Q
-    → x ≡ reason_of_result (when (all_same ts (instantiate i) list) (plain (fill_goal (map_claim (instantiate i) (goal_in ts g)) (symbol r a)))) S e
-    → x ≡ reason_of_result (when b (plain (fill_goal (conclusion_at R (heads xs)) (symbol r (heads xs))))) Q e
-at_these ts r R xs i a g list b S Q e x f h k l m n =
-    n ∙ ap (λ i. reason_of_result (when (all_same ts (instantiate i) list) (plain (fill_goal (map_claim (instantiate i) (goal_in ts g)) (symbol r a)))) S e) f
-    ∙ ap₂ (λ a c. reason_of_result (when (all_same ts (instantiate (instance_of R.premises (heads xs))) list) (plain (fill_goal (map_claim (instantiate (instance_of R.premises (heads xs))) c) (symbol r a)))) S e) h k
-    ∙ ap₂ (λ b S. reason_of_result (when b (plain (fill_goal (conclusion_at R (heads xs)) (symbol r (heads xs))))) S e) l m
+pub at_these : (ts : List Expression) (W : Store) (r : RuleAt) (R : ℕ × Rule) (xs : List Statement) (i : ℕ → ℕ → Option Expression) (a : Arguments) (list : List Compared) (b : Bool) (S Q : List Atom) (e : AnyEntry) (x : Option Reason)
+    → IsRule ts W r R → i ≡ instance_of R.1.premises (heads xs) → a ≡ heads xs → all_same ts (instantiate (instance_of R.1.premises (heads xs))) list ≡ b → S ≡ Q
+    → x ≡ reason_of_result (when (all_same ts (instantiate i) list) (plain (fill_goal (map_claim (instantiate i) (goal_in ts r.goal)) (symbol r.symbol a)))) S e
+    → x ≡ reason_of_result (when b (plain (fill_goal (conclusion_at R.1 (heads xs)) (symbol R.0 (heads xs))))) Q e
+at_these ts W r R xs i a list b S Q e x k f h l m n =
+    n ∙ ap (λ i. reason_of_result (when (all_same ts (instantiate i) list) (plain (fill_goal (map_claim (instantiate i) (goal_in ts r.goal)) (symbol r.symbol a)))) S e) f
+    ∙ ap₂ (λ a c. reason_of_result (when (all_same ts (instantiate (instance_of R.1.premises (heads xs))) list) (plain (fill_goal (map_claim (instantiate (instance_of R.1.premises (heads xs))) c) (symbol r.symbol a)))) S e) h k.conclusion
+    ∙ ap₂ (λ n b. reason_of_result (when b (plain (fill_goal (conclusion_at R.1 (heads xs)) (symbol n (heads xs))))) S e) k.number l
+    ∙ ap (λ S. reason_of_result (when b (plain (fill_goal (conclusion_at R.1 (heads xs)) (symbol R.0 (heads xs))))) S e) m
 
 -- one list after the other
 pub two_lists : (x y a b c d : Bool) → x ≡ true → y ≡ true → (x && a) ≡ (true && c) → (y && b) ≡ (a && d) → b ≡ (c && d)
@@ -80,16 +108,6 @@ second_not x y a b c d t u f g = ap (λ z. z && b) (sym u) ∙ g ∙ ap (λ z. z
 
 pub first_not : (c d : Bool) → false ≡ c → false ≡ (c && d)
 first_not c d e = ap (λ c. c && d) e
-
-pub no_rule : {P : Type 0} (items : List Item) (r : ℕ) (R : ℕ × Rule) → Good items → rule_of (store_of items) r ≡ Some R → None ≡ option_map line_of (nth (rules_in items) r) → P
-no_rule items r R g e h = rule_gone items r R.1 g (rule_named (store_of items) r R e).1 h
-
-pub no_goal : {P : Type 0} {c : Claim} → None ≡ Some c → P
-no_goal e = none_some e
-
-pub rule_premises : (items : List Item) (r : ℕ) (ms : List ℕ) (p : ℕ) (R : Rule) → Good items → rule_at (store_of items).rules r ≡ Some R → Some (ms, p) ≡ option_map line_of (nth (rules_in items) r)
-    → (ds : List (ℕ × Declared)) × (each (metavariable_named (store_of items)) ms ≡ Some ds) × (R.premises ≡ premises_of ds)
-rule_premises items r ms p R g e h = let k = rule_known items r ms p R g e h in (k.line.premises, k.line.are, k.premises)
 
 pub no_entry : {P : Type 0} {a : Assertion} → None ≡ Some a → P
 no_entry e = none_some e

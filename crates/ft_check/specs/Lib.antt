@@ -5,3 +5,4 @@ pub mod Verdicts
 pub mod Kinds
 pub mod Comparing
 pub mod Putting
+pub mod Applying

@@ -15,6 +15,7 @@ ghost use Rattle.ft_check.specs.Entries.{entry_in, EntryBelow, with_step};
 ghost use Rattle.ft_check.specs.Putting.{IsPutIn};
 ghost use Rattle.ft_check.specs.Rejects.{reason_of};
 
+use crate::applied::RuleAt;
 use crate::compare::{Compared, push_form};
 use crate::entry::Entry;
 use crate::instances::Put;
@@ -23,7 +24,7 @@ use crate::reject::Reject;
 use crate::result::{against_result, is_same_set};
 use ft_assume::Assume;
 use ft_base::Memory;
-use ft_judge::{Form, Goal, head_of_form};
+use ft_judge::{Form, head_of_form};
 use ft_syntax::Terms;
 use std::alloc::Global;
 
@@ -39,49 +40,47 @@ fn has_applied(put: &mut Put, terms: &Terms, form: &Form, r: u64) -> Result<bool
     }
 }
 
-// Whether the form is the goal's instance, filled with the symbol at the arguments.
+// Whether the form is the instance of the rule's goal, filled with the symbol at the arguments.
 fn is_filled(
     alloc: Global,
     put: &mut Put,
     terms: &Terms,
     form: &Form,
-    r: u64,
-    goal: &Goal,
+    rule: &RuleAt<'_>,
 ) -> Result<bool, Memory>
     requires form { FormBelow (length terms.now) form.now }
-    requires goal { GoalBelow (length terms.now) goal.now }
+    requires goal { GoalBelow (length terms.now) rule.now.goal }
     requires below { IsPutIn put.old }
-    ensures { IfOk result (λ yes. yes ≡ equal_claims (fill_goal (map_claim (instantiate (instance_in put.old.terms put.old.instance.pairs)) (goal_in terms.now goal.now)) (symbol r (arguments_in put.old.terms put.old.arguments.items))) (claim_in terms.now form.now)) }
+    ensures { IfOk result (λ yes. yes ≡ equal_claims (fill_goal (map_claim (instantiate (instance_in put.old.terms put.old.instance.pairs)) (goal_in terms.now rule.now.goal)) (symbol rule.now.symbol (arguments_in put.old.terms put.old.arguments.items))) (claim_in terms.now form.now)) }
 {
     let mut list = Vec::new(alloc);
-    if !push_form(&mut list, form, goal)? {
+    if !push_form(&mut list, form, &rule.goal)? {
         return Ok(false);
     }
     if !put.are_instances(terms, &list)? {
         return Ok(false);
     }
-    has_applied(put, terms, form, r)
+    has_applied(put, terms, form, rule.symbol)
 }
 
-// Whether the entry is the goal's instance, filled with the symbol at the arguments.
+// Whether the entry is the instance of the rule's goal, filled with the symbol at the arguments.
 fn is_conclusion(
     alloc: Global,
     put: &mut Put,
     terms: &Terms,
     found: Entry<'_>,
-    r: u64,
-    goal: &Goal,
+    rule: &RuleAt<'_>,
 ) -> Result<bool, Memory>
     requires found { EntryBelow (length terms.now) found }
-    requires goal { GoalBelow (length terms.now) goal.now }
+    requires goal { GoalBelow (length terms.now) rule.now.goal }
     requires below { IsPutIn put.old }
-    ensures { IfOk result (λ yes. yes ≡ equal_statements (plain (fill_goal (map_claim (instantiate (instance_in put.old.terms put.old.instance.pairs)) (goal_in terms.now goal.now)) (symbol r (arguments_in put.old.terms put.old.arguments.items)))) (entry_in terms.now found.entry).statement) }
+    ensures { IfOk result (λ yes. yes ≡ equal_statements (plain (fill_goal (map_claim (instantiate (instance_in put.old.terms put.old.instance.pairs)) (goal_in terms.now rule.now.goal)) (symbol rule.now.symbol (arguments_in put.old.terms put.old.arguments.items)))) (entry_in terms.now found.entry).statement) }
 {
     match found {
         Entry::Boundary(..) => Ok(false),
         Entry::Thesis(x, _) => {
             if is_empty(&x.domains) {
-                is_filled(alloc, put, terms, &x.form, r, goal)
+                is_filled(alloc, put, terms, &x.form, rule)
             } else {
                 Ok(false)
             }
@@ -89,27 +88,26 @@ fn is_conclusion(
     }
 }
 
-/// The reason against an entry as the instance of the goal, filled with the symbol at the arguments, with the set, where the
-/// list has what has to be the same for the premises.
+/// The reason against an entry as the instance of the rule's goal, filled with the symbol at the arguments, with the set, where
+/// the list has what has to be the same for the premises.
 pub fn check_conclusion(
     alloc: Global,
     put: &mut Put,
     terms: &Terms,
     list: &[Compared],
     found: Entry<'_>,
-    r: u64,
-    goal: &Goal,
+    rule: &RuleAt<'_>,
     set: &Assume,
 ) -> Result<Option<Reject>, Memory>
     requires list { ComparedBelow (length terms.now) list.now }
     requires found { EntryBelow (length terms.now) found }
-    requires goal { GoalBelow (length terms.now) goal.now }
+    requires goal { GoalBelow (length terms.now) rule.now.goal }
     requires below { IsPutIn put.old }
-    ensures { (t : StatedNumbers) → IfOk result (λ x. option_map reason_of x ≡ reason_of_result (when (all_same terms.now (instantiate (instance_in put.old.terms put.old.instance.pairs)) list.now) (plain (fill_goal (map_claim (instantiate (instance_in put.old.terms put.old.instance.pairs)) (goal_in terms.now goal.now)) (symbol r (arguments_in put.old.terms put.old.arguments.items))))) set.now (with_step (entry_in terms.now found.entry) t)) }
+    ensures { (t : StatedNumbers) → IfOk result (λ x. option_map reason_of x ≡ reason_of_result (when (all_same terms.now (instantiate (instance_in put.old.terms put.old.instance.pairs)) list.now) (plain (fill_goal (map_claim (instantiate (instance_in put.old.terms put.old.instance.pairs)) (goal_in terms.now rule.now.goal)) (symbol rule.now.symbol (arguments_in put.old.terms put.old.arguments.items))))) set.now (with_step (entry_in terms.now found.entry) t)) }
 {
     if !put.are_instances(terms, list)? {
         return Ok(Some(Reject::Premise));
     }
-    let is_concluded = is_conclusion(alloc, put, terms, found, r, goal)?;
+    let is_concluded = is_conclusion(alloc, put, terms, found, rule)?;
     Ok(against_result(is_concluded, is_same_set(set, found.set())))
 }

@@ -13,7 +13,7 @@ ghost use Rattle.ft_stated.specs.Steps.{stated_step};
 ghost use Rattle.ft_check.specs.Built.{first_rejected_by, is_built, reason_built};
 ghost use Rattle.ft_check.specs.Verdicts.{counts_of, IsAtMost};
 
-use crate::rules_at::goal_of;
+use crate::applied::rule_at_hand;
 use ft_judge::Goal;
 use ft_stated::{Items, Stated, StatedStep};
 
@@ -26,13 +26,23 @@ pub struct Counted {
     pub level: u64,
 }
 
-// The level of a rule at arguments, without an entry for the boundary of its conclusion.
+// The level of a rule with this goal at arguments, without an entry for the boundary of its conclusion.
+fn goal_level(goal: Goal) -> u64
+    ensures { (ts : List Expression) → result ≡ level_of_rule (goal_in ts goal) }
+{
+    match goal {
+        Goal::Ty => 1,
+        _ => 5,
+    }
+}
+
+// The same for the rule of a number.
 fn rule_level(items: &Items, i: u64, r: u64) -> u64
     ensures { (R : Rule) → Good (take i items.now.items) → rule_at (store_of (take i items.now.items)).rules r ≡ Some R → result ≡ level_of_rule R.conclusion }
 {
-    match goal_of(items, i, r) {
-        Some(Goal::Ty) => 1,
-        _ => 5,
+    match rule_at_hand(items, i, r) {
+        None => 0,
+        Some(rule) => goal_level(rule.goal),
     }
 }
 

@@ -1,6 +1,7 @@
 //! The check of the items of a file, each after those before it.
 #![tactic(auto)]
 
+mod applied;
 mod boundaries;
 mod compare;
 mod concluding;

@@ -1,41 +1,28 @@
 //! Rules at arguments.
 
 ghost use Rattle.std.specs.Prelude.{◌≡◌, ℕ, List, Some, true, false, take, option_map, length, IfOk, IfSome};
-ghost use Rattle.ft_theory.specs.Rules.{Rule, rule_at};
-ghost use Rattle.ft_judge.specs.Meaning.{goal_in, GoalBelow};
+ghost use Rattle.ft_theory.specs.Rules.{Rule};
+ghost use Rattle.ft_judge.specs.Meaning.{GoalBelow};
 ghost use Rattle.ft_items.specs.Item.{Stated as StatedNumbers};
 ghost use Rattle.ft_items.specs.Sets.{union, unions};
 ghost use Rattle.ft_items.specs.Equal.{is_thesis};
-ghost use Rattle.ft_items.specs.Store.{Assertion, Declared, each, entry_named, metavariable_named, premises_of, rule_of, store_of};
+ghost use Rattle.ft_items.specs.Store.{Assertion, each, entry_named, rule_of, store_of};
 ghost use Rattle.ft_items.specs.Rows.{rule_instance, rule_instance_with, sets, statements};
 ghost use Rattle.ft_items.specs.Good.{Good, all_theses, reason_of_result};
+ghost use Rattle.ft_check.specs.Applying.{IsRule};
 ghost use Rattle.ft_check.specs.Entries.{entry_in, EntryBelow, with_step};
 ghost use Rattle.ft_check.specs.Rejects.{reason_of};
 
+use crate::applied::{RuleAt, rule_at_hand};
 use crate::concluding::check_conclusion;
-use crate::entry::{Entry, entry_before, rule_before};
+use crate::entry::{Entry, entry_before};
 use crate::fitting::{push_boundary, push_premises};
 use crate::instances::put_heads;
 use crate::reject::Reject;
 use ft_assume::Assume;
 use ft_base::Memory;
-use ft_judge::Goal;
 use ft_stated::{Items, Numbers};
 use std::alloc::Global;
-
-/// The goal of the conclusion of a rule.
-pub fn goal_of(items: &Items, i: u64, r: u64) -> Option<Goal>
-    ensures is { (R : Rule) → Good (take i items.now.items) → rule_at (store_of (take i items.now.items)).rules r ≡ Some R → option_map (goal_in items.now.trees) result ≡ Some R.conclusion }
-    ensures below { IfSome result (λ g. GoalBelow (length items.now.trees) g) }
-{
-    match rule_before(items, i, r) {
-        None => None,
-        Some(line) => match entry_before(items, i, line.conclusion) {
-            None => None,
-            Some(found) => found.goal(),
-        },
-    }
-}
 
 // The sets of these entries, together.
 fn union_of(alloc: Global, items: &Items, i: u64, ps: &[u64]) -> Result<Assume, Memory>
@@ -53,31 +40,28 @@ fn union_of(alloc: Global, items: &Items, i: u64, ps: &[u64]) -> Result<Assume, 
     Ok(set)
 }
 
-// The reason against an entry as the conclusion of the rule `r`, which has these metavariables and this goal, at arguments.
+// The reason against an entry as the conclusion of the rule at hand at arguments.
 fn check_at(
     alloc: Global,
     items: &Items,
     i: u64,
     found: Entry<'_>,
-    r: u64,
-    ms: &[u64],
-    goal: &Goal,
+    rule: &RuleAt<'_>,
     ps: &[u64],
 ) -> Result<Option<Reject>, Memory>
     requires found { EntryBelow (length items.now.trees) found }
-    requires goal { GoalBelow (length items.now.trees) goal.now }
-    ensures { (R : Rule) (ds : List (ℕ × Declared)) (given : List Assertion) (t : StatedNumbers) → Good (take i items.now.items)
-        → each (metavariable_named (store_of (take i items.now.items))) ms.now ≡ Some ds → R.premises ≡ premises_of ds → goal_in items.now.trees goal.now ≡ R.conclusion
+    requires goal { GoalBelow (length items.now.trees) rule.now.goal }
+    ensures { (R : ℕ × Rule) (given : List Assertion) (t : StatedNumbers) → Good (take i items.now.items) → IsRule items.now.trees (store_of (take i items.now.items)) rule.now R
         → each (entry_named (store_of (take i items.now.items))) ps.now ≡ Some given → all_theses given ≡ true
-        → IfOk result (λ x. option_map reason_of x ≡ reason_of_result (rule_instance r R (statements given)) (unions (sets given)) (with_step (entry_in items.now.trees found.entry) t)) }
+        → IfOk result (λ x. option_map reason_of x ≡ reason_of_result (rule_instance R.0 R.1 (statements given)) (unions (sets given)) (with_step (entry_in items.now.trees found.entry) t)) }
 {
     let mut list = Vec::new(alloc);
-    if !push_premises(&mut list, items, i, ms, ps)? {
+    if !push_premises(&mut list, items, i, rule.metavariables, ps)? {
         return Ok(Some(Reject::Premise));
     }
     let set = union_of(alloc, items, i, ps)?;
-    let mut put = put_heads(alloc, items, i, ms, ps)?;
-    check_conclusion(alloc, &mut put, items.terms(), &list, found, r, goal, &set)
+    let mut put = put_heads(alloc, items, i, rule.metavariables, ps)?;
+    check_conclusion(alloc, &mut put, items.terms(), &list, found, rule, &set)
 }
 
 /// The reason against an entry as the conclusion of the rule `r` at arguments.
@@ -94,15 +78,9 @@ pub fn check_applied(
         → each (entry_named (store_of (take i items.now.items))) ps.now ≡ Some given → all_theses given ≡ true
         → IfOk result (λ x. option_map reason_of x ≡ reason_of_result (rule_instance R.0 R.1 (statements given)) (unions (sets given)) (with_step (entry_in items.now.trees found.entry) t)) }
 {
-    match rule_before(items, i, r) {
+    match rule_at_hand(items, i, r) {
         None => Ok(Some(Reject::Premise)),
-        Some(line) => match goal_of(items, i, r) {
-            None => Ok(Some(Reject::Premise)),
-            Some(goal) => {
-                let ms = line.premises.items();
-                check_at(alloc, items, i, found, r, ms, &goal, ps.items())
-            }
-        },
+        Some(rule) => check_at(alloc, items, i, found, &rule, ps.items()),
     }
 }
 
@@ -112,31 +90,28 @@ fn check_at_with(
     items: &Items,
     i: u64,
     found: Entry<'_>,
-    r: u64,
-    ms: &[u64],
-    goal: &Goal,
+    rule: &RuleAt<'_>,
     bound: Entry<'_>,
     ps: &[u64],
 ) -> Result<Option<Reject>, Memory>
     requires found { EntryBelow (length items.now.trees) found }
-    requires goal { GoalBelow (length items.now.trees) goal.now }
+    requires goal { GoalBelow (length items.now.trees) rule.now.goal }
     requires bound { EntryBelow (length items.now.trees) bound }
-    ensures { (R : Rule) (ds : List (ℕ × Declared)) (given : List Assertion) (t : StatedNumbers) → Good (take i items.now.items)
-        → each (metavariable_named (store_of (take i items.now.items))) ms.now ≡ Some ds → R.premises ≡ premises_of ds → goal_in items.now.trees goal.now ≡ R.conclusion
+    ensures { (R : ℕ × Rule) (given : List Assertion) (t : StatedNumbers) → Good (take i items.now.items) → IsRule items.now.trees (store_of (take i items.now.items)) rule.now R
         → is_thesis (entry_in items.now.trees bound.entry).statement ≡ false → each (entry_named (store_of (take i items.now.items))) ps.now ≡ Some given → all_theses given ≡ true
-        → IfOk result (λ x. option_map reason_of x ≡ reason_of_result (rule_instance_with r R (entry_in items.now.trees bound.entry).statement (statements given)) (union (entry_in items.now.trees bound.entry).set (unions (sets given))) (with_step (entry_in items.now.trees found.entry) t)) }
+        → IfOk result (λ x. option_map reason_of x ≡ reason_of_result (rule_instance_with R.0 R.1 (entry_in items.now.trees bound.entry).statement (statements given)) (union (entry_in items.now.trees bound.entry).set (unions (sets given))) (with_step (entry_in items.now.trees found.entry) t)) }
 {
     let mut list = Vec::new(alloc);
-    if !push_premises(&mut list, items, i, ms, ps)? {
+    if !push_premises(&mut list, items, i, rule.metavariables, ps)? {
         return Ok(Some(Reject::Premise));
     }
-    if !push_boundary(&mut list, bound, goal)? {
+    if !push_boundary(&mut list, bound, &rule.goal)? {
         return Ok(Some(Reject::Premise));
     }
     let arguments = union_of(alloc, items, i, ps)?;
     let set = bound.set().union(&arguments)?;
-    let mut put = put_heads(alloc, items, i, ms, ps)?;
-    check_conclusion(alloc, &mut put, items.terms(), &list, found, r, goal, &set)
+    let mut put = put_heads(alloc, items, i, rule.metavariables, ps)?;
+    check_conclusion(alloc, &mut put, items.terms(), &list, found, rule, &set)
 }
 
 /// The reason against an entry as the conclusion of the rule `r` at arguments, where the boundary of the conclusion is entry `b`.
@@ -157,15 +132,9 @@ pub fn check_applied_with(
 {
     match entry_before(items, i, b) {
         None => Ok(Some(Reject::Premise)),
-        Some(bound) => match rule_before(items, i, r) {
+        Some(bound) => match rule_at_hand(items, i, r) {
             None => Ok(Some(Reject::Premise)),
-            Some(line) => match goal_of(items, i, r) {
-                None => Ok(Some(Reject::Premise)),
-                Some(goal) => {
-                    let ms = line.premises.items();
-                    check_at_with(alloc, items, i, found, r, ms, &goal, bound, ps.items())
-                }
-            },
+            Some(rule) => check_at_with(alloc, items, i, found, &rule, bound, ps.items()),
         },
     }
 }

@@ -13,5 +13,5 @@ returns c =
     let T = c.args.terms.now in
     let yes : c.in_ok-are_instances.field-0 ≡ true = search rules in
     λ t. reasons _ _ _ _ _ _ (with_step (entry_in T c.args.found) t) _ yes c.in_ok-are_instances.ensures.are
-    (c.in_ok-is_concluded.ensures ∙ ap₂ (λ i a. equal_statements (plain (fill_goal (map_claim (instantiate i) (goal_in T c.args.goal.now)) (symbol c.args.r a))) (entry_in T c.args.found).statement) c.in_ok-are_instances.ensures.instance c.in_ok-are_instances.ensures.arguments)
+    (c.in_ok-is_concluded.ensures ∙ ap₂ (λ i a. equal_statements (plain (fill_goal (map_claim (instantiate i) (goal_in T c.args.rule.now.goal)) (symbol c.args.rule.now.symbol a))) (entry_in T c.args.found).statement) c.in_ok-are_instances.ensures.instance c.in_ok-are_instances.ensures.arguments)
     (c.is_same_set.ensures ∙ ap (same_set c.args.set.now) (c.set.ensures T)) c.against_result.ensures

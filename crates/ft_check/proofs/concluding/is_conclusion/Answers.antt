@@ -8,5 +8,5 @@ use Rattle.ft_check.proofs.concluding.is_conclusion.Goals as goal
 
 pub returns-in-Boundary : goal.returns-in-Boundary
 returns-in-Boundary c =
-    boundary_no_conclusion c.args.terms.now c.in-Boundary.field-0.now c.args.goal.now (symbol c.args.r (arguments_in c.args.put.now.terms c.args.put.now.arguments.items))
+    boundary_no_conclusion c.args.terms.now c.in-Boundary.field-0.now c.args.rule.now.goal (symbol c.args.rule.now.symbol (arguments_in c.args.put.now.terms c.args.put.now.arguments.items))
     (instantiate (instance_in c.args.put.now.terms c.args.put.now.instance.pairs)) (entry_in c.args.terms.now c.args.found).statement (ap (λ e. (entry_in c.args.terms.now e).statement) c.in-Boundary.is)

@@ -15,8 +15,8 @@ returns-then-not-branch c =
     let T = c.args.terms.now in
     let J = instantiate (instance_in c.args.put.now.terms c.args.put.now.instance.pairs) in
     let no : c.in_ok-push_form.field-0 ≡ false = search rules in
-    form_not T J (symbol c.args.r (arguments_in c.args.put.now.terms c.args.put.now.arguments.items)) c.args.form.now c.args.goal.now _ _ no
-    (c.in_ok-push_form.ensures.same T J ∙ ap (λ xs. all_same T J xs && fits_goal (claim_in T c.args.form.now) (map_claim J (goal_in T c.args.goal.now))) c.new-list.ensures.items)
+    form_not T J (symbol c.args.rule.now.symbol (arguments_in c.args.put.now.terms c.args.put.now.arguments.items)) c.args.form.now c.args.rule.now.goal _ _ no
+    (c.in_ok-push_form.ensures.same T J ∙ ap (λ xs. all_same T J xs && fits_goal (claim_in T c.args.form.now) (map_claim J (goal_in T c.args.rule.now.goal))) c.new-list.ensures.items)
 
 pub are_instances-requires-clause-compared : goal.are_instances-requires-clause-compared
 are_instances-requires-clause-compared c =
@@ -29,8 +29,8 @@ returns-then-not-branch-2 c =
     let J = instantiate (instance_in c.args.put.now.terms c.args.put.now.instance.pairs) in
     let yes : c.in_ok-push_form.field-0 ≡ true = search rules in
     let no : c.in_ok-are_instances.field-0 ≡ false = search rules in
-    list_not T J (symbol c.args.r (arguments_in c.args.put.now.terms c.args.put.now.arguments.items)) c.args.form.now c.args.goal.now _ _ _ yes no (c.in_ok-are_instances.ensures.are ∙ ap (all_same T J) c.deref.ensures.value)
-    (c.in_ok-push_form.ensures.same T J ∙ ap (λ xs. all_same T J xs && fits_goal (claim_in T c.args.form.now) (map_claim J (goal_in T c.args.goal.now))) c.new-list.ensures.items)
+    list_not T J (symbol c.args.rule.now.symbol (arguments_in c.args.put.now.terms c.args.put.now.arguments.items)) c.args.form.now c.args.rule.now.goal _ _ _ yes no (c.in_ok-are_instances.ensures.are ∙ ap (all_same T J) c.deref.ensures.value)
+    (c.in_ok-push_form.ensures.same T J ∙ ap (λ xs. all_same T J xs && fits_goal (claim_in T c.args.form.now) (map_claim J (goal_in T c.args.rule.now.goal))) c.new-list.ensures.items)
 
 pub returns : goal.returns
 returns c =
@@ -39,7 +39,7 @@ returns c =
     let yes : c.in_ok-push_form.field-0 ≡ true = search rules in
     let all : c.in_ok-are_instances.field-0 ≡ true = search rules in
     if_ok_map c.has_applied.result _ _
-    (λ b h. all_filled T J (symbol c.args.r (arguments_in c.args.put.now.terms c.args.put.now.arguments.items)) c.args.form.now c.args.goal.now _ _ _ b yes all (c.in_ok-are_instances.ensures.are ∙ ap (all_same T J) c.deref.ensures.value)
-    (c.in_ok-push_form.ensures.same T J ∙ ap (λ xs. all_same T J xs && fits_goal (claim_in T c.args.form.now) (map_claim J (goal_in T c.args.goal.now))) c.new-list.ensures.items)
-    (h ∙ ap (λ a. head_same T (symbol c.args.r a) c.args.form.now) c.in_ok-are_instances.ensures.arguments))
+    (λ b h. all_filled T J (symbol c.args.rule.now.symbol (arguments_in c.args.put.now.terms c.args.put.now.arguments.items)) c.args.form.now c.args.rule.now.goal _ _ _ b yes all (c.in_ok-are_instances.ensures.are ∙ ap (all_same T J) c.deref.ensures.value)
+    (c.in_ok-push_form.ensures.same T J ∙ ap (λ xs. all_same T J xs && fits_goal (claim_in T c.args.form.now) (map_claim J (goal_in T c.args.rule.now.goal))) c.new-list.ensures.items)
+    (h ∙ ap (λ a. head_same T (symbol c.args.rule.now.symbol a) c.args.form.now) c.in_ok-are_instances.ensures.arguments))
     c.has_applied.ensures

@@ -1,33 +1,26 @@
-use Rattle.std.proofs.Common.{take, sym, ap, ap₂, ◌∙◌}
+use Rattle.std.proofs.Common.{take, sym, ap, ◌∙◌}
 use Rattle.std.specs.Prelude.{option_map}
 use Rattle.ft_items.specs.Equal.{is_thesis}
 use Rattle.ft_items.specs.Rows.{rule_instance_with, sets, statements}
 use Rattle.ft_items.specs.Sets.{union, unions}
 use Rattle.ft_items.specs.Good.{reason_of_result}
-use Rattle.ft_items.specs.Store.{Assertion, each, entry_named, metavariable_named, store_of}
-use Rattle.ft_judge.specs.Meaning.{goal_in}
-use Rattle.ft_check.specs.Entries.{entry_in, line_in, with_step}
+use Rattle.ft_items.specs.Store.{Assertion, each, entry_named, store_of}
+use Rattle.ft_check.specs.Entries.{entry_in, with_step}
 use Rattle.ft_check.proofs.Compares.{if_ok_map}
 use Rattle.ft_check.proofs.Fits.{some_same}
-use Rattle.ft_check.proofs.Applies.{no_rule, no_goal, no_entry, rule_named, rule_premises}
+use Rattle.ft_check.proofs.Applies.{no_entry, not_read}
 use Rattle.ft_check.proofs.rules_at.check_applied_with.Goals as goal
 
 pub returns-in-None : goal.returns-in-None
 returns-in-None c = λ R b given t g e h k p a. no_entry (sym (ap (option_map (entry_in c.args.items.now.trees)) c.in-None.is) ∙ c.entry_before.ensures.entry ∙ h)
 
-pub returns-in-None-rule_before : goal.returns-in-None-rule_before
-returns-in-None-rule_before c = λ R b given t g e h k p a. no_rule (take c.args.i c.args.items.now.items) c.args.r R g e (sym (ap (option_map line_in) c.in-None-rule_before.is) ∙ c.rule_before.ensures)
+pub returns-in-None-rule_at_hand : goal.returns-in-None-rule_at_hand
+returns-in-None-rule_at_hand c = λ R b given t g e h k p a. not_read _ _ (c.rule_at_hand.ensures.is R g e) c.in-None-rule_at_hand.is
 
-pub returns-in-None-goal_of : goal.returns-in-None-goal_of
-returns-in-None-goal_of c = λ R b given t g e h k p a. no_goal (sym (ap (option_map (goal_in c.args.items.now.trees)) c.in-None-goal_of.is) ∙ c.goal_of.ensures.is R.1 g (rule_named (store_of (take c.args.i c.args.items.now.items)) c.args.r R e).1)
-
-pub returns-in-Some-goal_of : goal.returns-in-Some-goal_of
-returns-in-Some-goal_of c = λ R b given t g e h w p a.
+pub returns-in-Some-rule_at_hand : goal.returns-in-Some-rule_at_hand
+returns-in-Some-rule_at_hand c = λ R b given t g e h w p a.
     let T = c.args.items.now.trees in
-    let n = rule_named (store_of (take c.args.i c.args.items.now.items)) c.args.r R e in
-    let k = rule_premises (take c.args.i c.args.items.now.items) c.args.r c.in-Some-rule_before.line.premises.now c.in-Some-rule_before.line.conclusion R.1 g n.1 (sym (ap (option_map line_in) c.in-Some-rule_before.is) ∙ c.rule_before.ensures) in
     let same = some_same (entry_in T c.in-Some.bound) b (sym (ap (option_map (entry_in T)) c.in-Some.is) ∙ c.entry_before.ensures.entry ∙ h) in
-    if_ok_map c.check_at_with.result _ _ (λ x y. y ∙ ap₂ (λ r (a : Assertion). reason_of_result (rule_instance_with r R.1 a.statement (statements given)) (union a.set (unions (sets given))) (with_step (entry_in T c.args.found) t)) n.0 same)
-    (c.check_at_with.ensures R.1 k.0 given t g (ap (each (metavariable_named (store_of (take c.args.i c.args.items.now.items)))) c.items-ms.ensures ∙ k.1) k.2
-    (some_same _ _ (sym (ap (option_map (goal_in T)) c.in-Some-goal_of.is) ∙ c.goal_of.ensures.is R.1 g n.1)) (ap (λ (a : Assertion). is_thesis a.statement) same ∙ w)
+    if_ok_map c.check_at_with.result _ _ (λ x y. y ∙ ap (λ (a : Assertion). reason_of_result (rule_instance_with R.0 R.1 a.statement (statements given)) (union a.set (unions (sets given))) (with_step (entry_in T c.args.found) t)) same)
+    (c.check_at_with.ensures R given t g (c.in-Some-rule_at_hand.ensures.is R g e) (ap (λ (a : Assertion). is_thesis a.statement) same ∙ w)
     (ap (each (entry_named (store_of (take c.args.i c.args.items.now.items)))) c.items.ensures ∙ p) a)

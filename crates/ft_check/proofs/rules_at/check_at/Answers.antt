@@ -23,23 +23,23 @@ pub returns-then-not-branch : goal.returns-then-not-branch
 returns-then-not-branch c =
     let T = c.args.items.now.trees in
     let no : c.in_ok-push_premises.field-0 ≡ false = search rules in
-    λ R ds given t g h q k p a.
-    premise_not false (are_arguments R.premises (statements given)) _ _ _ refl
-    (no_same _ _ _ no (c.in_ok-push_premises.ensures.same ds given (instantiate (instance_of R.premises (heads (statements given)))) g h p a)
-    ∙ ap₂ (λ xs qs. all_same T (instantiate (instance_of R.premises (heads (statements given)))) xs && fit_all (map_statement (λ k. instantiate (instance_of R.premises (heads (statements given)))) zero) qs (statements given)) c.new-list.ensures.items (sym q))
+    λ R given t g k p a.
+    premise_not false (are_arguments R.1.premises (statements given)) _ _ _ refl
+    (no_same _ _ _ no (c.in_ok-push_premises.ensures.same k.declared given (instantiate (instance_of R.1.premises (heads (statements given)))) g k.are p a)
+    ∙ ap₂ (λ xs qs. all_same T (instantiate (instance_of R.1.premises (heads (statements given)))) xs && fit_all (map_statement (λ k. instantiate (instance_of R.1.premises (heads (statements given)))) zero) qs (statements given)) c.new-list.ensures.items (sym k.premises))
 
 pub returns : goal.returns
 returns c =
     let T = c.args.items.now.trees in
     let yes : c.in_ok-push_premises.field-0 ≡ true = search rules in
-    λ R ds given t g h q k p a. if_ok_map c.check_conclusion.result _ _
-    (λ x e. at_these T c.args.r R (statements given) _ _ c.args.goal.now _ (are_arguments R.premises (statements given)) _ _ _ _
-    (c.in_ok-put.ensures.instance given R.premises p a (ap (map (λ (x : ℕ × Statement). x.0)) q ∙ numbers_are (store_of (take c.args.i c.args.items.now.items)) c.args.ms.now ds h))
-    (c.in_ok-put.ensures.heads given p a) k
-    (ap (all_same T (instantiate (instance_of R.premises (heads (statements given))))) c.deref.ensures.value
-    ∙ yes_same _ _ _ yes (c.in_ok-push_premises.ensures.same ds given (instantiate (instance_of R.premises (heads (statements given)))) g h p a)
-    ∙ ap₂ (λ xs qs. all_same T (instantiate (instance_of R.premises (heads (statements given)))) xs && fit_all (map_statement (λ k. instantiate (instance_of R.premises (heads (statements given)))) zero) qs (statements given)) c.new-list.ensures.items (sym q))
+    λ R given t g k p a. if_ok_map c.check_conclusion.result _ _
+    (λ x e. at_these T (store_of (take c.args.i c.args.items.now.items)) c.args.rule.now R (statements given) _ _ _ (are_arguments R.1.premises (statements given)) _ _ _ _ k
+    (c.in_ok-put.ensures.instance given R.1.premises p a (ap (map (λ (x : ℕ × Statement). x.0)) k.premises ∙ numbers_are (store_of (take c.args.i c.args.items.now.items)) c.args.rule.now.metavariables.now k.declared k.are))
+    (c.in_ok-put.ensures.heads given p a)
+    (ap (all_same T (instantiate (instance_of R.1.premises (heads (statements given))))) c.deref.ensures.value
+    ∙ yes_same _ _ _ yes (c.in_ok-push_premises.ensures.same k.declared given (instantiate (instance_of R.1.premises (heads (statements given)))) g k.are p a)
+    ∙ ap₂ (λ xs qs. all_same T (instantiate (instance_of R.1.premises (heads (statements given)))) xs && fit_all (map_statement (λ k. instantiate (instance_of R.1.premises (heads (statements given)))) zero) qs (statements given)) c.new-list.ensures.items (sym k.premises))
     (c.in_ok-set.ensures given p) e)
     (subst (λ ts. IfOk c.check_conclusion.result (λ x. option_map reason_of x ≡ reason_of_result (when (all_same ts (instantiate (instance_in c.in_ok-put.put.terms c.in_ok-put.put.instance.pairs)) c.deref.result.now)
-    (plain (fill_goal (map_claim (instantiate (instance_in c.in_ok-put.put.terms c.in_ok-put.put.instance.pairs)) (goal_in ts c.args.goal.now)) (symbol c.args.r (arguments_in c.in_ok-put.put.terms c.in_ok-put.put.arguments.items))))) c.in_ok-set.set (with_step (entry_in ts c.args.found) t)))
+    (plain (fill_goal (map_claim (instantiate (instance_in c.in_ok-put.put.terms c.in_ok-put.put.instance.pairs)) (goal_in ts c.args.rule.now.goal)) (symbol c.args.rule.now.symbol (arguments_in c.in_ok-put.put.terms c.in_ok-put.put.arguments.items))))) c.in_ok-set.set (with_step (entry_in ts c.args.found) t)))
     c.terms.ensures (c.check_conclusion.ensures t))

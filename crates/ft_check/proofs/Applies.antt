@@ -1,6 +1,8 @@
 -- Rules of a good list at arguments.
 use Rattle.std.proofs.Common.{◌≡◌, ℕ, ◌+◌, ◌<◌, ◌≤◌, Bool, true, false, ◌&&◌, Option, Some, None, List, [], ◌∷◌, refl, sym, ap, ap₂, ◌∙◌, subst, length, get_or, drop, map, arith}
 use Rattle.std.specs.Prelude.{option_map, IsSomeAnd}
+use Rattle.std.proofs.lemmas.List.{drop_all}
+use Rattle.std.proofs.lemmas.Option.{same_Some}
 use Rattle.ft_theory.specs.Expressions.{Expression, Arguments, symbol, instantiate}
 use Rattle.ft_theory.specs.Statements.{Claim, Statement, plain, fill_goal, map_claim}
 use Rattle.ft_theory.specs.Rules.{Rule, rule_at, instance_of, conclusion_at}
@@ -16,7 +18,8 @@ use Rattle.ft_check.specs.Comparing.{all_same}
 use Rattle.ft_check.specs.Entries.{line_of}
 use Rattle.ft_check.specs.declared.applied.RuleAt.{RuleAt}
 use Rattle.ft_check.specs.declared.compare.Compared.{Compared}
-use Rattle.ft_check.proofs.Fits.{each_at, each_first, each_length, drop_over, named_number, some_same}
+use Rattle.ft_check.proofs.Basics.{each_first, named}
+use Rattle.ft_check.proofs.Fits.{each_at, each_length}
 use Rattle.ft_check.proofs.GoalsTaken.{KnownRule, rule_gone, rule_known}
 use Rattle.ft_check.proofs.Standing.{none_some}
 
@@ -26,7 +29,7 @@ rule_named W r R h = go (rule_at W.rules r) refl h
     go : (o : Option Rule) → rule_at W.rules r ≡ o → option_map (λ Q. (r, Q)) o ≡ Some R → (r ≡ R.0) × (rule_at W.rules r ≡ Some R.1)
     go None e h = none_some h
     go (Some Q) e h =
-        let same : (r, Q) ≡ R = some_same (r, Q) R h in
+        let same : (r, Q) ≡ R = same_Some (r, Q) R h in
         (ap (λ (x : ℕ × Rule). x.0) same, e ∙ ap (λ (x : ℕ × Rule). Some x.1) same)
 
 -- A rule of a good list is read by its line, and its goal by the entry of the conclusion.
@@ -43,7 +46,7 @@ goal_found : (items : List Item) (r : ℕ) (ms : List ℕ) (p : ℕ) (R : ℕ ×
     → Some a ≡ entry_named (store_of items) p → (is_thesis a.statement ≡ false → is_plain a.statement ≡ true → o ≡ Some (claim_in a.statement)) → o ≡ Some R.1.conclusion
 goal_found items r ms p R a o g e h q f =
     let k = known items r ms p R g e h in
-    let same : a ≡ k.line.conclusion = some_same a k.line.conclusion (q ∙ k.line.is) in
+    let same : a ≡ k.line.conclusion = same_Some a k.line.conclusion (q ∙ k.line.is) in
     f (ap (λ (x : Assertion). is_thesis x.statement) same ∙ k.line.boundary) (ap (λ (x : Assertion). is_plain x.statement) same ∙ k.line.plain)
     ∙ ap Some (ap (λ (x : Assertion). claim_in x.statement) same ∙ sym k.conclusion)
 
@@ -61,7 +64,7 @@ rule_read ts items r x ms p R a g e h q f s m =
       declared = k.line.premises;
       are = ap (each (metavariable_named (store_of items))) m ∙ k.line.are;
       premises = k.premises;
-      conclusion = some_same _ _ (goal_found items r ms p R a (Some (goal_in ts x.goal)) g e h q f);
+      conclusion = same_Some _ _ (goal_found items r ms p R a (Some (goal_in ts x.goal)) g e h q f);
     }
 
 pub not_read : {P : Type 0} (Q : RuleAt → Type 0) (o : Option RuleAt) → IsSomeAnd o Q → o ≡ None → P
@@ -69,13 +72,13 @@ not_read Q o h e = absurd (subst (λ o. IsSomeAnd o Q) e h)
 
 -- the sets of entries, the last first
 pub union_start : (W : Store) (ps : List ℕ) (given : List Assertion) → each (entry_named W) ps ≡ Some given → [] ≡ unions (sets (drop (length ps) given))
-union_start W ps given h = sym (ap (λ xs. unions (sets xs)) (drop_over given (length ps) (subst (λ n. n ≤ length ps) (sym (each_length (entry_named W) ps given h)) (omega arith))))
+union_start W ps given h = sym (ap (λ xs. unions (sets xs)) (drop_all (length ps) given (subst (λ n. n ≤ length ps) (sym (each_length (entry_named W) ps given h)) (omega arith))))
 
 pub union_next : (W : Store) (ps : List ℕ) (given : List Assertion) (k n : ℕ) (a : Assertion) (S : List Atom) → each (entry_named W) ps ≡ Some given → k < length ps → n ≡ k + 1 → Some a ≡ entry_named W (get_or ps k 0) → S ≡ unions (sets (drop n given))
     → union a.set S ≡ unions (sets (drop k given))
 union_next W ps given k n a S h l m e s =
     let x = each_at (entry_named W) ps given k (get_or ps k 0) h l refl in
-    let same : a ≡ x.0 = some_same a x.0 (e ∙ x.1) in
+    let same : a ≡ x.0 = same_Some a x.0 (e ∙ x.1) in
     ap₂ (λ (b : Assertion) S. union b.set S) same (s ∙ ap (λ n. unions (sets (drop n given))) m) ∙ sym (ap (λ xs. unions (sets xs)) x.2)
 
 pub union_none : {P : Type 0} (W : Store) (ps : List ℕ) (given : List Assertion) (k : ℕ) → each (entry_named W) ps ≡ Some given → k < length ps → None ≡ entry_named W (get_or ps k 0) → P
@@ -83,10 +86,10 @@ union_none W ps given k h l e = let x = each_at (entry_named W) ps given k (get_
 
 -- the metavariables of the premises
 pub numbers_are : (W : Store) (ms : List ℕ) (ds : List (ℕ × Declared)) → each (metavariable_named W) ms ≡ Some ds → map (λ (q : ℕ × Statement). q.0) (premises_of ds) ≡ ms
-numbers_are W [] ds h = ap (λ ds. map (λ (q : ℕ × Statement). q.0) (premises_of ds)) (sym (some_same [] ds h))
+numbers_are W [] ds h = ap (λ ds. map (λ (q : ℕ × Statement). q.0) (premises_of ds)) (sym (same_Some [] ds h))
 numbers_are W (m ∷ ms) ds h =
     let s = each_first (metavariable_named W) m ms ds h in
-    ap (λ ds. map (λ (q : ℕ × Statement). q.0) (premises_of ds)) s.4 ∙ ap₂ (λ n ns. n ∷ ns) (named_number W m s.0 s.2) (numbers_are W ms s.1 s.3)
+    ap (λ ds. map (λ (q : ℕ × Statement). q.0) (premises_of ds)) s.4 ∙ ap₂ (λ n ns. n ∷ ns) (named W m s.0 s.2).0 (numbers_are W ms s.1 s.3)
 
 -- what the program compares, in the rule's own terms
 pub at_these : (ts : List Expression) (W : Store) (r : RuleAt) (R : ℕ × Rule) (xs : List Statement) (i : ℕ → ℕ → Option Expression) (a : Arguments) (list : List Compared) (b : Bool) (S Q : List Atom) (e : AnyEntry) (x : Option Reason)
@@ -108,6 +111,3 @@ second_not x y a b c d t u f g = ap (λ z. z && b) (sym u) ∙ g ∙ ap (λ z. z
 
 pub first_not : (c d : Bool) → false ≡ c → false ≡ (c && d)
 first_not c d e = ap (λ c. c && d) e
-
-pub no_entry : {P : Type 0} {a : Assertion} → None ≡ Some a → P
-no_entry e = none_some e

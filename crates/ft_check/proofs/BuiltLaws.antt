@@ -1,5 +1,6 @@
 -- What the verdict as far as steps are built tells of the verdict.
 use Rattle.std.proofs.Common.{◌≡◌, ◌≢◌, ℕ, zero, suc, ◌+◌, ◌≤◌, Bool, true, false, cond, ◌&&◌, Option, Some, None, List, [], ◌∷◌, ◌++◌, ◌⊎◌, inl, inr, refl, sym, ap, ◌∙◌, length, arith}
+use Rattle.std.proofs.lemmas.Option.{same_Some}
 use Rattle.ft_theory.specs.Statements.{Statement}
 use Rattle.ft_items.specs.Sets.{Atom}
 use Rattle.ft_items.specs.Equal.{is_thesis}
@@ -13,13 +14,10 @@ use Rattle.ft_check.proofs.Standing.{none_some}
 some_none : {A : Type 0} {x : A} {P : Type 0} → Some x ≡ None → P
 some_none {A} {x} e = none_some (sym e)
 
-some_same : {A : Type 0} (x y : A) → Some x ≡ Some y → x ≡ y
-some_same x y e = cc
-
 -- A step with what it names is built where the stated step is.
 one_built : {A : Type 0} (f : A → Resolved) (b : Bool) → ((x : A) → is_built (f x) ≡ b) → (o : Option A) (s : Resolved) → with_one f o ≡ Some s → is_built s ≡ b
 one_built f b h None s e = none_some e
-one_built f b h (Some x) s e = ap is_built (sym (some_same (f x) s e)) ∙ h x
+one_built f b h (Some x) s e = ap is_built (sym (same_Some (f x) s e)) ∙ h x
 
 two_built : {A B : Type 0} (f : A → B → Resolved) (b : Bool) → ((x : A) (y : B) → is_built (f x y) ≡ b) → (o : Option A) (p : Option B) (s : Resolved) → with_two f o p ≡ Some s → is_built s ≡ b
 two_built f b h None p s e = none_some e
@@ -52,7 +50,7 @@ resolved_built W (by_typeof p) s e = one_built by_typeof false (λ x. refl) _ s 
 resolved_built W (by_domain p) s e = one_built by_domain false (λ x. refl) _ s e
 resolved_built W (by_boundary p) s e = one_built by_boundary false (λ x. refl) _ s e
 resolved_built W (by_widen p q) s e = two_built by_widen false (λ x y. refl) _ _ s e
-resolved_built W by_btype s e = ap is_built (sym (some_same by_btype s e))
+resolved_built W by_btype s e = ap is_built (sym (same_Some by_btype s e))
 resolved_built W (by_bterm p) s e = one_built by_bterm true (λ x. refl) _ s e
 resolved_built W (by_beqty p q) s e = two_built by_beqty false (λ x y. refl) _ _ s e
 resolved_built W (by_beqtm p t u) s e = three_built by_beqtm false (λ x y z. refl) (entry_named W p) (entry_named W t) (entry_named W u) s e
@@ -87,7 +85,7 @@ tested_none false false c S e h = some_none h
 
 tested_other : (k b : Bool) (c : Option Statement) (S : List Atom) (e : Entry) (why : Reject) → why ≢ Premise → unless k Kind (reason_of_result (cond b c None) S e) ≡ Some why → unless k Kind (reason_of_result c S e) ≡ Some why
 tested_other k true c S e why n h = h
-tested_other true false c S e why n h = absurd (n (sym (some_same Premise why h)))
+tested_other true false c S e why n h = absurd (n (sym (same_Some Premise why h)))
 tested_other false false c S e why n h = h
 
 entry_none : (W : Store) (o : Option Resolved) (e : Entry) → reason_by conclusion_built W o e ≡ None → reason_of_entry W o e ≡ None
@@ -134,10 +132,10 @@ found_later W k (i ∷ items) r h = go (reason_built W i) h (found_later (add W 
   where
     go : (o : Option Reject) → found_at k o (first_rejected_by reason_built (add W i) (suc k) items) ≡ Some r → (first_rejected_by reason_built (add W i) (suc k) items ≡ Some r → suc k ≤ r.0) → k ≤ r.0
     go None h ih = let l : suc k ≤ r.0 = ih h in omega (arith, l)
-    go (Some why) h ih = let same : k ≡ r.0 = ap (λ (z : ℕ × Reject). z.0) (some_same (k, why) r h) in omega (arith, same)
+    go (Some why) h ih = let same : k ≡ r.0 = ap (λ (z : ℕ × Reject). z.0) (same_Some (k, why) r h) in omega (arith, same)
 
 found_here : (k : ℕ) (r s : ℕ × Reject) → Some r ≡ Some s → (r.0 ≡ s.0) × (r.1 ≡ s.1)
-found_here k r s h = (ap (λ (z : ℕ × Reject). z.0) (some_same r s h), ap (λ (z : ℕ × Reject). z.1) (some_same r s h))
+found_here k r s h = (ap (λ (z : ℕ × Reject). z.0) (same_Some r s h), ap (λ (z : ℕ × Reject). z.1) (same_Some r s h))
 
 here_same : (W : Store) (i : Item) (why : Reject) → (why ≢ Premise) ⊎ IsBuilt i → reason_built W i ≡ Some why → reason_in W i ≡ Some why
 here_same W i why (inl d) h = built_other W i why d h

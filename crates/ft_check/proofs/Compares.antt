@@ -1,8 +1,9 @@
 -- What has to be the same, one by one.
-use Rattle.std.proofs.Common.{◌≡◌, ◌≢◌, ℕ, zero, suc, ◌+◌, ◌<◌, ◌≤◌, Bool, true, false, ◌&&◌, List, [], ◌∷◌, ◌++◌, refl, sym, ap, ap₂, ◌∙◌, subst, length, drop, get_or, arith, Result, Ok, Err, IfOk}
+use Rattle.std.proofs.Common.{◌≡◌, ◌≢◌, ℕ, zero, suc, ◌+◌, ◌<◌, ◌≤◌, Bool, false, ◌&&◌, List, [], ◌∷◌, ◌++◌, refl, sym, ap, ap₂, ◌∙◌, subst, length, drop, get_or, arith, Result, Ok, Err, IfOk}
 use Rattle.std.specs.List.{list_all}
-use Rattle.std.proofs.lemmas.List.{drop_more}
+use Rattle.std.proofs.lemmas.List.{drop_more, get_or_default}
 use Rattle.std.proofs.Math.ListN.{drop_of_length-le}
+use Rattle.std.proofs.Math.Bool.{and_assoc, and-false, and-true}
 use Rattle.ft_theory.specs.Expressions.{Expression}
 use Rattle.ft_theory.specs.Statements.{Claim, plain, map_claim, map_statement}
 use Rattle.ft_items.specs.Equal.{equal_claims, equal_expressions, fits, fits_goal}
@@ -22,20 +23,8 @@ pub if_ok_map : {A E : Type 0} (r : Result A E) (P Q : A → Type 0) → ((x : A
 if_ok_map (Ok x) P Q f h = f x h
 if_ok_map (Err e) P Q f h = h
 
-and_assoc : (a b c : Bool) → ((a && b) && c) ≡ (a && (b && c))
-and_assoc true b c = refl
-and_assoc false b c = refl
-
-and_true : (a : Bool) → (a && true) ≡ a
-and_true true = refl
-and_true false = refl
-
-pub and_false : (a : Bool) → false ≡ (a && false)
-and_false true = refl
-and_false false = refl
-
 all_last : {A : Type 0} (f : A → Bool) (xs : List A) (x : A) → list_all f (xs ++ x ∷ []) ≡ (list_all f xs && f x)
-all_last f [] x = and_true (f x)
+all_last f [] x = and-true (f x)
 all_last f (y ∷ xs) x = ap (λ b. f y && b) (all_last f xs x) ∙ sym (and_assoc (f y) (list_all f xs) (f x))
 
 pub same_pushed : (ts : List Expression) (j : Expression → Expression) (xs ys : List Compared) (x : Compared) → ys ≡ xs ++ x ∷ [] → all_same ts j ys ≡ (all_same ts j xs && same_at ts j x)
@@ -49,16 +38,11 @@ pub below_pushed : (n : ℕ) (xs ys : List Compared) (x : Compared) → ys ≡ x
 below_pushed n xs ys x e h f w = subst (ComparedBelow n) (sym e) (below_last n xs x h f w)
 
 -- the domains
-get_any : (xs : List ℕ) (k d e : ℕ) → k < length xs → get_or xs k d ≡ get_or xs k e
-get_any [] k d e l = absurd (omega (arith, l))
-get_any (x ∷ xs) zero d e l = refl
-get_any (x ∷ xs) (suc k) d e l = get_any xs k d e (omega (arith, l))
-
 domains_at : (ts : List Expression) (j : Expression → Expression) (As Bs : List ℕ) (k A B : ℕ) → k < length As → k < length Bs → A ≡ get_or As k A → B ≡ get_or Bs k B
     → domains_same ts j (drop k As) (drop k Bs) ≡ (equal_expressions (tree ts A) (j (tree ts B)) && domains_same ts j (drop (k + 1) As) (drop (k + 1) Bs))
 domains_at ts j As Bs k A B l m e f =
     ap₂ (domains_same ts j) (drop_more As k 0 l) (drop_more Bs k 0 m)
-    ∙ ap₂ (λ A B. equal_expressions (tree ts A) (j (tree ts B)) && domains_same ts j (drop (k + 1) As) (drop (k + 1) Bs)) (get_any As k 0 A l ∙ sym e) (get_any Bs k 0 B m ∙ sym f)
+    ∙ ap₂ (λ A B. equal_expressions (tree ts A) (j (tree ts B)) && domains_same ts j (drop (k + 1) As) (drop (k + 1) Bs)) (get_or_default As k 0 A l ∙ sym e) (get_or_default Bs k 0 B m ∙ sym f)
 
 pub domains_next : (ts : List Expression) (j : Expression → Expression) (As Bs : List ℕ) (k A B : ℕ) (a b c : Bool) → length As ≡ length Bs → k < length As → A ≡ get_or As k A → B ≡ get_or Bs k B
     → a ≡ (b && domains_same ts j (drop k As) (drop k Bs)) → c ≡ (b && equal_expressions (tree ts A) (j (tree ts B))) → a ≡ (c && domains_same ts j (drop (k + 1) As) (drop (k + 1) Bs))
@@ -70,7 +54,7 @@ domains_next ts j As Bs k A B a b c same l e f h g =
 
 pub domains_end : (ts : List Expression) (j : Expression → Expression) (As Bs : List ℕ) (k : ℕ) (a b : Bool) → length As ≡ length Bs → length As ≤ k → a ≡ (b && domains_same ts j (drop k As) (drop k Bs)) → b ≡ a
 domains_end ts j As Bs k a b same l h =
-    sym (h ∙ ap₂ (λ As Bs. b && domains_same ts j As Bs) (drop_of_length-le As l) (drop_of_length-le Bs (subst (λ n. n ≤ k) same l)) ∙ and_true b)
+    sym (h ∙ ap₂ (λ As Bs. b && domains_same ts j As Bs) (drop_of_length-le As l) (drop_of_length-le Bs (subst (λ n. n ≤ k) same l)) ∙ and-true b)
 
 pub below_at : (n : ℕ) (As : List ℕ) (k A : ℕ) → AllBelow n As → k < length As → A ≡ get_or As k A → A < n
 below_at n [] k A h l e = absurd (omega (arith, l))
@@ -134,9 +118,9 @@ other_domains : (ts : List Expression) (j : Expression → Expression) (As Bs : 
 other_domains ts j [] [] n = absurd (n refl)
 other_domains ts j [] (B ∷ Bs) n = refl
 other_domains ts j (A ∷ As) [] n = refl
-other_domains ts j (A ∷ As) (B ∷ Bs) n = ap (λ b. equal_expressions (tree ts A) (j (tree ts B)) && b) (other_domains ts j As Bs (λ e. n (ap suc e))) ∙ sym (and_false (equal_expressions (tree ts A) (j (tree ts B))))
+other_domains ts j (A ∷ As) (B ∷ Bs) n = ap (λ b. equal_expressions (tree ts A) (j (tree ts B)) && b) (other_domains ts j As Bs (λ e. n (ap suc e))) ∙ and-false (equal_expressions (tree ts A) (j (tree ts B)))
 
 pub no_thesis_fits : (ts : List Expression) (j : Expression → Expression) (x : ThesisValue) (b : BoundaryValue) (o : Bool) → length x.domains ≢ length b.domains → false ≡ (o && fits (thesis_in ts x) (map_statement (λ k. j) zero (boundary_in ts b)))
 no_thesis_fits ts j x b o n =
-    and_false o
+    sym (and-false o)
     ∙ ap (λ b. o && b) (ap (λ d. d && fits_goal (claim_in ts x.form) (map_claim j (goal_in ts b.goal))) (sym (other_domains ts j x.domains b.domains n)) ∙ fits_under ts j zero x.domains b.domains (claim_in ts x.form) (goal_in ts b.goal))

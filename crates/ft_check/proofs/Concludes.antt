@@ -1,5 +1,7 @@
 -- The conclusion of a rule at arguments, filled with its symbol.
 use Rattle.std.proofs.Common.{◌≡◌, ℕ, Bool, true, false, ◌&&◌, cond, Option, Some, None, List, [], ◌∷◌, refl, sym, ap, ap₂, ◌∙◌, subst}
+use Rattle.std.proofs.Math.Bool.{and_comm, and-true}
+use Rattle.std.proofs.lemmas.Option.{same_Some}
 use Rattle.ft_theory.specs.Expressions.{Expression}
 use Rattle.ft_theory.specs.Statements.{Claim, Statement, plain, fill_goal, map_claim}
 use Rattle.ft_items.specs.Item.{Entry as AnyEntry}
@@ -34,30 +36,14 @@ no_head ts h (form.EqTy A B) e = refl
 no_head ts h (form.EqTm s t A) e = refl
 
 pub some_head : (ts : List Expression) (h : Expression) (f : Form) (a : ℕ) → head_of_form f ≡ Some a → equal_expressions (tree ts a) h ≡ head_same ts h f
-some_head ts h (form.Ty A) a e = ap (λ x. equal_expressions (tree ts x) h) (sym (same A a e))
-  where
-    same : (x y : ℕ) → Some x ≡ Some y → x ≡ y
-    same x y e = cc
-some_head ts h (form.Tm t A) a e = ap (λ x. equal_expressions (tree ts x) h) (sym (same t a e))
-  where
-    same : (x y : ℕ) → Some x ≡ Some y → x ≡ y
-    same x y e = cc
+some_head ts h (form.Ty A) a e = ap (λ x. equal_expressions (tree ts x) h) (sym (same_Some A a e))
+some_head ts h (form.Tm t A) a e = ap (λ x. equal_expressions (tree ts x) h) (sym (same_Some t a e))
 some_head ts h (form.EqTy A B) a e = cc
 some_head ts h (form.EqTm s t A) a e = cc
 
 -- the claim that a goal's instance becomes
 turn₂ : (a b c d : Expression) → (equal_expressions a b && equal_expressions c d) ≡ (equal_expressions b a && equal_expressions d c)
 turn₂ a b c d = ap₂ ◌&&◌ (equal_back a b) (equal_back c d)
-
-and_true : (a : Bool) → (a && true) ≡ a
-and_true true = refl
-and_true false = refl
-
-swap : (a b : Bool) → (a && b) ≡ (b && a)
-swap true true = refl
-swap true false = refl
-swap false true = refl
-swap false false = refl
 
 turned : (x y z : Bool) → (((x && y) && z) && true) ≡ ((y && z) && x)
 turned true true true = refl
@@ -76,13 +62,13 @@ claim_filled ts j h (form.Ty A) (goal.EqTm s t B) = refl
 claim_filled ts j h (form.Tm t A) goal.Ty = refl
 claim_filled ts j h (form.Tm t A) (goal.Tm B) =
     ap₂ ◌&&◌ (equal_back (tree ts A) (j (tree ts B))) (equal_back (tree ts t) h)
-    ∙ swap (equal_expressions (j (tree ts B)) (tree ts A)) (equal_expressions h (tree ts t))
+    ∙ and_comm (equal_expressions (j (tree ts B)) (tree ts A)) (equal_expressions h (tree ts t))
 claim_filled ts j h (form.Tm t A) (goal.EqTy B C) = refl
 claim_filled ts j h (form.Tm t A) (goal.EqTm s u B) = refl
 claim_filled ts j h (form.EqTy A B) goal.Ty = refl
 claim_filled ts j h (form.EqTy A B) (goal.Tm C) = refl
 claim_filled ts j h (form.EqTy A B) (goal.EqTy C D) =
-    and_true (equal_expressions (tree ts A) (j (tree ts C)) && equal_expressions (tree ts B) (j (tree ts D)))
+    and-true (equal_expressions (tree ts A) (j (tree ts C)) && equal_expressions (tree ts B) (j (tree ts D)))
     ∙ turn₂ (tree ts A) (j (tree ts C)) (tree ts B) (j (tree ts D))
 claim_filled ts j h (form.EqTy A B) (goal.EqTm s t C) = refl
 claim_filled ts j h (form.EqTm s t A) goal.Ty = refl

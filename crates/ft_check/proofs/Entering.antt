@@ -1,6 +1,7 @@
 -- The reasons against entries, by the step.
 use Rattle.std.proofs.Common.{◌≡◌, ℕ, Bool, true, false, cond, ◌&&◌, not, Option, Some, None, List, [], refl, sym, ap, ◌∙◌}
 use Rattle.std.specs.Prelude.{IfOk, Result, Ok, Err, option_map}
+use Rattle.std.proofs.lemmas.Option.{same_Some}
 use Rattle.ft_theory.specs.Expressions.{Expression}
 use Rattle.ft_theory.specs.Statements.{plain, type_goal}
 use Rattle.ft_theory.specs.Rules.{Rule}
@@ -26,16 +27,13 @@ use Rattle.ft_check.specs.declared.reject.Reject.{Reject}
 use Rattle.ft_check.proofs.Standing.{none_some}
 use Rattle.ft_check.proofs.BuiltLaws.{resolved_built}
 
-some_same : {A : Type 0} (x y : A) → Some x ≡ Some y → x ≡ y
-some_same x y e = cc
-
 -- the result of a step
 abbrev pub result_of : Store → Resolved → Assertion → StatedStep → Option Reason
 result_of W s a t = reason_of_result (conclusion_built W s) (result_set s) (with_step a (stated_step t))
 
 pub btype_result : (W : Store) (t : StatedStep) (a : Assertion) (r : Option Reason) (s : Resolved) → t ≡ step.Btype → resolve W (stated_step t) ≡ Some s
     → r ≡ reason_of_result (Some (plain type_goal)) [] (with_step a (stated_step t)) → r ≡ result_of W s a t
-btype_result W t a r s e q h = h ∙ ap (λ s. result_of W s a t) (some_same by_btype s (sym (ap (λ t. resolve W (stated_step t)) e) ∙ q))
+btype_result W t a r s e q h = h ∙ ap (λ s. result_of W s a t) (same_Some by_btype s (sym (ap (λ t. resolve W (stated_step t)) e) ∙ q))
 
 pub bterm_result : (W : Store) (t : StatedStep) (p : ℕ) (a : Assertion) (r : Option Reason) (s : Resolved) → t ≡ step.Bterm p → resolve W (stated_step t) ≡ Some s
     → ((b : Assertion) → entry_named W p ≡ Some b → r ≡ reason_of_result (term_boundary b.statement) b.set (with_step a (stated_step t))) → r ≡ result_of W s a t
@@ -43,7 +41,7 @@ bterm_result W t p a r s e q h = go (entry_named W p) refl (sym (ap (λ t. resol
   where
     go : (o : Option Assertion) → entry_named W p ≡ o → with_one by_bterm o ≡ Some s → r ≡ result_of W s a t
     go None f q = none_some q
-    go (Some b) f q = h b f ∙ ap (λ s. result_of W s a t) (some_same (by_bterm b) s q)
+    go (Some b) f q = h b f ∙ ap (λ s. result_of W s a t) (same_Some (by_bterm b) s q)
 
 -- in a result, where there is one
 in_ok : {A E : Type 0} (P Q : A → Type 0) (r : Result A E) → ((x : A) → P x → Q x) → IfOk r P → IfOk r Q
@@ -71,7 +69,7 @@ rule_result W t r ps a x b s e q k h = go (rule_of W r) refl (each (entry_named 
     go None f os g q = none_some q
     go (Some R) f None g q = none_some q
     go (Some R) f (Some given) g q =
-        let same : by_rule R given ≡ s = some_same (by_rule R given) s q in
+        let same : by_rule R given ≡ s = same_Some (by_rule R given) s q in
         same_reason _ _ x (ap (λ s. result_of W s a t) same) (h R given f g (right R given same))
 
 pub rulewith_result : {E : Type 0} (W : Store) (t : StatedStep) (r p : ℕ) (ps : List ℕ) (a : Assertion) (x : Result (Option Reject) E) (b : Bool) (s : Resolved) → t ≡ step.Rulewith r p ps → resolve W (stated_step t) ≡ Some s → kinds_right b s ≡ true
@@ -94,7 +92,7 @@ rulewith_result W t r p ps a x b s e q k h = go (rule_of W r) refl (entry_named 
     go (Some R) f None m os g q = none_some q
     go (Some R) f (Some c) m None g q = none_some q
     go (Some R) f (Some c) m (Some given) g q =
-        let same : by_rulewith R c given ≡ s = some_same (by_rulewith R c given) s q in
+        let same : by_rulewith R c given ≡ s = same_Some (by_rulewith R c given) s q in
         let right = kinds R c given same in
         same_reason _ _ x (ap (λ s. result_of W s a t) same) (h R c given f m (no_thesis (is_thesis c.statement) right.1) g right.0)
 
@@ -147,11 +145,8 @@ not_entry ts (Boundary x S t) a b = absurd (b x S t refl)
 not_entry ts (Shown p) a b = refl
 
 pub other_reason : (W : Store) (x y : Item) → Some y ≡ Some x → is_entry y ≡ false → reason_in W x ≡ reason_built W x
-other_reason W x y e h = go x (ap is_entry (sym (some_item y x e)) ∙ h)
+other_reason W x y e h = go x (ap is_entry (sym (same_Some y x e)) ∙ h)
   where
-    some_item : (y x : Item) → Some y ≡ Some x → y ≡ x
-    some_item y x e = cc
-
     go : (x : Item) → is_entry x ≡ false → reason_in W x ≡ reason_built W x
     go (variable v n p) h = refl
     go (metavariable n p) h = refl

@@ -1,6 +1,9 @@
 -- Theses and boundaries by their numbers, as arguments of a rule.
-use Rattle.std.proofs.Common.{◌≡◌, ◌≢◌, ℕ, zero, suc, ◌+◌, ◌<◌, ◌≤◌, Bool, true, false, ◌&&◌, Option, Some, None, List, [], ◌∷◌, refl, sym, ap, ap₂, ◌∙◌, subst, length, drop, get_or, map, arith}
-use Rattle.std.specs.Prelude.{option_map, option_and_then}
+use Rattle.std.proofs.Common.{◌≡◌, ◌≢◌, ℕ, zero, suc, ◌+◌, ◌<◌, ◌≤◌, Bool, true, false, ◌&&◌, Option, Some, None, List, [], ◌∷◌, refl, sym, ap, ap₂, ◌∙◌, subst, length, drop, get_or, arith}
+use Rattle.std.specs.Prelude.{option_map}
+use Rattle.std.proofs.Math.Bool.{and_assoc, and-false, and-true}
+use Rattle.std.proofs.lemmas.List.{drop_all}
+use Rattle.std.proofs.lemmas.Option.{same_Some}
 use Rattle.ft_theory.specs.Expressions.{Expression}
 use Rattle.ft_theory.specs.Statements.{Claim, Statement, plain}
 use Rattle.ft_items.specs.Item.{Name, Item}
@@ -14,29 +17,10 @@ use Rattle.ft_judge.specs.Meaning.{under, thesis_in, boundary_in}
 use Rattle.ft_judge.specs.declared.judgement.Thesis.{Thesis as ThesisValue}
 use Rattle.ft_judge.specs.declared.judgement.Boundary.{Boundary as BoundaryValue}
 use Rattle.ft_check.specs.Entries.{is_nil}
+use Rattle.ft_check.proofs.Basics.{each_first, nth_map}
 use Rattle.ft_check.proofs.OfKind.{boundary_is, thesis_is}
 use Rattle.ft_check.proofs.RuleLines.{metavariable_line}
 use Rattle.ft_check.proofs.Standing.{none_some, entries_are}
-
-pub some_same : {A : Type 0} (x y : A) → Some x ≡ Some y → x ≡ y
-some_same x y e = cc
-
-nth_map : {A B : Type 0} (f : A → B) (xs : List A) (n : ℕ) → nth (map f xs) n ≡ option_map f (nth xs n)
-nth_map f [] n = refl
-nth_map f (x ∷ xs) zero = refl
-nth_map f (x ∷ xs) (suc n) = nth_map f xs n
-
-and_true : (a : Bool) → (a && true) ≡ a
-and_true true = refl
-and_true false = refl
-
-and_assoc : (a b c : Bool) → ((a && b) && c) ≡ (a && (b && c))
-and_assoc true b c = refl
-and_assoc false b c = refl
-
-and_false : (a : Bool) → false ≡ (a && false)
-and_false true = refl
-and_false false = refl
 
 -- The boundary of a metavariable of a good list.
 pub record MetavariableKnown (items : List Item) (m : ℕ) (d : Declared) : Type 0 where
@@ -63,7 +47,7 @@ metavariable_known items m d g h = go (nth (metavariables_in items) m) refl
     go None e = none_some (sym (ap (option_map f) e) ∙ found)
     go (Some x) e =
         let b = metavariable_line items m x g e in
-        let same : f x ≡ d = some_same (f x) d (sym (ap (option_map f) e) ∙ found) in
+        let same : f x ≡ d = same_Some (f x) d (sym (ap (option_map f) e) ∙ found) in
         record {
           line = x;
           stands = e;
@@ -80,32 +64,18 @@ pub is_boundary_named : {A : Type 0} (items : List Item) (m p : ℕ) (d : Declar
     → Some p ≡ option_map (λ (x : Name × ℕ). x.1) (nth (metavariables_in items) m) → option_map f r ≡ entry_named (store_of items) p → option_map (λ e. (f e).statement) r ≡ Some d.boundary
 is_boundary_named {A} items m p d f r g h e q =
     let k = metavariable_known items m d g h in
-    let same : p ≡ k.line.1 = some_same p k.line.1 (e ∙ ap (option_map (λ (x : Name × ℕ). x.1)) k.stands) in
+    let same : p ≡ k.line.1 = same_Some p k.line.1 (e ∙ ap (option_map (λ (x : Name × ℕ). x.1)) k.stands) in
     go r (q ∙ ap (entry_named (store_of items)) same ∙ k.is) ∙ ap Some (sym k.boundary)
   where
     go : {a : Assertion} (r : Option A) → option_map f r ≡ Some a → option_map (λ e. (f e).statement) r ≡ Some a.statement
     go None e = none_some e
-    go {a} (Some x) e = ap (λ (b : Assertion). Some b.statement) (some_same (f x) a e)
+    go {a} (Some x) e = ap (λ (b : Assertion). Some b.statement) (same_Some (f x) a e)
 
 pub boundary_kind : (items : List Item) (m : ℕ) (d : Declared) → Good items → nth (store_of items).metavariables m ≡ Some d → is_thesis d.boundary ≡ false
 boundary_kind items m d g h = let k = metavariable_known items m d g h in ap is_thesis k.boundary ∙ k.kind
 
-pub named : (W : Store) (m : ℕ) (d : ℕ × Declared) → metavariable_named W m ≡ Some d → nth W.metavariables m ≡ Some d.1
-named W m d h = go (nth W.metavariables m) refl h
-  where
-    go : (o : Option Declared) → nth W.metavariables m ≡ o → option_map (λ c. (m, c)) o ≡ Some d → nth W.metavariables m ≡ Some d.1
-    go None e h = none_some h
-    go (Some c) e h = e ∙ ap (λ (x : ℕ × Declared). Some x.1) (some_same (m, c) d h)
-
-pub named_number : (W : Store) (m : ℕ) (d : ℕ × Declared) → metavariable_named W m ≡ Some d → d.0 ≡ m
-named_number W m d h = go (nth W.metavariables m) h
-  where
-    go : (o : Option Declared) → option_map (λ c. (m, c)) o ≡ Some d → d.0 ≡ m
-    go None h = none_some h
-    go (Some c) h = sym (ap (λ (x : ℕ × Declared). x.0) (some_same (m, c) d h))
-
 pub same_statement : (a b : Assertion) → Some a ≡ Some b → a.statement ≡ b.statement
-same_statement a b e = ap (λ (x : Assertion). x.statement) (some_same a b e)
+same_statement a b e = ap (λ (x : Assertion). x.statement) (same_Some a b e)
 
 -- kinds of entries
 pub no_boundary : {P : Type 0} (ts : List Expression) (b : BoundaryValue) (x : Statement) → x ≡ boundary_in ts b → is_thesis x ≡ true → P
@@ -124,14 +94,6 @@ pub moved : (P : Statement → Statement → Type 0) (x y w b : Statement) → (
 moved P x y w b f e d h k = subst (λ z. P z b) e (subst (λ z. P x z) d (f (ap is_thesis e ∙ h) (ap is_thesis d ∙ k)))
 
 -- the member of a list in its place
-pub each_first : {A B : Type 0} (f : A → Option B) (x : A) (xs : List A) (ys : List B) → each f (x ∷ xs) ≡ Some ys → (y : B) × (zs : List B) × (f x ≡ Some y) × (each f xs ≡ Some zs) × (ys ≡ y ∷ zs)
-each_first {A} {B} f x xs ys h = go (f x) refl (each f xs) refl h
-  where
-    go : (o : Option B) → f x ≡ o → (os : Option (List B)) → each f xs ≡ os → option_and_then (λ b. option_map (λ bs. b ∷ bs) os) o ≡ Some ys → (y : B) × (zs : List B) × (f x ≡ Some y) × (each f xs ≡ Some zs) × (ys ≡ y ∷ zs)
-    go None e os d h = none_some h
-    go (Some y) e None d h = none_some h
-    go (Some y) e (Some zs) d h = (y, zs, e, d, sym (some_same (y ∷ zs) ys h))
-
 pub each_at : {B : Type 0} (f : ℕ → Option B) (xs : List ℕ) (ys : List B) (k x : ℕ) → each f xs ≡ Some ys → k < length xs → x ≡ get_or xs k 0 → (y : B) × (f x ≡ Some y) × (drop k ys ≡ y ∷ drop (k + 1) ys)
 each_at f [] ys k x h l e = absurd (omega (arith, l))
 each_at f (z ∷ xs) ys zero x h l e =
@@ -144,14 +106,8 @@ each_at f (z ∷ xs) ys (suc k) x h l e =
     (r.0, r.1, ap (drop (suc k)) s.4 ∙ r.2 ∙ ap (λ zs. r.0 ∷ zs) (sym (ap₂ drop n s.4)))
 
 pub each_length : {A B : Type 0} (f : A → Option B) (xs : List A) (ys : List B) → each f xs ≡ Some ys → length ys ≡ length xs
-each_length f [] ys h = ap length (sym (some_same [] ys h))
+each_length f [] ys h = ap length (sym (same_Some [] ys h))
 each_length f (x ∷ xs) ys h = let s = each_first f x xs ys h in ap length s.4 ∙ ap suc (each_length f xs s.1 s.3)
-
-pub drop_over : {A : Type 0} (xs : List A) (k : ℕ) → length xs ≤ k → drop k xs ≡ []
-drop_over [] zero h = refl
-drop_over [] (suc k) h = refl
-drop_over (x ∷ xs) zero h = absurd (omega (arith, h))
-drop_over (x ∷ xs) (suc k) h = drop_over xs k (omega (arith, h))
 
 theses_drop : (xs : List Assertion) (k : ℕ) → all_theses xs ≡ true → all_theses (drop k xs) ≡ true
 theses_drop [] zero h = refl
@@ -186,18 +142,18 @@ pub fit_end : (W : Store) (ms ps : List ℕ) (ds : List (ℕ × Declared)) (give
 fit_end W ms ps ds given k i a b h q same l g =
     let m : length ds ≤ k = subst (λ n. n ≤ k) (sym (each_length (metavariable_named W) ms ds h)) l in
     let n : length given ≤ k = subst (λ n. n ≤ k) (same ∙ sym (each_length (entry_named W) ps given q)) l in
-    sym (g ∙ ap₂ (λ ds xs. b && fit_all i (premises_of ds) (statements xs)) (drop_over ds k m) (drop_over given k n) ∙ and_true b)
+    sym (g ∙ ap₂ (λ ds xs. b && fit_all i (premises_of ds) (statements xs)) (drop_all k ds m) (drop_all k given n) ∙ and-true b)
 
 fit_as_many : (i : Statement → Statement) (ds : List (ℕ × Declared)) (xs : List Assertion) → length ds ≢ length xs → fit_all i (premises_of ds) (statements xs) ≡ false
 fit_as_many i [] [] n = absurd (n refl)
 fit_as_many i [] (x ∷ xs) n = refl
 fit_as_many i (d ∷ ds) [] n = refl
-fit_as_many i (d ∷ ds) (x ∷ xs) n = ap (λ b. fits x.statement (i d.1.boundary) && b) (fit_as_many i ds xs (λ e. n (ap suc e))) ∙ sym (and_false (fits x.statement (i d.1.boundary)))
+fit_as_many i (d ∷ ds) (x ∷ xs) n = ap (λ b. fits x.statement (i d.1.boundary) && b) (fit_as_many i ds xs (λ e. n (ap suc e))) ∙ and-false (fits x.statement (i d.1.boundary))
 
 pub fit_other : (W : Store) (ms ps : List ℕ) (ds : List (ℕ × Declared)) (given : List Assertion) (i : Statement → Statement) (b : Bool)
     → each (metavariable_named W) ms ≡ Some ds → each (entry_named W) ps ≡ Some given → length ms ≢ length ps → false ≡ (b && fit_all i (premises_of ds) (statements given))
 fit_other W ms ps ds given i b h q n =
-    and_false b ∙ ap (λ z. b && z) (sym (fit_as_many i ds given (λ e. n (sym (each_length (metavariable_named W) ms ds h) ∙ e ∙ each_length (entry_named W) ps given q))))
+    sym (and-false b) ∙ ap (λ z. b && z) (sym (fit_as_many i ds given (λ e. n (sym (each_length (metavariable_named W) ms ds h) ∙ e ∙ each_length (entry_named W) ps given q))))
 
 -- a plain goal
 pub plain_goal : (ts : List Expression) (As : List ℕ) (g c : Claim) → is_nil As ≡ true → equal_claims g c ≡ equal_statements (under ts As (plain g)) (plain c)
@@ -206,4 +162,4 @@ plain_goal ts (A ∷ As) g c h = let clash : false ≡ true = h in cc
 
 pub no_plain_goal : (ts : List Expression) (As : List ℕ) (g c : Claim) (b : Bool) → is_nil As ≡ false → false ≡ (b && equal_statements (under ts As (plain g)) (plain c))
 no_plain_goal ts [] g c b h = let clash : true ≡ false = h in cc
-no_plain_goal ts (A ∷ As) g c b h = and_false b
+no_plain_goal ts (A ∷ As) g c b h = sym (and-false b)

@@ -1,6 +1,7 @@
 -- The goal of a boundary, and the rule of a line.
 use Rattle.std.proofs.Common.{◌≡◌, ℕ, true, false, Option, Some, None, List, [], ◌∷◌, refl, sym, ap, ap₂, ◌∙◌, subst}
 use Rattle.std.specs.Prelude.{option_map}
+use Rattle.std.proofs.lemmas.Option.{same_Some}
 use Rattle.ft_theory.specs.Expressions.{Expression}
 use Rattle.ft_theory.specs.Statements.{plain}
 use Rattle.ft_theory.specs.Rules.{Rule, rule_at}
@@ -30,9 +31,6 @@ goal_under ts (A ∷ As) g h = let clash : false ≡ true = h in cc
 pub goal_taken : (ts : List Expression) (b : BoundaryValue) → is_plain (boundary_in ts b) ≡ true → Some (goal_in ts b.goal) ≡ Some (claim_in (boundary_in ts b))
 goal_taken ts b h = goal_under ts b.domains b.goal h
 
-some_same : {A : Type 0} (x y : A) → Some x ≡ Some y → x ≡ y
-some_same x y e = cc
-
 -- A rule of a good list is that of its line.
 pub rule_gone : {P : Type 0} (items : List Item) (r : ℕ) (R : Rule) → Good items → rule_at (store_of items).rules r ≡ Some R → None ≡ option_map line_of (nth (rules_in items) r) → P
 rule_gone {P} items r R g e h = go (nth (rules_in items) r) refl h
@@ -56,10 +54,10 @@ rule_known items r ms p R g e h = go (nth (rules_in items) r) refl h
     known (n, ms', p') q same =
         let l : Ruled X ms' p' = rule_line items r (n, ms', p') g q in
         let is : Some (ruled (each (metavariable_named X) ms') (entry_named X p')) ≡ Some R = sym (rule_is_line items r g ∙ ap (option_map (λ (x : Name × List ℕ × ℕ). ruled (each (metavariable_named X) x.1) (entry_named X x.2))) q) ∙ e in
-        let R_is : ruled (Some l.premises) (Some l.conclusion) ≡ R = ap₂ ruled (sym l.are) (sym l.is) ∙ some_same _ R is in
+        let R_is : ruled (Some l.premises) (Some l.conclusion) ≡ R = ap₂ ruled (sym l.are) (sym l.is) ∙ same_Some _ R is in
         subst (λ (z : List ℕ × ℕ). KnownRule X z.0 z.1 R) same
         (record { line = l; premises = ap (λ (Q : Rule). Q.premises) (sym R_is); conclusion = ap (λ (Q : Rule). Q.conclusion) (sym R_is) })
 
     go : (o : Option (Name × List ℕ × ℕ)) → nth (rules_in items) r ≡ o → Some (ms, p) ≡ option_map line_of o → KnownRule X ms p R
     go None q h = none_some (sym h)
-    go (Some x) q h = known x q (some_same (line_of x) (ms, p) (sym h))
+    go (Some x) q h = known x q (same_Some (line_of x) (ms, p) (sym h))

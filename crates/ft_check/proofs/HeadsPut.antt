@@ -1,9 +1,10 @@
 -- The heads of theses, put one by one, and what has to be the same, compared one by one.
 use Rattle.std.proofs.Common.{◌≡◌, ℕ, zero, suc, ◌+◌, ◌<◌, ◌≤◌, Bool, true, false, cond, ◌&&◌, Option, Some, None, List, [], ◌∷◌, ◌++◌, refl, sym, ap, ap₂, ◌∙◌, subst, length, drop, map, get_or, arith}
-use Rattle.std.specs.Prelude.{option_map, option_and_then, min}
+use Rattle.std.specs.Prelude.{option_map, min}
 use mathlib.Core.Path.{fun_ext}
-use Rattle.std.proofs.lemmas.List.{drop_more, map-append}
+use Rattle.std.proofs.lemmas.List.{append_assoc, append-nil, drop_all, drop_more, map-append}
 use Rattle.std.proofs.Math.ListN.{drop_of_length-le}
+use Rattle.std.proofs.lemmas.Option.{same_Some}
 use Rattle.ft_theory.specs.Expressions.{Expression, Arguments, with_body, dummy}
 use Rattle.ft_theory.specs.Statements.{Statement, plain, domain_count}
 use Rattle.ft_theory.specs.Rules.{instance_of}
@@ -25,9 +26,10 @@ use Rattle.ft_judge.specs.declared.judgement.Boundary.{Boundary as BoundaryValue
 use Rattle.ft_check.specs.Comparing.{same_at, all_same, paired, ComparedBelow}
 use Rattle.ft_check.specs.Putting.{head_argument}
 use Rattle.ft_check.specs.declared.compare.Compared.{Compared}
+use Rattle.ft_check.proofs.Basics.{each_first}
 use Rattle.ft_check.proofs.OfKind.{boundary_is}
 use Rattle.ft_check.proofs.Standing.{none_some}
-use Rattle.ft_check.proofs.PutTogether.{append_nil, tree_stays, below_stays, paired_instance}
+use Rattle.ft_check.proofs.PutTogether.{tree_stays, below_stays, paired_instance}
 
 -- What stays in a table that goes on.
 body_below : (ts us : List Expression) (b : Option ℕ) → Extends ts us → BodyBelow (length ts) b → BodyBelow (length us) b
@@ -57,12 +59,9 @@ head_is ts [] (form.EqTy A B) = refl
 head_is ts [] (form.EqTm s t A) = refl
 head_is ts (B ∷ As) f = ap (λ (p : Argument). (suc p.0, p.1)) (head_is ts As f)
 
-some_same : {A : Type 0} (x y : A) → Some x ≡ Some y → x ≡ y
-some_same x y e = cc
-
 pub head_taken : (ts : List Expression) (x : ThesisValue) (S : List Atom) (h : Arg) (r : Argument) (a : Assertion) (o : Option Assertion) → Some (record { statement = thesis_in ts x; set = S }) ≡ o → h ≡ head_of_thesis x → r ≡ argument_in ts h → o ≡ Some a → r ≡ head_argument a.statement
 head_taken ts x S h r a o e k q t =
-    q ∙ ap (argument_in ts) k ∙ head_is ts x.domains x.form ∙ ap (λ (b : Assertion). head_argument b.statement) (some_same (record { statement = thesis_in ts x; set = S }) a (e ∙ t))
+    q ∙ ap (argument_in ts) k ∙ head_is ts x.domains x.form ∙ ap (λ (b : Assertion). head_argument b.statement) (same_Some (record { statement = thesis_in ts x; set = S }) a (e ∙ t))
 
 pub head_below : (n : ℕ) (x : ThesisValue) (h : Arg) → ThesisBelow n x → h ≡ head_of_thesis x → BodyBelow n h.body
 head_below n x h b e = subst (λ (k : Arg). BodyBelow n k.body) (sym e) (go x.form b.1)
@@ -78,7 +77,7 @@ no_entry o a e t = none_some (e ∙ t)
 
 pub no_thesis : {P : Type 0} (ts : List Expression) (x : BoundaryValue) (S : List Atom) (o : Option Assertion) (a : Assertion) → Some (record { statement = boundary_in ts x; set = S }) ≡ o → o ≡ Some a → is_thesis a.statement ≡ true → P
 no_thesis ts x S o a e t h =
-    let clash : false ≡ true = boundary_is ts x ∙ ap (λ (b : Assertion). is_thesis b.statement) (some_same (record { statement = boundary_in ts x; set = S }) a (e ∙ t)) ∙ h in
+    let clash : false ≡ true = boundary_is ts x ∙ ap (λ (b : Assertion). is_thesis b.statement) (same_Some (record { statement = boundary_in ts x; set = S }) a (e ∙ t)) ∙ h in
     cc
 
 -- The first k heads are in the table, and the others are to come.
@@ -95,28 +94,9 @@ pub record HeadsSoFar (W : Store) (ps : List ℕ) (k : ℕ) (ts : List Expressio
 pub heading_start : (W : Store) (ps : List ℕ) (ts : List Expression) → HeadsSoFar W ps 0 ts []
 heading_start W ps ts = record { below = tt; going = λ given e t. record { rest = given; are = e; theses = t; same = refl } }
 
-record Split (W : Store) (p : ℕ) (ps : List ℕ) (given : List Assertion) : Type 0 where
-  first : Assertion
-  rest : List Assertion
-  is : entry_named W p ≡ Some first
-  are : each (entry_named W) ps ≡ Some rest
-  same : given ≡ first ∷ rest
-
-split : (W : Store) (p : ℕ) (ps : List ℕ) (given : List Assertion) → each (entry_named W) (p ∷ ps) ≡ Some given → Split W p ps given
-split W p ps given e = go (entry_named W p) (each (entry_named W) ps) refl refl e
-  where
-    go : (o : Option Assertion) (os : Option (List Assertion)) → entry_named W p ≡ o → each (entry_named W) ps ≡ os → option_and_then (λ b. option_map (λ bs. b ∷ bs) os) o ≡ Some given → Split W p ps given
-    go None os h k q = none_some q
-    go (Some a) None h k q = none_some q
-    go (Some a) (Some as') h k q = record { first = a; rest = as'; is = h; are = k; same = sym (some_same (a ∷ as') given q) }
-
 below_last : (n : ℕ) (as' : List Arg) (a : Arg) → ArgumentsBelow n as' → BodyBelow n a.body → ArgumentsBelow n (as' ++ a ∷ [])
 below_last n [] a h l = (l, tt)
 below_last n (b ∷ as') a h l = (h.0, below_last n as' a h.1 l)
-
-append_one : {A : Type 0} (xs : List A) (x : A) (ys : List A) → (xs ++ x ∷ []) ++ ys ≡ xs ++ x ∷ ys
-append_one [] x ys = refl
-append_one (y ∷ xs) x ys = ap (λ z. y ∷ z) (append_one xs x ys)
 
 pub heading_more : (W : Store) (ps : List ℕ) (k p : ℕ) (ts us : List Expression) (as' bs : List Arg) (x : Arg) → HeadsSoFar W ps k ts as' → k < length ps → p ≡ get_or ps k 0 → Extends ts us → BodyBelow (length us) x.body
     → ((a : Assertion) → entry_named W p ≡ Some a → is_thesis a.statement ≡ true → argument_in us x ≡ head_argument a.statement) → bs ≡ as' ++ x ∷ [] → HeadsSoFar W ps (k + 1) us bs
@@ -128,16 +108,16 @@ heading_more W ps k p ts us as' bs x m l e g b f z = subst (HeadsSoFar W ps (k +
   where
     one : (given : List Assertion) → Heading W ps k ts as' given → Heading W ps (k + 1) us (as' ++ x ∷ []) given
     one given h =
-        let s : Split W p (drop (k + 1) ps) h.rest = split W p (drop (k + 1) ps) h.rest (ap (λ n. each (entry_named W) (n ∷ drop (k + 1) ps)) e ∙ sym (ap (each (entry_named W)) (drop_more ps k 0 l)) ∙ h.are) in
-        let w = both (is_thesis s.first.statement) (all_theses s.rest) (sym (ap all_theses s.same) ∙ h.theses) in
+        let s = each_first (entry_named W) p (drop (k + 1) ps) h.rest (ap (λ n. each (entry_named W) (n ∷ drop (k + 1) ps)) e ∙ sym (ap (each (entry_named W)) (drop_more ps k 0 l)) ∙ h.are) in
+        let w = both (is_thesis s.0.statement) (all_theses s.1) (sym (ap all_theses s.4) ∙ h.theses) in
         record {
-          rest = s.rest;
-          are = s.are;
+          rest = s.1;
+          are = s.3;
           theses = w.1;
-          same = ap (λ z. z ++ map head_argument (statements s.rest)) (map-append (argument_in us) as' (x ∷ []))
-              ∙ append_one (map (argument_in us) as') (argument_in us x) (map head_argument (statements s.rest))
-              ∙ ap₂ (λ z y. z ++ y ∷ map head_argument (statements s.rest)) (list_stays ts us as' g m.below) (f s.first s.is w.0)
-              ∙ ap (λ z. map (argument_in ts) as' ++ map head_argument (statements z)) (sym s.same)
+          same = ap (λ z. z ++ map head_argument (statements s.1)) (map-append (argument_in us) as' (x ∷ []))
+              ∙ append_assoc (map (argument_in us) as') (argument_in us x ∷ []) (map head_argument (statements s.1))
+              ∙ ap₂ (λ z y. z ++ y ∷ map head_argument (statements s.1)) (list_stays ts us as' g m.below) (f s.0 s.2 w.0)
+              ∙ ap (λ z. map (argument_in ts) as' ++ map head_argument (statements z)) (sym s.4)
               ∙ h.same;
         }
 
@@ -153,15 +133,15 @@ pub heading_end : (W : Store) (ps : List ℕ) (k : ℕ) (ts : List Expression) (
     → arguments_in ts as' ≡ heads (statements given)
 heading_end W ps k ts as' given m l e t =
     let h : Heading W ps k ts as' given = m.going given e t in
-    let none : [] ≡ h.rest = some_same [] h.rest (sym (ap (each (entry_named W)) (drop_of_length-le ps l)) ∙ h.are) in
-    ap as_arguments (sym (append_nil (map (argument_in ts) as')) ∙ ap (λ z. map (argument_in ts) as' ++ map head_argument (statements z)) none ∙ h.same) ∙ heads_as (statements given)
+    let none : [] ≡ h.rest = same_Some [] h.rest (sym (ap (each (entry_named W)) (drop_of_length-le ps l)) ∙ h.are) in
+    ap as_arguments (sym (append-nil (map (argument_in ts) as')) ∙ ap (λ z. map (argument_in ts) as' ++ map head_argument (statements z)) none ∙ h.same) ∙ heads_as (statements given)
 
 -- The pairs, one by one.
 pub pairing_more : (ms : List ℕ) (as' : List Arg) (k m : ℕ) (a d : Arg) (ps qs rs : List (ℕ × Arg)) → k < length ms → k < length as' → m ≡ get_or ms k 0 → a ≡ get_or as' k d → ps ++ paired (drop k ms) (drop k as') ≡ rs → qs ≡ ps ++ (m, a) ∷ []
     → qs ++ paired (drop (k + 1) ms) (drop (k + 1) as') ≡ rs
 pairing_more ms as' k m a d ps qs rs l n e f h g =
     ap (λ z. z ++ paired (drop (k + 1) ms) (drop (k + 1) as')) g
-    ∙ append_one ps (m, a) (paired (drop (k + 1) ms) (drop (k + 1) as'))
+    ∙ append_assoc ps ((m, a) ∷ []) (paired (drop (k + 1) ms) (drop (k + 1) as'))
     ∙ ap₂ (λ m a. ps ++ (m, a) ∷ paired (drop (k + 1) ms) (drop (k + 1) as')) e f
     ∙ sym (ap₂ (λ ms as'. ps ++ paired ms as') (drop_more ms k 0 l) (drop_more as' k d n))
     ∙ h
@@ -170,17 +150,14 @@ paired_none : (ms : List ℕ) → paired ms [] ≡ []
 paired_none [] = refl
 paired_none (m ∷ ms) = refl
 
-drop_none : {A : Type 0} (xs : List A) (k : ℕ) → length xs ≤ k → drop k xs ≡ []
-drop_none xs k l = drop_of_length-le xs l
-
 paired_over : (ms : List ℕ) (as' : List Arg) (k : ℕ) → min (length ms) (length as') ≤ k → paired (drop k ms) (drop k as') ≡ []
-paired_over [] as' k l = ap (λ z. paired z (drop k as')) (drop_none [] k (omega arith))
-paired_over (m ∷ ms) [] k l = ap (paired (drop k (m ∷ ms))) (drop_none [] k (omega arith)) ∙ paired_none (drop k (m ∷ ms))
+paired_over [] as' k l = ap (λ z. paired z (drop k as')) (drop_all k [] (omega arith))
+paired_over (m ∷ ms) [] k l = ap (paired (drop k (m ∷ ms))) (drop_all k [] (omega arith)) ∙ paired_none (drop k (m ∷ ms))
 paired_over (m ∷ ms) (a ∷ as') zero l = absurd (grind (arith, l))
 paired_over (m ∷ ms) (a ∷ as') (suc k) l = paired_over ms as' k (grind (arith, l))
 
 pub pairing_end : (ms : List ℕ) (as' : List Arg) (k : ℕ) (ps rs : List (ℕ × Arg)) → min (length ms) (length as') ≤ k → ps ++ paired (drop k ms) (drop k as') ≡ rs → ps ≡ rs
-pairing_end ms as' k ps rs l h = sym (append_nil ps) ∙ ap (λ z. ps ++ z) (sym (paired_over ms as' k l)) ∙ h
+pairing_end ms as' k ps rs l h = sym (append-nil ps) ∙ ap (λ z. ps ++ z) (sym (paired_over ms as' k l)) ∙ h
 
 pub pairs_below : (n : ℕ) (ms : List ℕ) (as' : List Arg) (ps : List (ℕ × Arg)) → ArgumentsBelow n as' → ps ≡ paired ms as' → PairsBelow n ps
 pairs_below n ms as' ps h e = subst (PairsBelow n) (sym e) (go ms as' h)

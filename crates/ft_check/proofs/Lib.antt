@@ -1,4 +1,5 @@
 mod Standing
+mod Basics
 mod OfKind
 mod SetTests
 mod Reasons

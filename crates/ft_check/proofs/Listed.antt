@@ -1,6 +1,7 @@
 -- The items of a list, one by one, and their counts.
 use Rattle.std.proofs.Common.{◌≡◌, ℕ, zero, suc, ◌+◌, ◌<◌, ◌≤◌, Bool, true, false, cond, ◌&&◌, Option, Some, None, List, [], ◌∷◌, ◌++◌, refl, sym, ap, ap₂, ◌∙◌, length, take, max, arith}
 use Rattle.std.specs.Prelude.{IfOk, Result, Ok, Err, option_map}
+use Rattle.std.proofs.lemmas.List.{length-take-le, take_all}
 use Rattle.ft_theory.specs.Statements.{Statement}
 use Rattle.ft_items.specs.Sets.{Atom}
 use Rattle.ft_items.specs.Equal.{is_thesis}
@@ -30,17 +31,6 @@ pub take_nth : {A : Type 0} (xs : List A) (k : ℕ) (x : A) → nth xs k ≡ Som
 take_nth [] k x h = none_some h
 take_nth (y ∷ xs) zero x h = let same : y ≡ x = cc in ap (λ z. z ∷ []) same
 take_nth (y ∷ xs) (suc k) x h = let e : suc k + 1 ≡ suc (k + 1) = omega arith in ap (λ n. take n (y ∷ xs)) e ∙ ap (λ z. y ∷ z) (take_nth xs k x h)
-
-pub take_over : {A : Type 0} (xs : List A) (k : ℕ) → length xs ≤ k → take k xs ≡ xs
-take_over [] zero h = refl
-take_over [] (suc k) h = refl
-take_over (x ∷ xs) zero h = absurd (omega (arith, h))
-take_over (x ∷ xs) (suc k) h = ap (λ z. x ∷ z) (take_over xs k (omega (arith, h)))
-
-length_taken : {A : Type 0} (xs : List A) (k : ℕ) → k ≤ length xs → length (take k xs) ≡ k
-length_taken xs zero h = refl
-length_taken [] (suc k) h = absurd (omega (arith, h))
-length_taken (x ∷ xs) (suc k) h = ap suc (length_taken xs k (omega (arith, h)))
 
 -- The first rejected item, where there is none before it.
 found_none : (k : ℕ) (o : Option Reject) (later : Option (ℕ × Reject)) → found_at k o later ≡ None → (o ≡ None) × (later ≡ None)
@@ -75,7 +65,7 @@ last_is : (items : List Item) (k : ℕ) (x : Item) → nth items k ≡ Some x �
 last_is items k x h le n =
     ap (first_rejected_by reason_built empty_store zero) (take_nth items k x h)
     ∙ first_last reason_built empty_store zero (take k items) x n
-    ∙ ap (λ m. found_at m (reason_built (store_of (take k items)) x) None) (let l = length_taken items k le in omega (arith, l))
+    ∙ ap (λ m. found_at m (reason_built (store_of (take k items)) x) None) (let l = length-take-le k items le in omega (arith, l))
 
 pub none_next : (items : List Item) (k : ℕ) (x : Item) (o : Option Rattle.ft_check.specs.declared.reject.Reject.Reject) → nth items k ≡ Some x → k ≤ length items → NoneTo items k
     → option_map reason_of o ≡ reason_built (store_of (take k items)) x → o ≡ None → NoneTo items (k + 1)
@@ -95,7 +85,7 @@ rejected_here items k x o why h le n e f =
 
 pub accepted_here : (items : List Item) (k : ℕ) (c : Counts) → length items ≤ k → NoneTo items k → c ≡ counts (take k items) → Accepted c ≡ verdict_built items
 accepted_here items k c le n e =
-    let all = take_over items k le in
+    let all = take_all k items le in
     ap Accepted (e ∙ ap counts all) ∙ ap (λ o. verdict_by o (counts items)) (sym (ap (first_rejected_by reason_built empty_store zero) (sym all) ∙ n))
 
 -- The counts with one more item.

@@ -2,6 +2,7 @@
 use Rattle.std.proofs.Common.{◌≡◌, ℕ, zero, suc, ◌+◌, ◌<◌, ◌≤◌, Bool, true, false, ◌&&◌, Option, Some, None, List, [], ◌∷◌, ◌++◌, refl, sym, ap, ap₂, ◌∙◌, length, get_or, take, drop, map, arith}
 use Rattle.std.specs.Prelude.{option_map, option_and_then, is_some}
 use Rattle.std.specs.List.{list_all}
+use Rattle.std.proofs.lemmas.List.{drop_all, drop_more, map-append, take_more}
 use Rattle.ft_items.specs.Item.{Name, Item}
 use Rattle.ft_items.specs.Sets.{Atom, met, is_within}
 use Rattle.ft_items.specs.Store.{Assertion, Declared, declared, each, metavariable_named, nth, store_of, entries_in, metavariables_in}
@@ -9,22 +10,8 @@ use Rattle.ft_items.specs.Rows.{atoms, on_earlier}
 use Rattle.ft_items.specs.Good.{Good}
 use Rattle.ft_items.proofs.Lists.{store_is}
 use Rattle.ft_check.specs.Entries.{set_or_none, set_at, boundary_set, rest_on_earlier}
+use Rattle.ft_check.proofs.Basics.{each_first, named, nth_map}
 use Rattle.ft_check.proofs.Standing.{none_some, entries_are}
-
--- the members of a list that is mapped
-nth_map : {A B : Type 0} (f : A → B) (xs : List A) (n : ℕ) → nth (map f xs) n ≡ option_map f (nth xs n)
-nth_map f [] n = refl
-nth_map f (x ∷ xs) zero = refl
-nth_map f (x ∷ xs) (suc n) = nth_map f xs n
-
--- what one member and the rest give
-each_some : {A B : Type 0} (f : A → Option B) (x : A) (xs : List A) (ys : List B) → each f (x ∷ xs) ≡ Some ys → (y : B) × (zs : List B) × (f x ≡ Some y) × (each f xs ≡ Some zs) × (ys ≡ y ∷ zs)
-each_some {A} {B} f x xs ys h = go (f x) refl (each f xs) refl h
-  where
-    go : (o : Option B) → f x ≡ o → (os : Option (List B)) → each f xs ≡ os → option_and_then (λ b. option_map (λ bs. b ∷ bs) os) o ≡ Some ys → (y : B) × (zs : List B) × (f x ≡ Some y) × (each f xs ≡ Some zs) × (ys ≡ y ∷ zs)
-    go None e os d h = none_some h
-    go (Some y) e None d h = none_some h
-    go (Some y) e (Some zs) d h = let same : ys ≡ y ∷ zs = cc in (y, zs, e, d, same)
 
 is_some_each : {A B : Type 0} (f : A → Option B) (xs : List A) → is_some (each f xs) ≡ list_all (λ x. is_some (f x)) xs
 is_some_each f [] = refl
@@ -51,24 +38,11 @@ named_all items ms g = sym (is_some_each (metavariable_named (store_of items)) m
     ∙ ap is_some (nth_map (λ (x : Name × ℕ). declared x (nth (entries_in items) x.1)) (metavariables_in items) m)
     ∙ some_map (λ (x : Name × ℕ). declared x (nth (entries_in items) x.1)) (nth (metavariables_in items) m)) ms)
 
-named_some : (items : List Item) (m : ℕ) (d : ℕ × Declared) → metavariable_named (store_of items) m ≡ Some d → (d.0 ≡ m) × (nth (store_of items).metavariables m ≡ Some d.1)
-named_some items m d h = go (nth (store_of items).metavariables m) refl h
-  where
-    go : (o : Option Declared) → nth (store_of items).metavariables m ≡ o → option_map (λ c. (m, c)) o ≡ Some d → (d.0 ≡ m) × (nth (store_of items).metavariables m ≡ Some d.1)
-    go None e h = none_some h
-    go (Some c) e h = let same : (m, c) ≡ d = some_injective (m, c) d h in (sym (ap first same), e ∙ ap (λ (x : ℕ × Declared). Some x.1) same)
-      where
-        first : ℕ × Declared → ℕ
-        first x = x.0
-
-        some_injective : (x y : ℕ × Declared) → Some x ≡ Some y → x ≡ y
-        some_injective x y e = cc
-
 pub atoms_are : (items : List Item) (ms : List ℕ) (ds : List (ℕ × Declared)) → each (metavariable_named (store_of items)) ms ≡ Some ds → atoms ds ≡ map met ms
 atoms_are items [] ds h = let same : [] ≡ ds = cc in ap atoms (sym same)
 atoms_are items (m ∷ ms) ds h =
-    let s = each_some (metavariable_named (store_of items)) m ms ds h in
-    ap atoms s.4 ∙ ap₂ (λ n S. met n ∷ S) (named_some items m s.0 s.2).0 (atoms_are items ms s.1 s.3)
+    let s = each_first (metavariable_named (store_of items)) m ms ds h in
+    ap atoms s.4 ∙ ap₂ (λ n S. met n ∷ S) (named (store_of items) m s.0 s.2).0 (atoms_are items ms s.1 s.3)
 
 -- what the boundary of a metavariable rests on
 declared_set : (x : Name × ℕ) (o : Option Assertion) → (declared x o).set ≡ set_or_none o
@@ -96,36 +70,22 @@ pub earlier_is : (items : List Item) (before : List Atom) (ms : List ℕ) (ds : 
     → rest_on_earlier (boundary_set items) before ms ≡ on_earlier before ds
 earlier_is items before [] ds g h = let same : [] ≡ ds = cc in ap (on_earlier before) same
 earlier_is items before (m ∷ ms) ds g h =
-    let s = each_some (metavariable_named (store_of items)) m ms ds h in
-    let n : (s.0.0 ≡ m) × (nth (store_of items).metavariables m ≡ Some s.0.1) = named_some items m s.0 s.2 in
+    let s = each_first (metavariable_named (store_of items)) m ms ds h in
+    let n : (s.0.0 ≡ m) × (nth (store_of items).metavariables m ≡ Some s.0.1) = named (store_of items) m s.0 s.2 in
     sym (ap (on_earlier before) s.4
     ∙ ap₂ (λ S k. is_within S before && on_earlier (before ++ (met k ∷ [])) s.1) (boundary_set_is items m s.0.1 g n.1) n.0
     ∙ ap (λ b. is_within (boundary_set items m) before && b) (sym (earlier_is items (before ++ (met m ∷ [])) ms s.1 g s.3)))
 
 -- the loop over the metavariables
-take_next : (xs : List ℕ) (k d : ℕ) → k < length xs → take (k + 1) xs ≡ take k xs ++ get_or xs k d ∷ []
-take_next [] k d h = absurd (omega (arith, h))
-take_next (x ∷ xs) zero d h = refl
-take_next (x ∷ xs) (suc k) d h = let e : suc k + 1 ≡ suc (k + 1) = omega arith in ap (λ n. take n (x ∷ xs)) e ∙ ap (λ z. x ∷ z) (take_next xs k d (omega (arith, h)))
-
-drop_next : (xs : List ℕ) (k d : ℕ) → k < length xs → drop k xs ≡ get_or xs k d ∷ drop (k + 1) xs
-drop_next [] k d h = absurd (omega (arith, h))
-drop_next (x ∷ xs) zero d h = refl
-drop_next (x ∷ xs) (suc k) d h = let e : suc k + 1 ≡ suc (k + 1) = omega arith in drop_next xs k d (omega (arith, h)) ∙ ap (λ n. get_or xs k d ∷ drop n (x ∷ xs)) (sym e)
-
-map_last : (xs : List ℕ) (m : ℕ) → map met (xs ++ m ∷ []) ≡ map met xs ++ met m ∷ []
-map_last [] m = refl
-map_last (x ∷ xs) m = ap (λ z. met x ∷ z) (map_last xs m)
-
 -- what is left at place k of the list
 abbrev pub left_at : (ℕ → List Atom) → List ℕ → ℕ → Bool
 left_at S ms k = rest_on_earlier S (map met (take k ms)) (drop k ms)
 
 left_split : (S : ℕ → List Atom) (ms : List ℕ) (k m : ℕ) → k < length ms → m ≡ get_or ms k m → left_at S ms k ≡ (is_within (S m) (map met (take k ms)) && left_at S ms (k + 1))
 left_split S ms k m lt e =
-    ap (rest_on_earlier S (map met (take k ms))) (drop_next ms k m lt ∙ ap (λ n. n ∷ drop (k + 1) ms) (sym e))
+    ap (rest_on_earlier S (map met (take k ms))) (drop_more ms k m lt ∙ ap (λ n. n ∷ drop (k + 1) ms) (sym e))
     ∙ ap (λ B. is_within (S m) (map met (take k ms)) && rest_on_earlier S B (drop (k + 1) ms))
-    (sym (ap (map met) (take_next ms k m lt ∙ ap (λ n. take k ms ++ n ∷ []) (sym e)) ∙ map_last (take k ms) m))
+    (sym (ap (map met) (take_more ms k m lt ∙ ap (λ n. take k ms ++ n ∷ []) (sym e)) ∙ map-append met (take k ms) (m ∷ [])))
 
 pub left_next : (S : ℕ → List Atom) (ms : List ℕ) (k m : ℕ) (b : Bool) → rest_on_earlier S [] ms ≡ left_at S ms k → k < length ms → m ≡ get_or ms k m → b ≡ is_within (S m) (map met (take k ms)) → b ≡ true → rest_on_earlier S [] ms ≡ left_at S ms (k + 1)
 left_next S ms k m b h lt e t f = h ∙ left_split S ms k m lt e ∙ ap (λ c. c && left_at S ms (k + 1)) (sym t ∙ f)
@@ -133,14 +93,8 @@ left_next S ms k m b h lt e t f = h ∙ left_split S ms k m lt e ∙ ap (λ c. c
 pub left_not : (S : ℕ → List Atom) (ms : List ℕ) (k m : ℕ) (b : Bool) → rest_on_earlier S [] ms ≡ left_at S ms k → k < length ms → m ≡ get_or ms k m → b ≡ is_within (S m) (map met (take k ms)) → b ≡ false → false ≡ rest_on_earlier S [] ms
 left_not S ms k m b h lt e t f = sym (h ∙ left_split S ms k m lt e ∙ ap (λ c. c && left_at S ms (k + 1)) (sym t ∙ f))
 
-drop_over : (xs : List ℕ) (k : ℕ) → length xs ≤ k → drop k xs ≡ []
-drop_over [] zero h = refl
-drop_over [] (suc k) h = refl
-drop_over (x ∷ xs) zero h = absurd (omega (arith, h))
-drop_over (x ∷ xs) (suc k) h = drop_over xs k (omega (arith, h))
-
 pub left_end : (S : ℕ → List Atom) (ms : List ℕ) (k : ℕ) → rest_on_earlier S [] ms ≡ left_at S ms k → length ms ≤ k → true ≡ rest_on_earlier S [] ms
-left_end S ms k h le = sym (h ∙ ap (rest_on_earlier S (map met (take k ms))) (drop_over ms k le))
+left_end S ms k h le = sym (h ∙ ap (rest_on_earlier S (map met (take k ms))) (drop_all k ms le))
 
 -- the members of a list of numbers
 pub number_there : (xs : List ℕ) (k m : ℕ) → k < length xs → m ≡ get_or xs k m → nth xs k ≡ Some m

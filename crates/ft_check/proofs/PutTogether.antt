@@ -3,7 +3,7 @@ use Rattle.std.proofs.Common.{◌≡◌, ◌↔◌, ℕ, ◌<◌, nat_eq, Bool, 
 use Rattle.std.specs.Prelude.{is_some, option_map}
 use mathlib.Core.Path.{fun_ext}
 use lib.ListN.{length-append}
-use Rattle.std.proofs.lemmas.List.{get_or_append_left}
+use Rattle.std.proofs.lemmas.List.{append_assoc, append-nil, get_or_append_left}
 use Rattle.ft_theory.specs.Expressions.{Expression, bound, instantiate}
 use Rattle.ft_theory.specs.Small.{IsSmall}
 use Rattle.ft_theory.specs.Statements.{Statement}
@@ -17,19 +17,11 @@ use Rattle.ft_syntax.specs.declared.syntax.Arg.{Arg}
 use Rattle.ft_check.specs.Comparing.{paired}
 use Rattle.ft_check.proofs.Results.{by_equal}
 
-pub append_nil : {A : Type 0} (xs : List A) → xs ++ [] ≡ xs
-append_nil [] = refl
-append_nil (x ∷ xs) = ap (λ z. x ∷ z) (append_nil xs)
-
-append_twice : {A : Type 0} (xs ys zs : List A) → (xs ++ ys) ++ zs ≡ xs ++ (ys ++ zs)
-append_twice [] ys zs = refl
-append_twice (x ∷ xs) ys zs = ap (λ z. x ∷ z) (append_twice xs ys zs)
-
 pub goes_same : (ts us : List Expression) → us ≡ ts → Extends ts us
-goes_same ts us h = ([], h ∙ sym (append_nil ts))
+goes_same ts us h = ([], h ∙ sym (append-nil ts))
 
 pub goes_then : (ts us vs : List Expression) → Extends ts us → Extends us vs → Extends ts vs
-goes_then ts us vs x y = (x.0 ++ y.0, y.1 ∙ ap (λ z. z ++ y.0) x.1 ∙ append_twice ts x.0 y.0)
+goes_then ts us vs x y = (x.0 ++ y.0, y.1 ∙ ap (λ z. z ++ y.0) x.1 ∙ append_assoc ts x.0 y.0)
 
 pub tree_stays : (ts us : List Expression) (e : ℕ) → Extends ts us → e < length ts → tree us e ≡ tree ts e
 tree_stays ts us e x l = ap (λ ws. tree ws e) x.1 ∙ get_or_append_left ts x.0 (bound 0) e l

@@ -11,6 +11,7 @@ use Rattle.ft_items.proofs.Lists.{store_is}
 use Rattle.ft_stated.specs.First.{at_least, first_place, greatest_number, is_variable_of}
 use Rattle.ft_check.specs.Entries.{no_variable}
 use Rattle.ft_check.proofs.Before.{equal_swapped, is_not_before, none_before}
+use Rattle.ft_check.proofs.Basics.{annotated_number}
 
 -- a shown mark
 pub shown_missing : (o : Option Assertion) → None ≡ o → Some reference ≡ reason_of_shown o
@@ -58,10 +59,6 @@ pub variable_found : (b : Bool) (o : Option Assertion) (a : Assertion) (r : Opti
 variable_found b o a r t h e = e ∙ ap₂ (λ b o. unless b number (reason_of_variable o)) t h
 
 -- the numbers of the variables of a good list
-annotated_number : (x : ℕ × Name × ℕ) (o : Option Assertion) → (annotated x o).0 ≡ x.0
-annotated_number x None = refl
-annotated_number x (Some a) = refl
-
 -- the test that the greatest number, where there is one, is smaller
 abbrev pub is_below : ℕ → Option ℕ → Bool
 is_below v None = true

@@ -1,16 +1,15 @@
 -- The rules and the metavariables of a good list, by their lines.
 use Rattle.std.proofs.Common.{◌≡◌, ℕ, zero, suc, true, false, Option, Some, None, List, [], ◌∷◌, refl, sym, ap, ◌∙◌, subst, map}
 use Rattle.std.specs.Prelude.{option_map}
+use Rattle.std.proofs.lemmas.Option.{same_Some}
 use Rattle.ft_theory.specs.Rules.{Rule, rule_at}
 use Rattle.ft_items.specs.Item.{Name, Item, variable, metavariable, rule, entry, shown}
 use Rattle.ft_items.specs.Equal.{is_thesis, is_plain}
 use Rattle.ft_items.specs.Store.{Assertion, Declared, Store, declared, ruled, nth, each, entry_named, metavariable_named, add, add_all, empty_store, store_of, entries_in, metavariables_in, rules_in}
 use Rattle.ft_items.specs.Good.{AllowedRule, GoodAfter, Good}
 use Rattle.ft_items.proofs.Lists.{Before, each_before, nth_before, store_is}
+use Rattle.ft_check.proofs.Basics.{nth_map}
 use Rattle.ft_check.proofs.Standing.{none_some}
-
-some_same : {A : Type 0} (x y : A) → Some x ≡ Some y → x ≡ y
-some_same x y e = cc
 
 -- what an item has added stays
 stays_variable : (W : Store) (v : ℕ) (n : Name) (o : Option Assertion) → Before W (Rattle.ft_items.specs.Store.add_variable W v n o)
@@ -62,7 +61,7 @@ ruled_stays W X ms p n b h = record {
 rule_line_in : (W : Store) (items : List Item) (r : ℕ) (x : Name × List ℕ × ℕ) → GoodAfter W items → nth (rules_in items) r ≡ Some x → Ruled (add_all W items) x.1 x.2
 rule_line_in W [] r x g h = none_some h
 rule_line_in W (rule n ms p ∷ items) zero x g h =
-    let same : (n, ms, p) ≡ x = some_same (n, ms, p) x h in
+    let same : (n, ms, p) ≡ x = same_Some (n, ms, p) x h in
     subst (λ (y : Name × List ℕ × ℕ). Ruled (add_all W (rule n ms p ∷ items)) y.1 y.2) same (ruled_stays W (add_all W (rule n ms p ∷ items)) ms p n (stays_all W (rule n ms p ∷ items)) g.0)
 rule_line_in W (rule n ms p ∷ items) (suc r) x g h = rule_line_in (add W (rule n ms p)) items r x g.1 h
 rule_line_in W (variable v n p ∷ items) r x g h = rule_line_in (add W (variable v n p)) items r x g.1 h
@@ -82,7 +81,7 @@ pub record Bounded (X : Store) (p : ℕ) : Type 0 where
 metavariable_line_in : (W : Store) (items : List Item) (m : ℕ) (x : Name × ℕ) → GoodAfter W items → nth (metavariables_in items) m ≡ Some x → Bounded (add_all W items) x.1
 metavariable_line_in W [] m x g h = none_some h
 metavariable_line_in W (metavariable n p ∷ items) zero x g h =
-    let same : (n, p) ≡ x = some_same (n, p) x h in
+    let same : (n, p) ≡ x = same_Some (n, p) x h in
     subst (λ (y : Name × ℕ). Bounded (add_all W (metavariable n p ∷ items)) y.1) same
     (record { conclusion = g.0.0; is = (stays_all W (metavariable n p ∷ items)).entries p g.0.0 g.0.1; boundary = g.0.2 })
 metavariable_line_in W (metavariable n p ∷ items) (suc m) x g h = metavariable_line_in (add W (metavariable n p)) items m x g.1 h
@@ -95,11 +94,6 @@ pub metavariable_line : (items : List Item) (m : ℕ) (x : Name × ℕ) → Good
 metavariable_line items m x g h = metavariable_line_in empty_store items m x g h
 
 -- The rule of a line.
-nth_map : {A B : Type 0} (f : A → B) (xs : List A) (n : ℕ) → nth (map f xs) n ≡ option_map f (nth xs n)
-nth_map f [] n = refl
-nth_map f (x ∷ xs) zero = refl
-nth_map f (x ∷ xs) (suc n) = nth_map f xs n
-
 rule_at_nth : (rs : List Rule) (r : ℕ) → rule_at rs r ≡ nth rs r
 rule_at_nth [] r = refl
 rule_at_nth (R ∷ rs) zero = refl

@@ -2,7 +2,7 @@
 use Rattle.std.proofs.Common.{◌≡◌, ℕ, zero, suc, ◌+◌, ◌-◌, ◌<◌, ◌≤◌, nat_eq, Bool, true, false, cond, ◌&&◌, ◌||◌, not, Some, List, [], ◌∷◌, refl, sym, ap, ap₂, ◌∙◌, subst, length, get_or, take, drop, map, arith}
 use Rattle.std.specs.List.{list_all, list_any}
 use Rattle.std.proofs.Math.Seq.{take-length}
-use Rattle.std.proofs.lemmas.List.{length-drop}
+use Rattle.std.proofs.lemmas.List.{drop_all, drop_more, length-drop}
 use Rattle.ft_items.specs.Sets.{Atom, met, var, same_atom, has, is_within, metavariables_only}
 use Rattle.ft_items.specs.Store.{nth}
 use Rattle.ft_items.specs.Rows.{differ}
@@ -42,14 +42,9 @@ pub metavariables_all : (S : List AtomValue) (A : List Atom) → atoms_of S ≡ 
 metavariables_all S A e = metavariables_each S ∙ ap metavariables_only e
 
 -- metavariables that differ, from a place on
-drop_next : {A : Type 0} (xs : List A) (k : ℕ) (d : A) → k < length xs → drop k xs ≡ get_or xs k d ∷ drop (k + 1) xs
-drop_next [] k d h = absurd (omega (arith, h))
-drop_next (x ∷ xs) zero d h = refl
-drop_next (x ∷ xs) (suc k) d h = let e : suc k + 1 ≡ suc (k + 1) = omega arith in drop_next xs k d (omega (arith, h)) ∙ ap (λ n. get_or xs k d ∷ drop n (x ∷ xs)) (sym e)
-
 differ_split : (ms : List ℕ) (k m : ℕ) → k < length ms → m ≡ get_or ms k 0 → differ (map met (drop k ms)) ≡ (not (list_any (λ n. nat_eq m n) (drop (k + 1) ms)) && differ (map met (drop (k + 1) ms)))
 differ_split ms k m lt e =
-    ap (λ X. differ (map met X)) (drop_next ms k 0 lt ∙ ap (λ n. n ∷ drop (k + 1) ms) (sym e))
+    ap (λ X. differ (map met X)) (drop_more ms k 0 lt ∙ ap (λ n. n ∷ drop (k + 1) ms) (sym e))
     ∙ ap (λ b. not b && differ (map met (drop (k + 1) ms))) (sym (has_any (met m) (drop (k + 1) ms)))
 
 pub differ_next : (ms : List ℕ) (k m : ℕ) (b : Bool) → differ (map met ms) ≡ differ (map met (drop k ms)) → k < length ms → m ≡ get_or ms k 0 → b ≡ list_any (λ n. nat_eq m n) (drop (k + 1) ms) → b ≡ false → differ (map met ms) ≡ differ (map met (drop (k + 1) ms))
@@ -58,14 +53,8 @@ differ_next ms k m b h lt e t f = h ∙ differ_split ms k m lt e ∙ ap (λ c. n
 pub differ_not : (ms : List ℕ) (k m : ℕ) (b : Bool) → differ (map met ms) ≡ differ (map met (drop k ms)) → k < length ms → m ≡ get_or ms k 0 → b ≡ list_any (λ n. nat_eq m n) (drop (k + 1) ms) → b ≡ true → false ≡ differ (map met ms)
 differ_not ms k m b h lt e t f = sym (h ∙ differ_split ms k m lt e ∙ ap (λ c. not c && differ (map met (drop (k + 1) ms))) (sym t ∙ f))
 
-drop_over : {A : Type 0} (xs : List A) (k : ℕ) → length xs ≤ k → drop k xs ≡ []
-drop_over [] zero h = refl
-drop_over [] (suc k) h = refl
-drop_over (x ∷ xs) zero h = absurd (omega (arith, h))
-drop_over (x ∷ xs) (suc k) h = drop_over xs k (omega (arith, h))
-
 pub differ_end : (ms : List ℕ) (k : ℕ) → differ (map met ms) ≡ differ (map met (drop k ms)) → length ms ≤ k → true ≡ differ (map met ms)
-differ_end ms k h le = sym (h ∙ ap (λ X. differ (map met X)) (drop_over ms k le))
+differ_end ms k h le = sym (h ∙ ap (λ X. differ (map met X)) (drop_all k ms le))
 
 pub range_from : (xs : List ℕ) (at : ℕ) → take (length xs - at) (drop at xs) ≡ drop at xs
 range_from xs at = ap (λ n. take n (drop at xs)) (sym (length-drop at xs)) ∙ take-length (drop at xs)

@@ -10,6 +10,7 @@ use Rattle.ft_items.specs.Good.{Good, all_theses}
 use Rattle.ft_items.proofs.Lists.{store_is}
 use Rattle.ft_check.specs.Entries.{no_variable}
 use Rattle.ft_check.specs.Kinds.{both, also, variable_there, metavariable_there, rule_there}
+use Rattle.ft_check.proofs.Basics.{annotated_number, nth_map}
 use Rattle.ft_check.proofs.Naming.{rules_many}
 
 -- Tests of what is there, one thing or more.
@@ -65,10 +66,6 @@ there_map : {A B : Type 0} (f : A → B) (o : Option A) → option_map (λ x. tr
 there_map f None = refl
 there_map f (Some x) = refl
 
-annotated_number : (x : ℕ × Name × ℕ) (o : Option Assertion) → (annotated x o).0 ≡ x.0
-annotated_number x None = refl
-annotated_number x (Some a) = refl
-
 variables_look : (f : ℕ × Name × ℕ → Option Assertion) (v : ℕ) (xs : List (ℕ × Name × ℕ)) → option_map (λ d. true) (look_up (map (λ (x : ℕ × Name × ℕ). annotated x (f x)) xs) v) ≡ cond (no_variable v xs) None (Some true)
 variables_look f v [] = refl
 variables_look f v (x ∷ xs) =
@@ -85,11 +82,6 @@ variable_is items v g =
     sym (there_map (λ d. (v, d)) (look_up (store_of items).variables v)
     ∙ ap (λ G. option_map (λ d. true) (look_up G v)) (store_is items g).variables
     ∙ variables_look (λ x. nth (entries_in items) x.2) v (variables_in items))
-
-nth_map : {A B : Type 0} (f : A → B) (xs : List A) (n : ℕ) → nth (map f xs) n ≡ option_map f (nth xs n)
-nth_map f [] n = refl
-nth_map f (x ∷ xs) zero = refl
-nth_map f (x ∷ xs) (suc n) = nth_map f xs n
 
 pub metavariable_is : (items : List Item) (m : ℕ) (o : Option ℕ) → Good items → o ≡ option_map (λ (d : Name × ℕ). d.1) (nth (metavariables_in items) m) → option_map (λ p. true) o ≡ metavariable_there (store_of items) m
 metavariable_is items m o g e =

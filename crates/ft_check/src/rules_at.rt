@@ -130,11 +130,11 @@ pub fn check_applied_with(
         → each (entry_named (store_of (take i items.now.items))) ps.now ≡ Some given → all_theses given ≡ true
         → IfOk result (λ x. option_map reason_of x ≡ reason_of_result (rule_instance_with R.0 R.1 a.statement (statements given)) (union a.set (unions (sets given))) (with_step (entry_in items.now.trees found.entry) t)) }
 {
-    match entry_before(items, i, b) {
-        None => Ok(Some(Reject::Premise)),
-        Some(bound) => match rule_at_hand(items, i, r) {
-            None => Ok(Some(Reject::Premise)),
-            Some(rule) => check_at_with(alloc, items, i, found, &rule, bound, ps.items()),
-        },
-    }
+    let Some(bound) = entry_before(items, i, b) else {
+        return Ok(Some(Reject::Premise));
+    };
+    let Some(rule) = rule_at_hand(items, i, r) else {
+        return Ok(Some(Reject::Premise));
+    };
+    check_at_with(alloc, items, i, found, &rule, bound, ps.items())
 }

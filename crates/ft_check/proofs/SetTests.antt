@@ -1,8 +1,7 @@
 -- Tests of sets and of lists, item by item.
-use Rattle.std.proofs.Common.{◌≡◌, ℕ, zero, suc, ◌+◌, ◌-◌, ◌<◌, ◌≤◌, nat_eq, Bool, true, false, cond, ◌&&◌, ◌||◌, not, Some, List, [], ◌∷◌, refl, sym, ap, ap₂, ◌∙◌, subst, length, get_or, take, drop, map, arith}
+use Rattle.std.proofs.Common.{◌≡◌, ℕ, zero, suc, ◌+◌, ◌<◌, ◌≤◌, nat_eq, Bool, true, false, cond, ◌&&◌, ◌||◌, not, Some, List, [], ◌∷◌, refl, sym, ap, ap₂, ◌∙◌, subst, length, get_or, take, drop, map, arith}
 use Rattle.std.specs.List.{list_all, list_any}
-use Rattle.std.proofs.Math.Seq.{take-length}
-use Rattle.std.proofs.lemmas.List.{drop_all, drop_more, length-drop}
+use Rattle.std.proofs.lemmas.List.{drop_all, drop_more}
 use Rattle.ft_items.specs.Sets.{Atom, met, var, same_atom, has, is_within, metavariables_only}
 use Rattle.ft_items.specs.Store.{nth}
 use Rattle.ft_items.specs.Rows.{differ}
@@ -55,6 +54,3 @@ differ_not ms k m b h lt e t f = sym (h ∙ differ_split ms k m lt e ∙ ap (λ 
 
 pub differ_end : (ms : List ℕ) (k : ℕ) → differ (map met ms) ≡ differ (map met (drop k ms)) → length ms ≤ k → true ≡ differ (map met ms)
 differ_end ms k h le = sym (h ∙ ap (λ X. differ (map met X)) (drop_all k ms le))
-
-pub range_from : (xs : List ℕ) (at : ℕ) → take (length xs - at) (drop at xs) ≡ drop at xs
-range_from xs at = ap (λ n. take n (drop at xs)) (sym (length-drop at xs)) ∙ take-length (drop at xs)

@@ -18,6 +18,10 @@ mod lines;
 mod list;
 #[cfg(test)]
 mod list_tests;
+#[cfg(test)]
+mod loose_tests;
+#[cfg(test)]
+mod many_tests;
 mod metavariables;
 mod named;
 mod reject;

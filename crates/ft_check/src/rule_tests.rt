@@ -17,7 +17,7 @@ use ft_syntax::{Arg, E, Terms};
 use std::alloc::Global;
 use std::test::Fail;
 
-fn type_boundary(alloc: Global) -> Stated
+pub fn type_boundary(alloc: Global) -> Stated
     ensures { (n : ℕ) → StatedBelow n result }
 {
     let boundary = Boundary {
@@ -27,14 +27,14 @@ fn type_boundary(alloc: Global) -> Stated
     Stated::Boundary(boundary, Assume::new(alloc), StatedStep::Btype)
 }
 
-fn rule(alloc: Global, text: &str, conclusion: u64) -> Result<Stated, Fail>
+pub fn rule(alloc: Global, text: &str, conclusion: u64) -> Result<Stated, Fail>
     ensures { IfOk result (λ x. (n : ℕ) → StatedBelow n x) }
 {
     let name = Name::new(alloc, text)?.ok_or("no name")?;
     Ok(Stated::Rule(name, Numbers::new(alloc), conclusion))
 }
 
-fn type_thesis(alloc: Global, nat: E) -> Stated
+pub fn type_thesis(alloc: Global, nat: E) -> Stated
     ensures { (n : ℕ) → nat < n → StatedBelow n result }
 {
     let thesis = Thesis {
@@ -162,7 +162,7 @@ fn a_rule_concludes_its_symbol_with_the_set_of_its_arguments(rt: HostRuntime) ->
     Ok(())
 }
 
-fn numbers(alloc: Global, list: &[u64]) -> Result<Numbers, Fail> {
+pub fn numbers(alloc: Global, list: &[u64]) -> Result<Numbers, Fail> {
     let mut numbers = Numbers::new(alloc);
     for n in list {
         numbers.push(*n)?;

@@ -27,7 +27,7 @@ fn type_boundary(alloc: Global) -> Stated
     Stated::Boundary(boundary, Assume::new(alloc), StatedStep::Btype)
 }
 
-fn name(alloc: Global, text: &str) -> Result<Name, Fail> {
+pub fn name(alloc: Global, text: &str) -> Result<Name, Fail> {
     Ok(Name::new(alloc, text)?.ok_or("no name")?)
 }
 

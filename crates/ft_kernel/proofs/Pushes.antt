@@ -154,6 +154,12 @@ push_rule ts ls ls' es ms rs rs' vs ns ns' next n k m x h is_ls is_rs at number 
     many : n ≡ length (rule_names (items_in ts ls))
     many = number ∙ ap length h.rules_are ∙ places_rules ts 0 ls ∙ sym (length-map (rules_in (items_in ts ls)) (λ (x : Name × List ℕ × ℕ). x.0))
 
+-- a kernel whose pushes were undone
+pub undone : (ts : List Expression) (ls ls' : List Line) (es ms rs rs' : List ℕ) (vs : List (ℕ × ℕ)) (ns ns' : List (Name × ℕ)) (next : ℕ) → IsKernel ts ls es ms rs vs ns next → ls' ≡ ls → rs' ≡ rs → ns' ≡ ns
+    → IsKernel ts ls' es ms rs' vs ns' next
+undone ts ls ls' es ms rs rs' vs ns ns' next h l r n =
+    subst (λ ls. IsKernel ts ls es ms rs' vs ns' next) (sym l) (subst (λ rs. IsKernel ts ls es ms rs vs ns' next) (sym r) (subst (λ ns. IsKernel ts ls es ms rs vs ns next) (sym n) h))
+
 pub push_shown : (ts : List Expression) (ls ls' : List Line) (es ms rs : List ℕ) (vs : List (ℕ × ℕ)) (ns : List (Name × ℕ)) (next : ℕ) (n j : ℕ) → IsKernel ts ls es ms rs vs ns next
     → ls' ≡ ls ++ record { number = n; content = Shown j } ∷ [] → Allowed (items_in ts ls) (shown j) → IsKernel ts ls' es ms rs vs ns next
 push_shown ts ls ls' es ms rs vs ns next n j h is_ls allowed =

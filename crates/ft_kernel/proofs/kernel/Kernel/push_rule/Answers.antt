@@ -1,10 +1,11 @@
-use Rattle.std.proofs.Common.{rules, ◌≡◌, ◌∙◌, ap, sym, subst, length}
+use Rattle.std.proofs.Common.{rules, arith, ◌≡◌, ◌∙◌, refl, ap, sym, subst, length}
+use Rattle.std.proofs.lemmas.Grind.{common_steps}
 use Rattle.ft_items.specs.Good.{Allowed}
 use Rattle.ft_items.specs.Item.{rule}
 use Rattle.ft_items.specs.Store.{rules_in}
 use Rattle.ft_kernel.specs.State.{State}
 use Rattle.ft_kernel.proofs.Grows.{places_rules}
-use Rattle.ft_kernel.proofs.Pushes.{push_rule}
+use Rattle.ft_kernel.proofs.Pushes.{push_rule, undone}
 use Rattle.ft_kernel.proofs.kernel.Kernel.push_rule.Goals as goal
 
 pub invariant_of-self-in_default-insert : goal.invariant_of-self-in_default-insert
@@ -19,3 +20,16 @@ returns-clause-number c =
     let number : c.len-number.result ≡ length c.self.inside.rules.items = search rules in
     c.at.ensures ∙ number ∙ ap length c.self.invariant.rules_are ∙ places_rules c.self.inside.terms 0 c.self.inside.lines.items
     ∙ ap (λ (s : State). length (rules_in s.items)) c.self.view_is
+
+pub invariant_of-self-in-Err : goal.invariant_of-self-in-Err
+invariant_of-self-in-Err c =
+    let lines : c.push-2.new.self.items ≡ c.self.inside.lines.items = search rules in
+    let rules_undone : c.pop.new.self.items ≡ c.self.inside.rules.items = grind (arith, common_steps) in
+    undone _ _ _ _ _ _ _ _ _ _ _ c.self.invariant lines rules_undone refl
+
+pub invariant_of-self-in-Err-insert : goal.invariant_of-self-in-Err-insert
+invariant_of-self-in-Err-insert c =
+    let lines : c.pop-in-Err-insert.new.self.items ≡ c.self.inside.lines.items = grind (arith, common_steps) in
+    let rules_undone : c.pop-in-Err-insert-2.new.self.items ≡ c.self.inside.rules.items = grind (arith, common_steps) in
+    let names : c.insert.new.self.entries ≡ c.self.inside.names.entries = search rules in
+    undone _ _ _ _ _ _ _ _ _ _ _ c.self.invariant lines rules_undone names

@@ -1,10 +1,41 @@
 -- Good lists item by item, and the store of a good list in terms of the list's own items.
-use Rattle.std.proofs.Common.{◌≡◌, ℕ, zero, suc, Option, Some, None, List, [], ◌∷◌, ◌++◌, refl, sym, ap, ap₂, ◌∙◌, append_assoc, append-nil}
+use Rattle.std.proofs.Common.{◌≡◌, ℕ, zero, suc, ◌<◌, ◌≤◌, length, get_or, arith, Option, Some, None, List, [], ◌∷◌, ◌++◌, refl, sym, ap, ap₂, ◌∙◌, append_assoc, append-nil}
 use Rattle.std.specs.Prelude.{map, option_map, option_and_then}
+use Rattle.ft_common.proofs.Options.{none_some}
 use Rattle.ft_theory.specs.Rules.{Rule}
 use Rattle.ft_items.specs.Item.{Name, Item, variable, metavariable, rule, entry, shown}
 use Rattle.ft_items.specs.Store.{Assertion, Annotation, Declared, Store, nth, each, entry_named, metavariable_named, add_variable, add_metavariable, add_rule, add, add_all, empty_store, store_of, entries_in, variables_in, metavariables_in, rules_in, annotated, declared, ruled}
 use Rattle.ft_items.specs.Good.{AllowedIn, GoodAfter, Good}
+
+-- what stands at a place of a list
+pub nth_before : {A : Type 0} (xs ys : List A) (n : ℕ) (x : A) → nth xs n ≡ Some x → nth (xs ++ ys) n ≡ Some x
+nth_before [] ys n x e = none_some e
+nth_before (y ∷ xs) ys zero x e = e
+nth_before (y ∷ xs) ys (suc n) x e = nth_before xs ys n x e
+
+pub nth_within : {A : Type 0} (xs : List A) (n : ℕ) (x : A) → nth xs n ≡ Some x → n < length xs
+nth_within [] n x h = none_some h
+nth_within (y ∷ xs) zero x h = omega arith
+nth_within (y ∷ xs) (suc n) x h = omega (arith, nth_within xs n x h)
+
+pub nth_there : {A : Type 0} (xs : List A) (n : ℕ) (d : A) → n < length xs → nth xs n ≡ Some (get_or xs n d)
+nth_there [] n d h = absurd (omega (arith, h))
+nth_there (y ∷ xs) zero d h = refl
+nth_there (y ∷ xs) (suc n) d h = nth_there xs n d (omega (arith, h))
+
+pub nth_found : {A : Type 0} (xs : List A) (n : ℕ) → n < length xs → (x : A) × (nth xs n ≡ Some x)
+nth_found [] n h = absurd (omega (arith, h))
+nth_found (y ∷ xs) zero h = (y, refl)
+nth_found (y ∷ xs) (suc n) h = nth_found xs n (omega (arith, h))
+
+pub nth_past : {A : Type 0} (xs : List A) (n : ℕ) → length xs ≤ n → nth xs n ≡ None
+nth_past [] n h = refl
+nth_past (y ∷ xs) zero h = absurd (omega (arith, h))
+nth_past (y ∷ xs) (suc n) h = nth_past xs n (omega (arith, h))
+
+pub nth_end : {A : Type 0} (xs : List A) (x : A) → nth (xs ++ x ∷ []) (length xs) ≡ Some x
+nth_end [] x = refl
+nth_end (y ∷ xs) x = nth_end xs x
 
 -- a list and one more item
 pub store_last : (W : Store) (items : List Item) (i : Item) → add_all W (items ++ (i ∷ [])) ≡ add (add_all W items) i
@@ -46,17 +77,6 @@ pub record Before (W X : Store) : Type 0 where
   pub entries : (p : ℕ) (a : Assertion) → nth W.entries p ≡ Some a → nth X.entries p ≡ Some a
   pub metavariables : (m : ℕ) (d : Declared) → nth W.metavariables m ≡ Some d → nth X.metavariables m ≡ Some d
 
-none_some : {A : Type 0} {x : A} {P : Type 0} → None ≡ Some x → P
-none_some {A} {x} e = absurd (clash e)
-  where
-    clash : None ≡ Some x → ⊥
-    clash e = cc
-
-pub nth_before : {A : Type 0} (xs ys : List A) (n : ℕ) (x : A) → nth xs n ≡ Some x → nth (xs ++ ys) n ≡ Some x
-nth_before [] ys n x e = none_some e
-nth_before (y ∷ xs) ys zero x e = e
-nth_before (y ∷ xs) ys (suc n) x e = nth_before xs ys n x e
-
 before_variable : (W : Store) (v : ℕ) (n : Name) (o : Option Assertion) → Before W (add_variable W v n o)
 before_variable W v n None = record { entries = λ p a q. q; metavariables = λ m d q. q }
 before_variable W v n (Some a) = record { entries = λ p a q. q; metavariables = λ m d q. q }
@@ -70,7 +90,7 @@ before_rule W n None o = record { entries = λ p a q. q; metavariables = λ m d 
 before_rule W n (Some ds) None = record { entries = λ p a q. q; metavariables = λ m d q. q }
 before_rule W n (Some ds) (Some a) = record { entries = λ p a q. q; metavariables = λ m d q. q }
 
-before_add : (W : Store) (i : Item) → Before W (add W i)
+pub before_add : (W : Store) (i : Item) → Before W (add W i)
 before_add W (variable v n p) = before_variable W v n (entry_named W p)
 before_add W (metavariable n p) = before_metavariable W n (entry_named W p)
 before_add W (rule n ms p) = before_rule W n (each (metavariable_named W) ms) (entry_named W p)
@@ -80,7 +100,7 @@ before_add W (shown p) = record { entries = λ p a q. q; metavariables = λ m d 
 before_then : (W X Y : Store) → Before W X → Before X Y → Before W Y
 before_then W X Y f g = record { entries = λ p a q. g.entries p a (f.entries p a q); metavariables = λ m d q. g.metavariables m d (f.metavariables m d q) }
 
-before_all : (W : Store) (items : List Item) → Before W (add_all W items)
+pub before_all : (W : Store) (items : List Item) → Before W (add_all W items)
 before_all W [] = record { entries = λ p a q. q; metavariables = λ m d q. q }
 before_all W (i ∷ items) = before_then W (add W i) (add_all (add W i) items) (before_add W i) (before_all (add W i) items)
 
@@ -98,6 +118,27 @@ each_before W X b (m ∷ ms) ds e = go (nth W.metavariables m) refl (each (metav
         ap (λ o. option_and_then (λ d. option_map (λ ds. d ∷ ds) (each (metavariable_named X) ms)) (option_map (λ d. (m, d)) o)) (b.metavariables m d q)
         ∙ ap (option_map (λ ds. (m, d) ∷ ds)) (ih as' r)
         ∙ e
+
+pub annotated_number : (x : ℕ × Name × ℕ) (o : Option Assertion) → (annotated x o).0 ≡ x.0
+annotated_number x None = refl
+annotated_number x (Some a) = refl
+
+-- what the items of two lists, one after the other, add
+pub entries_append : (xs ys : List Item) → entries_in (xs ++ ys) ≡ entries_in xs ++ entries_in ys
+entries_append [] ys = refl
+entries_append (variable v n p ∷ xs) ys = entries_append xs ys
+entries_append (metavariable n p ∷ xs) ys = entries_append xs ys
+entries_append (rule n ms p ∷ xs) ys = entries_append xs ys
+entries_append (entry e ∷ xs) ys = ap (λ es. record { statement = e.statement; set = e.set } ∷ es) (entries_append xs ys)
+entries_append (shown p ∷ xs) ys = entries_append xs ys
+
+pub metavariables_append : (xs ys : List Item) → metavariables_in (xs ++ ys) ≡ metavariables_in xs ++ metavariables_in ys
+metavariables_append [] ys = refl
+metavariables_append (variable v n p ∷ xs) ys = metavariables_append xs ys
+metavariables_append (metavariable n p ∷ xs) ys = ap (λ ms. (n, p) ∷ ms) (metavariables_append xs ys)
+metavariables_append (rule n ms p ∷ xs) ys = metavariables_append xs ys
+metavariables_append (entry e ∷ xs) ys = metavariables_append xs ys
+metavariables_append (shown p ∷ xs) ys = metavariables_append xs ys
 
 -- one more in front of what the rest adds
 moved_in : {A : Type 0} (xs ys zs rest : List A) (x : A) → zs ≡ xs ++ (x ∷ []) → ys ≡ zs ++ rest → ys ≡ xs ++ (x ∷ rest)
@@ -136,11 +177,11 @@ variables_all W X (shown p ∷ items) g b = variables_all W X items g.1 b
 abbrev declared_in : Store → Name × ℕ → Declared
 declared_in X x = declared x (nth X.entries x.1)
 
-variable_metavariables : (W : Store) (v : ℕ) (n : Name) (o : Option Assertion) → (add_variable W v n o).metavariables ≡ W.metavariables
+pub variable_metavariables : (W : Store) (v : ℕ) (n : Name) (o : Option Assertion) → (add_variable W v n o).metavariables ≡ W.metavariables
 variable_metavariables W v n None = refl
 variable_metavariables W v n (Some a) = refl
 
-rule_metavariables : (W : Store) (n : Name) (os : Option (List (ℕ × Declared))) (o : Option Assertion) → (add_rule W n os o).metavariables ≡ W.metavariables
+pub rule_metavariables : (W : Store) (n : Name) (os : Option (List (ℕ × Declared))) (o : Option Assertion) → (add_rule W n os o).metavariables ≡ W.metavariables
 rule_metavariables W n None o = refl
 rule_metavariables W n (Some ds) None = refl
 rule_metavariables W n (Some ds) (Some a) = refl

@@ -12,7 +12,7 @@ use Rattle.ft_items.specs.Sets.{Atom, met, var, is_within}
 use Rattle.ft_items.specs.Equal.{equal_expressions, equal_statements, is_thesis, is_object_goal, is_object, has_head, fits, heads, start_all, right_heads, typed, paired}
 use Rattle.ft_items.specs.Item.{by_var, by_generic, by_meta, by_metacong, by_abs, by_subst, by_substeq, by_refl, by_sym, by_trans, by_conv, by_conveq, by_left, by_right, by_typeof, by_domain, by_boundary, by_widen, by_btype, by_bterm, by_beqty, by_beqtm, by_rule, by_rulewith, by_inst, by_cong, by_convprem, by_convback, by_arg, by_natural, by_metainst}
 use Rattle.ft_items.specs.Store.{Assertion, Annotation, Declared, Store, Resolved, premises_of}
-use Rattle.ft_items.specs.Rows.{when, statements, bounds, applied_meta, meta_congruence, rests_on, depends, substitution, equal_substitution, symmetry, transitivity, conversion, equation_conversion, left_side, right_side, type_part, under_domains, first_domain, term_boundary, type_equation_boundary, term_equation_boundary, at_arguments, are_arguments, rule_instance, rule_instance_with, first_premises, later_premises, boundary_instance, congruence_of, moved, arguments_of, from_one, argument, natural_type, natural, atoms, differ, on_earlier, instantiated, conclusion, theses, boundaries}
+use Rattle.ft_items.specs.Rows.{when, statements, bounds, applied_meta, meta_congruence, rests_on, depends, substitution, equal_substitution, symmetry, transitivity, conversion, equation_conversion, left_side, right_side, type_part, under_domains, first_domain, term_boundary, type_equation_boundary, term_equation_boundary, at_arguments, are_arguments, rule_instance, rule_instance_with, first_premises, later_premises, boundary_instance, congruence_of, moved_argument, arguments_of, from_one, argument, natural_type, natural, atoms, differ, on_earlier, instantiated, conclusion, theses, boundaries}
 use Rattle.ft_items.specs.Good.{all_theses, all_boundaries, of_kind}
 use Rattle.ft_reference.specs.Refusals.{DependentVariable, forms_statement, forms_result, none_check, expressions}
 use Rattle.ft_reference.specs.Compare.{fit_checks, boundary_checks, term_checks, pair_checks}
@@ -171,7 +171,7 @@ guarded false c x = refl
 
 moved_asked : (R : Rule) (xs es : List Statement) (a c : Arguments) (y : Statement) → Theses xs → is_thesis y ≡ true
     → asked (before_premise_checks R xs es ++ moved_checks (first_premises R xs) a c (later_premises R xs) y)
-    ≡ is_some (cond (are_arguments (first_premises R xs) xs && start_all xs es) (moved (first_premises R xs) a c (later_premises R xs) y) None)
+    ≡ is_some (cond (are_arguments (first_premises R xs) xs && start_all xs es) (moved_argument (first_premises R xs) a c (later_premises R xs) y) None)
 moved_asked R xs es a c y h k = go (later_premises R xs) (next_there xs R.premises)
   where
     ps : List (ℕ × Statement)
@@ -180,7 +180,7 @@ moved_asked R xs es a c y h k = go (later_premises R xs) (next_there xs R.premis
     B : Bool
     B = are_arguments ps xs && start_all xs es
 
-    go : (qs : List (ℕ × Statement)) → nat_lt (length xs) (length R.premises) ≡ is_cons qs → asked (before_premise_checks R xs es ++ moved_checks ps a c qs y) ≡ is_some (cond B (moved ps a c qs y) None)
+    go : (qs : List (ℕ × Statement)) → nat_lt (length xs) (length R.premises) ≡ is_cons qs → asked (before_premise_checks R xs es ++ moved_checks ps a c qs y) ≡ is_some (cond B (moved_argument ps a c qs y) None)
     go [] e =
         asked_append (before_premise_checks R xs es) []
         ∙ ap (λ z. (z && asked (first_argument_checks R xs ++ all_equation_checks xs es)) && true) e

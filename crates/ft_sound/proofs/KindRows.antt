@@ -230,7 +230,7 @@ natural_kind W (plain (has_type t A)) y e = go (row.natural_type W t) e
     go (Some N) e = subst Thesis (same_Some (plain (equal_types N A)) y e) refl
 natural_kind W x y e = none_some e
 
-moved_kind : (ps : List (ℕ × Statement)) (a c : Arguments) (later : List (ℕ × Statement)) (x y : Statement) → row.moved ps a c later x ≡ Some y → Thesis y
+moved_kind : (ps : List (ℕ × Statement)) (a c : Arguments) (later : List (ℕ × Statement)) (x y : Statement) → row.moved_argument ps a c later x ≡ Some y → Thesis y
 moved_kind ps a c [] x y e = none_some e
 moved_kind ps a c (q ∷ qs) x y e = from_when Thesis (fits x (row.at_arguments ps a q.1)) (fill (row.at_arguments ps c q.1) (head x)) y e (λ h. fill_kind (row.at_arguments ps c q.1) (head x))
 
@@ -287,9 +287,9 @@ conclusion_kind W F (by_cong r ps es) h k y e =
     (λ t. equate_claim_kind c l s (object_goal-map r.1.conclusion (act free (instance_of r.1.premises (heads (statements ps))))
     (object_claim_true r.1.conclusion (and_parts (is_object_goal r.1.conclusion) (row.are_arguments r.1.premises (statements ps)) (and_parts (is_object_goal r.1.conclusion && row.are_arguments r.1.premises (statements ps)) (start_all (statements ps) (statements es)) t).0).0)))
 conclusion_kind W F (by_convprem r ps es q) h k y e = moved_kind (row.first_premises r.1 (statements ps)) (heads (statements ps)) (right_heads (statements ps) (statements es)) (row.later_premises r.1 (statements ps)) q.statement y
-    (cond_kind (row.are_arguments (row.first_premises r.1 (statements ps)) (statements ps) && start_all (statements ps) (statements es)) (row.moved (row.first_premises r.1 (statements ps)) (heads (statements ps)) (right_heads (statements ps) (statements es)) (row.later_premises r.1 (statements ps)) q.statement) y e)
+    (cond_kind (row.are_arguments (row.first_premises r.1 (statements ps)) (statements ps) && start_all (statements ps) (statements es)) (row.moved_argument (row.first_premises r.1 (statements ps)) (heads (statements ps)) (right_heads (statements ps) (statements es)) (row.later_premises r.1 (statements ps)) q.statement) y e)
 conclusion_kind W F (by_convback r ps es q) h k y e = moved_kind (row.first_premises r.1 (statements ps)) (right_heads (statements ps) (statements es)) (heads (statements ps)) (row.later_premises r.1 (statements ps)) q.statement y
-    (cond_kind (row.are_arguments (row.first_premises r.1 (statements ps)) (statements ps) && start_all (statements ps) (statements es)) (row.moved (row.first_premises r.1 (statements ps)) (right_heads (statements ps) (statements es)) (heads (statements ps)) (row.later_premises r.1 (statements ps)) q.statement) y e)
+    (cond_kind (row.are_arguments (row.first_premises r.1 (statements ps)) (statements ps) && start_all (statements ps) (statements es)) (row.moved_argument (row.first_premises r.1 (statements ps)) (right_heads (statements ps) (statements es)) (heads (statements ps)) (row.later_premises r.1 (statements ps)) q.statement) y e)
 conclusion_kind W F (by_arg i p) h k y e = argument_kind W i p.statement y e
 conclusion_kind W F (by_natural p) h k y e = natural_kind W p.statement y e
 conclusion_kind W F (by_metainst p ms qs) h k y e = from_when (λ z. is_thesis z ≡ is_thesis p.statement) (((row.differ (row.atoms ms) && row.on_earlier [] ms) && Rattle.ft_items.specs.Sets.is_within p.set (row.atoms ms)) && row.are_arguments (premises_of ms) (statements qs)) (row.at_arguments (premises_of ms) (heads (statements qs)) p.statement) y e (λ t. map_kind p.statement (λ l. act free (instance_of (premises_of ms) (heads (statements qs)))) zero)

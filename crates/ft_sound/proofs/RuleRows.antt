@@ -78,10 +78,10 @@ module _ (T : List Rule) (so : Sound T) (M : List (ℕ × Statement)) (G : List 
   pub do_premise_conversion : (xs es : List Statement) (x y : Statement) → row.premise_conversion R xs es x ≡ Some y → Trees (Step T) (sequents M G xs) → Trees (Step T) (sequents M G es) → Prim T M G x → Prim T M G y
   do_premise_conversion xs es x y e ts us p = by_bool (Prim T M G y) (row.are_arguments (row.first_premises R xs) xs && start_all xs es)
       (λ t. go (row.first_premises R xs) (row.later_premises R xs) (take-append-drop (length xs) R.premises) (and_parts (row.are_arguments (row.first_premises R xs) xs) (start_all xs es) t).0 (and_parts (row.are_arguments (row.first_premises R xs) xs) (start_all xs es) t).1
-      (ap (λ b. cond b (row.moved (row.first_premises R xs) (heads xs) (right_heads xs es) (row.later_premises R xs) x) None) (sym t) ∙ e))
-      (λ t. none_some (ap (λ b. cond b (row.moved (row.first_premises R xs) (heads xs) (right_heads xs es) (row.later_premises R xs) x) None) (sym t) ∙ e))
+      (ap (λ b. cond b (row.moved_argument (row.first_premises R xs) (heads xs) (right_heads xs es) (row.later_premises R xs) x) None) (sym t) ∙ e))
+      (λ t. none_some (ap (λ b. cond b (row.moved_argument (row.first_premises R xs) (heads xs) (right_heads xs es) (row.later_premises R xs) x) None) (sym t) ∙ e))
     where
-      go : (ps later : List (ℕ × Statement)) → ps ++ later ≡ R.premises → row.are_arguments ps xs ≡ true → start_all xs es ≡ true → row.moved ps (heads xs) (right_heads xs es) later x ≡ Some y → Prim T M G y
+      go : (ps later : List (ℕ × Statement)) → ps ++ later ≡ R.premises → row.are_arguments ps xs ≡ true → start_all xs es ≡ true → row.moved_argument ps (heads xs) (right_heads xs es) later x ≡ Some y → Prim T M G y
       go ps [] w h k e = none_some e
       go ps (n ∷ later) w h k e = from_when (Prim T M G) (fits x (row.at_arguments ps (heads xs) n.1)) (fill (row.at_arguments ps (right_heads xs es) n.1) (head x)) y e (λ f.
           admissible T so 6 (sequent M G (fill (act_statement free (instance_of ps (heads xs)) n.1) (head x)) ∷ sequents M G (filled_premises (instance_of ps (heads xs)) ps (heads xs) ++ equated_premises (instance_of ps (heads xs)) ps (heads xs) (right_heads xs es)))
@@ -92,10 +92,10 @@ module _ (T : List Rule) (so : Sound T) (M : List (ℕ × Statement)) (G : List 
   pub do_premise_conversion_back : (xs es : List Statement) (x y : Statement) → row.premise_conversion_back R xs es x ≡ Some y → Trees (Step T) (sequents M G xs) → Trees (Step T) (sequents M G es) → Prim T M G x → Prim T M G y
   do_premise_conversion_back xs es x y e ts us p = by_bool (Prim T M G y) (row.are_arguments (row.first_premises R xs) xs && start_all xs es)
       (λ t. go (row.first_premises R xs) (row.later_premises R xs) (take-append-drop (length xs) R.premises) (and_parts (row.are_arguments (row.first_premises R xs) xs) (start_all xs es) t).0 (and_parts (row.are_arguments (row.first_premises R xs) xs) (start_all xs es) t).1
-      (ap (λ b. cond b (row.moved (row.first_premises R xs) (right_heads xs es) (heads xs) (row.later_premises R xs) x) None) (sym t) ∙ e))
-      (λ t. none_some (ap (λ b. cond b (row.moved (row.first_premises R xs) (right_heads xs es) (heads xs) (row.later_premises R xs) x) None) (sym t) ∙ e))
+      (ap (λ b. cond b (row.moved_argument (row.first_premises R xs) (right_heads xs es) (heads xs) (row.later_premises R xs) x) None) (sym t) ∙ e))
+      (λ t. none_some (ap (λ b. cond b (row.moved_argument (row.first_premises R xs) (right_heads xs es) (heads xs) (row.later_premises R xs) x) None) (sym t) ∙ e))
     where
-      go : (ps later : List (ℕ × Statement)) → ps ++ later ≡ R.premises → row.are_arguments ps xs ≡ true → start_all xs es ≡ true → row.moved ps (right_heads xs es) (heads xs) later x ≡ Some y → Prim T M G y
+      go : (ps later : List (ℕ × Statement)) → ps ++ later ≡ R.premises → row.are_arguments ps xs ≡ true → start_all xs es ≡ true → row.moved_argument ps (right_heads xs es) (heads xs) later x ≡ Some y → Prim T M G y
       go ps [] w h k e = none_some e
       go ps (n ∷ later) w h k e = from_when (Prim T M G) (fits x (row.at_arguments ps (right_heads xs es) n.1)) (fill (row.at_arguments ps (heads xs) n.1) (head x)) y e (λ f.
           admissible T so 6 (sequent M G (fill (act_statement free (instance_of ps (right_heads xs es)) n.1) (head x)) ∷ sequents M G (filled_premises (instance_of ps (heads xs)) ps (heads xs) ++ equated_premises (instance_of ps (heads xs)) ps (heads xs) (right_heads xs es)))

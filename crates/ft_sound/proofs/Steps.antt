@@ -10,7 +10,7 @@ use Rattle.ft_theory.specs.Steps.{sequents, Step, Trees, Prim}
 use Rattle.ft_laws.proofs.Steps.{do_for_type}
 use Rattle.ft_items.specs.Sets.{Atom, union, unions, Within}
 use Rattle.ft_items.specs.Item.{by_var, by_generic, by_meta, by_metacong, by_abs, by_subst, by_substeq, by_refl, by_sym, by_trans, by_conv, by_conveq, by_left, by_right, by_typeof, by_domain, by_boundary, by_widen, by_btype, by_bterm, by_beqty, by_beqtm, by_rule, by_rulewith, by_inst, by_cong, by_convprem, by_convback, by_arg, by_natural, by_metainst, Stated}
-use Rattle.ft_items.specs.Store.{Assertion, Annotation, Declared, Store, nth, each, entry_named, variable_named, metavariable_named, rule_of, Resolved, with_one, with_two, with_three, with_four, resolve, boundaries_in, annotations_in, Derivable}
+use Rattle.ft_items.specs.Store.{Assertion, Annotation, Declared, Store, nth, each, entry_named, variable_named, metavariable_named, rule_named, Resolved, with_one, with_two, with_three, with_four, resolve, boundaries_in, annotations_in, Derivable}
 use Rattle.ft_items.specs.Rows.{statements, sets, conclusion, result_set}
 use Rattle.ft_items.specs.Rows as row
 use Rattle.ft_items.proofs.SetLemmas.{union_left, union_right}
@@ -105,7 +105,7 @@ module _ (W : Store) (F : WellFormed W) where
       go None q e = none_some e
       go (Some d) q e = subst (IsMetavariable W) (same_Some (m, d) a e) q
 
-  is_rule : (r : ℕ) (a : ℕ × Rule) → rule_of W r ≡ Some a → IsRule W a
+  is_rule : (r : ℕ) (a : ℕ × Rule) → rule_named W r ≡ Some a → IsRule W a
   is_rule r a e = go (rule_at W.rules r) refl e
     where
       go : (o : Option Rule) → rule_at W.rules r ≡ o → option_map (λ R. (r, R)) o ≡ Some a → IsRule W a
@@ -162,12 +162,12 @@ module _ (W : Store) (F : WellFormed W) where
   resolved (by_bterm p) r e = some_1 P by_bterm (N p) r e (F.entries p)
   resolved (by_beqty p q) r e = some_2 P by_beqty (N p) (N q) r e (λ a i b j. (F.entries p a i, F.entries q b j))
   resolved (by_beqtm p q t) r e = some_3 P by_beqtm (N p) (N q) (N t) r e (λ a i b j c k. (F.entries p a i, F.entries q b j, F.entries t c k))
-  resolved (by_rule n ps) r e = some_2 P by_rule (rule_of W n) (Ns ps) r e (λ a i b j. (is_rule n a i, all_valid ps b j))
-  resolved (by_rulewith n p ps) r e = some_3 P by_rulewith (rule_of W n) (N p) (Ns ps) r e (λ a i b j c k. (is_rule n a i, F.entries p b j, all_valid ps c k))
-  resolved (by_inst n ps) r e = some_2 P by_inst (rule_of W n) (Ns ps) r e (λ a i b j. (is_rule n a i, all_valid ps b j))
-  resolved (by_cong n ps es) r e = some_3 P by_cong (rule_of W n) (Ns ps) (Ns es) r e (λ a i b j c k. (is_rule n a i, all_valid ps b j, all_valid es c k))
-  resolved (by_convprem n ps es q) r e = some_4 P by_convprem (rule_of W n) (Ns ps) (Ns es) (N q) r e (λ a i b j c k d l. (is_rule n a i, all_valid ps b j, all_valid es c k, F.entries q d l))
-  resolved (by_convback n ps es q) r e = some_4 P by_convback (rule_of W n) (Ns ps) (Ns es) (N q) r e (λ a i b j c k d l. (is_rule n a i, all_valid ps b j, all_valid es c k, F.entries q d l))
+  resolved (by_rule n ps) r e = some_2 P by_rule (rule_named W n) (Ns ps) r e (λ a i b j. (is_rule n a i, all_valid ps b j))
+  resolved (by_rulewith n p ps) r e = some_3 P by_rulewith (rule_named W n) (N p) (Ns ps) r e (λ a i b j c k. (is_rule n a i, F.entries p b j, all_valid ps c k))
+  resolved (by_inst n ps) r e = some_2 P by_inst (rule_named W n) (Ns ps) r e (λ a i b j. (is_rule n a i, all_valid ps b j))
+  resolved (by_cong n ps es) r e = some_3 P by_cong (rule_named W n) (Ns ps) (Ns es) r e (λ a i b j c k. (is_rule n a i, all_valid ps b j, all_valid es c k))
+  resolved (by_convprem n ps es q) r e = some_4 P by_convprem (rule_named W n) (Ns ps) (Ns es) (N q) r e (λ a i b j c k d l. (is_rule n a i, all_valid ps b j, all_valid es c k, F.entries q d l))
+  resolved (by_convback n ps es q) r e = some_4 P by_convback (rule_named W n) (Ns ps) (Ns es) (N q) r e (λ a i b j c k d l. (is_rule n a i, all_valid ps b j, all_valid es c k, F.entries q d l))
   resolved (by_arg i p) r e = some_1 P (by_arg i) (N p) r e (F.entries p)
   resolved (by_natural p) r e = some_1 P by_natural (N p) r e (F.entries p)
   resolved (by_metainst p ms qs) r e = some_3 P by_metainst (N p) (each (metavariable_named W) ms) (Ns qs) r e (λ a i b j c k. (F.entries p a i, all_declared ms b j, all_valid qs c k))

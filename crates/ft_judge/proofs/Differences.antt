@@ -56,11 +56,6 @@ comparing_refused ts xs ys i x y c l m g h n =
 pub comparing_end : (ts : List Expression) (xs ys : List ℕ) (i : ℕ) (r : Result ⊤ Refusal) → Comparing ts xs ys i → length xs ≤ i → IsOk r → IsFirstDifference ts (domain_comparisons 0 xs ys) r
 comparing_end ts xs ys i r c l o = c.rest r (subst (λ zs. IsFirstDifference ts (domain_comparisons i zs (drop i ys)) r) (sym (drop_of_length-le xs l)) o)
 
-pub below_at : (n i x : ℕ) (xs : List ℕ) → AllBelow n xs → i < length xs → x ≡ get_or xs i x → x < n
-below_at n i x [] b l g = absurd (omega arith)
-below_at n zero x (y ∷ xs) b l g = subst (λ z. z < n) (sym g) b.0
-below_at n (suc i) x (y ∷ xs) b l g = below_at n i x xs b.1 (omega arith) g
-
 -- the whole
 pub both_parts : (ts : List Expression) (x : Thesis) (b : Boundary) (r : Result ⊤ Refusal) → IsFirstDifference ts (domain_comparisons 0 x.domains b.domains) (Ok tt) → IsFirstDifference ts (form_comparisons (length x.domains) x.form b.goal) r →
     IsFirstDifference ts (comparisons x b) r

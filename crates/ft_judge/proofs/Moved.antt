@@ -5,6 +5,8 @@ use Rattle.ft_theory.specs.Expressions.{Expression, open_at}
 use Rattle.ft_theory.specs.Statements.{Claim, is_type, has_type, equal_types, equal_terms, term_goal, type_equation_goal, term_equation_goal, Statement, plain, abstracted, map_claim, map_statement, AllOfClaim, AllOfStatement, opened, close_statement}
 use Rattle.ft_theory.specs.Small.{IsSmall}
 use Rattle.ft_syntax.specs.Table.{tree, Extends, AllBelow}
+use Rattle.ft_syntax.specs.Laws.{tree_extends, trees_extend}
+use Rattle.ft_judge.specs.Laws.{claim_extends, goal_extends}
 use Rattle.ft_judge.specs.Meaning.{claim_in, goal_in, under, FormBelow, GoalBelow}
 use Rattle.ft_judge.specs.Moving.{moved, moved_list, MoveBelow, IsSmallStatement, AreSmall}
 use Rattle.ft_judge.specs.declared.judgement.Form.{Form}
@@ -13,7 +15,6 @@ use Rattle.ft_judge.specs.declared.judgement.Goal.{Goal}
 use Rattle.ft_judge.specs.declared.judgement.Goal.TheVariants as goal
 use Rattle.ft_judge.specs.declared.moving.Move.{Move}
 use Rattle.ft_judge.specs.declared.moving.Move.TheVariants.{Open, Close}
-use Rattle.ft_judge.proofs.Moves.{tree_extends, length_extends, trees_extend}
 
 -- a statement by its list of domains
 abbrev listed : List Expression → Claim → Statement
@@ -33,19 +34,6 @@ map_listed ts w k (A ∷ As) c =
 small_listed : (k : ℕ) (As : List Expression) (c : Claim) → AllOfStatement (λ k. IsSmall) k (listed As c) → AreSmall As × AllOfClaim IsSmall c
 small_listed k [] c s = (tt, s)
 small_listed k (A ∷ As) c s = let r = small_listed (suc k) As c s.1 in ((s.0, r.0), r.1)
-
--- claims over a table that goes on
-claim_extends : (ts us : List Expression) (f : Form) → Extends ts us → FormBelow (length ts) f → claim_in us f ≡ claim_in ts f
-claim_extends ts us (Ty A) x h = ap is_type (tree_extends ts us A x h)
-claim_extends ts us (Tm t A) x h = ap₂ has_type (tree_extends ts us t x h.0) (tree_extends ts us A x h.1)
-claim_extends ts us (EqTy A B) x h = ap₂ equal_types (tree_extends ts us A x h.0) (tree_extends ts us B x h.1)
-claim_extends ts us (EqTm s t A) x h = ap₂ (λ a b. equal_terms a b (tree us A)) (tree_extends ts us s x h.0) (tree_extends ts us t x h.1) ∙ ap (equal_terms (tree ts s) (tree ts t)) (tree_extends ts us A x h.2)
-
-goal_extends : (ts us : List Expression) (g : Goal) → Extends ts us → GoalBelow (length ts) g → goal_in us g ≡ goal_in ts g
-goal_extends ts us goal.Ty x h = refl
-goal_extends ts us (goal.Tm A) x h = ap term_goal (tree_extends ts us A x h)
-goal_extends ts us (goal.EqTy A B) x h = ap₂ type_equation_goal (tree_extends ts us A x h.0) (tree_extends ts us B x h.1)
-goal_extends ts us (goal.EqTm s t A) x h = ap₂ (λ a b. term_equation_goal a b (tree us A)) (tree_extends ts us s x h.0) (tree_extends ts us t x h.1) ∙ ap (term_equation_goal (tree ts s) (tree ts t)) (tree_extends ts us A x h.2)
 
 -- each expression of a claim, with what is put read from a table that goes on
 map_extends : (ts us : List Expression) (w : Move) (k : ℕ) (c : Claim) → Extends ts us → MoveBelow (length ts) w → map_claim (moved us w k) c ≡ map_claim (moved ts w k) c
@@ -99,21 +87,3 @@ form_after t0 t1 w k f x h b = map_extends t0 t1 w k (claim_in t1 f) x b ∙ ap 
 
 pub goal_after : (t0 t1 : List Expression) (w : Move) (k : ℕ) (g : Goal) → Extends t0 t1 → GoalBelow (length t0) g → MoveBelow (length t0) w → map_claim (moved t1 w k) (goal_in t1 g) ≡ map_claim (moved t0 w k) (goal_in t0 g)
 goal_after t0 t1 w k g x h b = map_extends t0 t1 w k (goal_in t1 g) x b ∙ ap (map_claim (moved t0 w k)) (goal_extends t0 t1 g x h)
-
-form_longer : (n m : ℕ) (f : Form) → n ≤ m → FormBelow n f → FormBelow m f
-form_longer n m (Ty A) l h = omega (arith, h)
-form_longer n m (Tm t A) l h = (omega (arith, h.0), omega (arith, h.1))
-form_longer n m (EqTy A B) l h = (omega (arith, h.0), omega (arith, h.1))
-form_longer n m (EqTm s t A) l h = (omega (arith, h.0), omega (arith, h.1), omega (arith, h.2))
-
-goal_longer : (n m : ℕ) (g : Goal) → n ≤ m → GoalBelow n g → GoalBelow m g
-goal_longer n m goal.Ty l h = tt
-goal_longer n m (goal.Tm A) l h = omega (arith, h)
-goal_longer n m (goal.EqTy A B) l h = (omega (arith, h.0), omega (arith, h.1))
-goal_longer n m (goal.EqTm s t A) l h = (omega (arith, h.0), omega (arith, h.1), omega (arith, h.2))
-
-pub form_below_after : (t0 t1 : List Expression) (f : Form) → Extends t0 t1 → FormBelow (length t0) f → FormBelow (length t1) f
-form_below_after t0 t1 f x h = form_longer (length t0) (length t1) f (length_extends t0 t1 x) h
-
-pub goal_below_after : (t0 t1 : List Expression) (g : Goal) → Extends t0 t1 → GoalBelow (length t0) g → GoalBelow (length t1) g
-goal_below_after t0 t1 g x h = goal_longer (length t0) (length t1) g (length_extends t0 t1 x) h

@@ -6,6 +6,7 @@ use Rattle.ft_theory.specs.Expressions.{Expression, open_at, close_at}
 use Rattle.ft_theory.specs.Statements.{is_type, has_type, equal_types, equal_terms, type_goal, term_goal, type_equation_goal, term_equation_goal, map_claim, AllOfClaim}
 use Rattle.ft_theory.specs.Small.{IsSmall}
 use Rattle.ft_syntax.specs.Table.{tree, Extends, AllBelow}
+use Rattle.ft_syntax.specs.Laws.{extends_same, extends_trans, length_extends, tree_extends, trees_extend, all_below_extends, all_push, one_below}
 use Rattle.ft_judge.specs.Meaning.{claim_in, goal_in}
 use Rattle.ft_judge.specs.Moving.{moved, moved_list, MoveBelow, AreSmall}
 use Rattle.ft_judge.specs.declared.judgement.Form.{Form}
@@ -14,42 +15,6 @@ use Rattle.ft_judge.specs.declared.judgement.Goal.{Goal}
 use Rattle.ft_judge.specs.declared.judgement.Goal.TheVariants as goal
 use Rattle.ft_judge.specs.declared.moving.Move.{Move}
 use Rattle.ft_judge.specs.declared.moving.Move.TheVariants.{Open, Close}
-
--- tables that go on
-pub extends_same : (ts us : List Expression) → us ≡ ts → Extends ts us
-extends_same ts us h = ([], h ∙ sym (append-nil ts))
-
-pub extends_trans : (ts us vs : List Expression) → Extends ts us → Extends us vs → Extends ts vs
-extends_trans ts us vs a b = (a.0 ++ b.0, b.1 ∙ ap (λ l. l ++ b.0) a.1 ∙ append_assoc ts a.0 b.0)
-
-get_append : (ts us : List Expression) (e : ℕ) → e < length ts → tree (ts ++ us) e ≡ tree ts e
-get_append [] us e l = absurd (omega arith)
-get_append (t ∷ ts) us zero l = refl
-get_append (t ∷ ts) us (suc e) l = get_append ts us e (omega arith)
-
-pub tree_extends : (ts us : List Expression) (e : ℕ) → Extends ts us → e < length ts → tree us e ≡ tree ts e
-tree_extends ts us e x l = ap (λ vs. tree vs e) x.1 ∙ get_append ts x.0 e l
-
-pub length_extends : (ts us : List Expression) → Extends ts us → length ts ≤ length us
-length_extends ts us x = omega (arith, ap length x.1, length-append ts x.0)
-
-pub next_below : (ts us : List Expression) (e : ℕ) → Extends ts us → e < length ts → e < length us
-next_below ts us e x l = omega (arith, length_extends ts us x)
-
-below_longer : (n m : ℕ) (xs : List ℕ) → n ≤ m → AllBelow n xs → AllBelow m xs
-below_longer n m [] l h = tt
-below_longer n m (x ∷ xs) l h = (omega (arith, h.0), below_longer n m xs l h.1)
-
-pub all_extend : (ts us : List Expression) (xs : List ℕ) → Extends ts us → AllBelow (length ts) xs → AllBelow (length us) xs
-all_extend ts us xs x h = below_longer (length ts) (length us) xs (length_extends ts us x) h
-
-below_push : (n : ℕ) (xs : List ℕ) (e : ℕ) → AllBelow n xs → e < n → AllBelow n (xs ++ e ∷ [])
-below_push n [] e h l = (l, tt)
-below_push n (x ∷ xs) e h l = (h.0, below_push n xs e h.1 l)
-
-pub trees_extend : (ts us : List Expression) (xs : List ℕ) → Extends ts us → AllBelow (length ts) xs → map (tree us) xs ≡ map (tree ts) xs
-trees_extend ts us [] x h = refl
-trees_extend ts us (e ∷ xs) x h = ap₂ (λ t r. t ∷ r) (tree_extends ts us e x h.0) (trees_extend ts us xs x h.1)
 
 work_longer : (n m : ℕ) (w : Move) → n ≤ m → MoveBelow n w → MoveBelow m w
 work_longer n m (Open t) l h = omega (arith, h)
@@ -99,11 +64,6 @@ pub record Moving (old cur : List Expression) (w : Move) (i : ℕ) (xs start lis
 pub moving_start : (old : List Expression) (w : Move) (xs start : List ℕ) → AllBelow (length old) start → Moving old old w 0 xs start start
 moving_start old w xs start h = record { goes_on = extends_same old old refl; below = h; done = sym (append-nil (map (tree old) start)) }
 
-below_at : (n i x : ℕ) (xs : List ℕ) → AllBelow n xs → i < length xs → x ≡ get_or xs i x → x < n
-below_at n i x [] b l g = absurd (omega arith)
-below_at n zero x (y ∷ xs) b l g = subst (λ z. z < n) (sym g) b.0
-below_at n (suc i) x (y ∷ xs) b l g = below_at n i x xs b.1 (omega arith) g
-
 taken : (ts : List Expression) (i x : ℕ) (xs : List ℕ) → i < length xs → x ≡ get_or xs i x → map (tree ts) (take (suc i) xs) ≡ map (tree ts) (take i xs) ++ tree ts x ∷ []
 taken ts i x xs l g = ap (map (tree ts)) (take-suc xs i x l ∙ ap (λ z. take i xs ++ z ∷ []) (sym g)) ∙ map-append (tree ts) (take i xs) (x ∷ [])
 
@@ -118,10 +78,10 @@ moving_more old cur next w i x r xs start list h b m g l q s t =
     let As = map (tree old) (take i xs) in
     let n : 0 + length As ≡ i = omega (arith, length-map (take i xs) (tree old), length_taken i xs (omega arith)) in
     let e : tree next r ≡ moved old w (0 + length As) (tree old x) =
-    t ∙ next_moved old cur w i x m.goes_on b (below_at (length old) i x xs h l q) ∙ ap (λ k. moved old w k (tree old x)) (sym n) in
+    t ∙ next_moved old cur w i x m.goes_on b (one_below (length old) i x xs h l q) ∙ ap (λ k. moved old w k (tree old x)) (sym n) in
     record {
       goes_on = extends_trans old cur next m.goes_on g;
-      below = below_push (length next) list r (all_extend cur next list g m.below) s;
+      below = all_push (length next) list r (all_below_extends cur next list g m.below) s;
       done = map-append (tree next) list (r ∷ [])
           ∙ ap₂ (λ ys y. ys ++ y ∷ []) (trees_extend cur next list g m.below ∙ m.done) e
           ∙ append_assoc (map (tree old) start) (moved_list old w 0 As) (moved old w (0 + length As) (tree old x) ∷ [])
@@ -136,7 +96,7 @@ small_at ts w k (suc i) x (y ∷ xs) s l q = subst (λ j. IsSmall (moved ts w j 
 pub moving_refused : (old cur : List Expression) (w : Move) (i x : ℕ) (xs start list : List ℕ) → AllBelow (length old) xs → MoveBelow (length old) w → Moving old cur w i xs start list → i < length xs → x ≡ get_or xs i x →
     (IsSmall (moved cur w i (tree cur x)) → ⊥) → AreSmall (moved_list old w 0 (map (tree old) xs)) → ⊥
 moving_refused old cur w i x xs start list h b m l q n s =
-    n (subst IsSmall (sym (next_moved old cur w i x m.goes_on b (below_at (length old) i x xs h l q))) (subst (λ j. IsSmall (moved old w j (tree old x))) (omega arith) (small_at old w 0 i x xs s l q)))
+    n (subst IsSmall (sym (next_moved old cur w i x m.goes_on b (one_below (length old) i x xs h l q))) (subst (λ j. IsSmall (moved old w j (tree old x))) (omega arith) (small_at old w 0 i x xs s l q)))
 
 take_all : (i : ℕ) (xs : List ℕ) → length xs ≤ i → take i xs ≡ xs
 take_all zero [] l = refl
@@ -148,7 +108,7 @@ pub moving_end : (old cur : List Expression) (w : Move) (i : ℕ) (xs start list
 moving_end old cur w i xs start list m l = m.done ∙ ap (λ ys. map (tree old) start ++ moved_list old w 0 (map (tree old) ys)) (take_all i xs l)
 
 pub moving_below : (old cur : List Expression) (w : Move) (i x : ℕ) (xs start list : List ℕ) → AllBelow (length old) xs → Moving old cur w i xs start list → i < length xs → x ≡ get_or xs i x → x < length cur
-moving_below old cur w i x xs start list h m l q = omega (arith, below_at (length old) i x xs h l q, length_extends old cur m.goes_on)
+moving_below old cur w i x xs start list h m l q = omega (arith, one_below (length old) i x xs h l q, length_extends old cur m.goes_on)
 
 pub moving_work : (old cur : List Expression) (w : Move) (i : ℕ) (xs start list : List ℕ) → MoveBelow (length old) w → Moving old cur w i xs start list → MoveBelow (length cur) w
 moving_work old cur w i xs start list h m = next_work old cur w m.goes_on h

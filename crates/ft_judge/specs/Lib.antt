@@ -3,3 +3,4 @@ pub mod Meaning
 pub mod Fits
 pub mod Moving
 pub mod Code
+pub mod Laws

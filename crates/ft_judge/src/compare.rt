@@ -46,7 +46,7 @@ fn is_form_for(form: &Form, goal: &Goal) -> bool
 }
 
 // The first of the domains that differs.
-#[tactic(auto, using(crate::proofs::Differences::comparing_start, crate::proofs::Differences::comparing_more, crate::proofs::Differences::comparing_refused, crate::proofs::Differences::comparing_end, crate::proofs::Differences::below_at))]
+#[tactic(auto, using(crate::proofs::Differences::comparing_start, crate::proofs::Differences::comparing_more, crate::proofs::Differences::comparing_refused, crate::proofs::Differences::comparing_end, ft_syntax::specs::Laws::one_below))]
 fn same_domains(t: &Terms, found: &[E], wanted: &[E]) -> Result<(), Refusal>
     requires found { AllBelow (length t.now) found.now }
     requires wanted { AllBelow (length t.now) wanted.now }

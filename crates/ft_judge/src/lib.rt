@@ -14,6 +14,3 @@ pub use fault::{Differ, Fault, Refusal, Stop};
 pub use judgement::{Boundary, Form, Goal, Thesis};
 pub use moving::{close_over, close_over_boundary, open_first, open_first_boundary};
 pub use parts::{boundary_of, fill, head_of, head_of_form};
-
-#[cfg(test)]
-mod tests;

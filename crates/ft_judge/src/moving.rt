@@ -212,7 +212,7 @@ fn move_form(t: &mut Terms, form: &Form, under: u64, work: &Move) -> Result<Form
 }
 
 // The goal with its expressions moved.
-#[tactic(auto, using(crate::proofs::Moves::goal_ty, crate::proofs::Moves::goal_tm, crate::proofs::Moves::goal_eqty, crate::proofs::Moves::goal_eqtm, crate::proofs::Moves::goal_tm_big, crate::proofs::Moves::goal_eqty_big, crate::proofs::Moves::goal_eqtm_big, crate::proofs::Moves::extends_same))]
+#[tactic(auto, using(crate::proofs::Moves::goal_ty, crate::proofs::Moves::goal_tm, crate::proofs::Moves::goal_eqty, crate::proofs::Moves::goal_eqtm, crate::proofs::Moves::goal_tm_big, crate::proofs::Moves::goal_eqty_big, crate::proofs::Moves::goal_eqtm_big, ft_syntax::specs::Laws::extends_same))]
 fn move_goal(t: &mut Terms, goal: &Goal, under: u64, work: &Move) -> Result<Goal, SynFault>
     requires goal { GoalBelow (length t.old) goal.now }
     requires work { MoveBelow (length t.old) work.now }
@@ -260,7 +260,7 @@ fn move_one(t: &mut Terms, e: E, under: u64, work: &Move) -> Result<E, SynFault>
 }
 
 // Two expressions moved.
-#[tactic(auto, using(crate::proofs::Moves::next_moved, crate::proofs::Moves::next_work, crate::proofs::Moves::next_below, crate::proofs::Moves::tree_extends, crate::proofs::Moves::extends_trans, crate::proofs::Moves::two_big))]
+#[tactic(auto, using(crate::proofs::Moves::next_moved, crate::proofs::Moves::next_work, ft_syntax::specs::Laws::below_extends, ft_syntax::specs::Laws::tree_extends, ft_syntax::specs::Laws::extends_trans, crate::proofs::Moves::two_big))]
 fn move_two(t: &mut Terms, a: E, b: E, under: u64, work: &Move) -> Result<(E, E), SynFault>
     requires { (a < length t.old) × (b < length t.old) × MoveBelow (length t.old) work.now }
     ensures within { IfOk result (λ r. (r.0 < length t.new) × (r.1 < length t.new)) }
@@ -275,7 +275,7 @@ fn move_two(t: &mut Terms, a: E, b: E, under: u64, work: &Move) -> Result<(E, E)
 }
 
 // Three expressions moved.
-#[tactic(auto, using(crate::proofs::Moves::next_moved, crate::proofs::Moves::next_work, crate::proofs::Moves::next_below, crate::proofs::Moves::tree_extends, crate::proofs::Moves::extends_trans, crate::proofs::Moves::two_big))]
+#[tactic(auto, using(crate::proofs::Moves::next_moved, crate::proofs::Moves::next_work, ft_syntax::specs::Laws::below_extends, ft_syntax::specs::Laws::tree_extends, ft_syntax::specs::Laws::extends_trans, crate::proofs::Moves::two_big))]
 fn move_three(
     t: &mut Terms,
     a: E,

@@ -1,6 +1,7 @@
 -- What a change does to a variable and to an application, and that a depth past all numbers makes no difference.
 use Rattle.std.proofs.Common.{◌≡◌, ◌≢◌, ℕ, zero, suc, ◌+◌, ◌-◌, ◌^◌, ◌<◌, ◌≤◌, min, List, [], ◌∷◌, map, true, false, cond, nat_eq, nat_le, ◌⊎◌, inl, inr, Option, Some, None, option_map, refl, sym, ap, ap₂, ◌∙◌, subst, arith}
 use Rattle.std.proofs.lemmas.Bool.Decides.{eqb_tells, leb_tells}
+use Rattle.ft_common.proofs.Choices.{if_same, if_other}
 use Rattle.ft_theory.specs.Expressions.{Expression, bound, free, symbol, meta, Arguments, no_arguments, with_body, dummy, Terms, no_terms, also, under_binder, under_binders, rename, rename_arguments, rename_terms, act, act_arguments, act_terms, body_or, in_place_of, open_at, open_arguments, open_terms, close_at, close_arguments, close_terms}
 use Rattle.ft_theory.specs.Small.{IsSmall, NumbersFit, NumbersFitInArguments, NumbersFitInTerms}
 use Rattle.ft_syntax.specs.Arguments.{Argument, node_of, as_arguments, as_terms, applied, AreTerms, FitsNode, IsApplication}
@@ -31,29 +32,14 @@ node_symbol e s h = subst IsApplication (sym h) tt
 pub node_meta : (e : Expression) (m : ℕ) → node_of e ≡ Meta m → IsApplication (node_of e)
 node_meta e m h = subst IsApplication (sym h) tt
 
--- tests of numbers
-pub same : {A : Type 0} (i j : ℕ) (x y : A) → i ≡ j → cond (nat_eq i j) x y ≡ x
-same i j x y e = go (eqb_tells i j)
-  where
-    go : ((nat_eq i j ≡ true) × (i ≡ j)) ⊎ ((nat_eq i j ≡ false) × (i ≢ j)) → cond (nat_eq i j) x y ≡ x
-    go (inl t) = ap (λ b. cond b x y) t.0
-    go (inr t) = absurd (t.1 e)
-
-pub other : {A : Type 0} (i j : ℕ) (x y : A) → i ≢ j → cond (nat_eq i j) x y ≡ y
-other i j x y n = go (eqb_tells i j)
-  where
-    go : ((nat_eq i j ≡ true) × (i ≡ j)) ⊎ ((nat_eq i j ≡ false) × (i ≢ j)) → cond (nat_eq i j) x y ≡ y
-    go (inl t) = absurd (n t.1)
-    go (inr t) = ap (λ b. cond b x y) t.0
-
 -- variables
 pub open_there : (ts : List Expression) (t k i : ℕ) → i ≡ k → changed ts (Open t) k (bound i) ≡ tree ts t
 unfolding open_at
-open_there ts t k i e = same i k (tree ts t) (bound i) e
+open_there ts t k i e = if_same i k (tree ts t) (bound i) e
 
 pub open_other : (ts : List Expression) (t k i : ℕ) → i ≢ k → changed ts (Open t) k (bound i) ≡ bound i
 unfolding open_at
-open_other ts t k i n = other i k (tree ts t) (bound i) n
+open_other ts t k i n = if_other i k (tree ts t) (bound i) n
 
 pub open_free : (ts : List Expression) (t k u : ℕ) → changed ts (Open t) k (free u) ≡ free u
 unfolding open_at
@@ -65,11 +51,11 @@ close_bound ts v k i = refl
 
 pub close_there : (ts : List Expression) (v k u : ℕ) → u ≡ v → changed ts (Close v) k (free u) ≡ bound k
 unfolding close_at
-close_there ts v k u e = same u v (bound k) (free u) e
+close_there ts v k u e = if_same u v (bound k) (free u) e
 
 pub close_other : (ts : List Expression) (v k u : ℕ) → u ≢ v → changed ts (Close v) k (free u) ≡ free u
 unfolding close_at
-close_other ts v k u n = other u v (bound k) (free u) n
+close_other ts v k u n = if_other u v (bound k) (free u) n
 
 pub replace_bound : (ts : List Expression) (v t k i : ℕ) → changed ts (Replace v t) k (bound i) ≡ bound i
 unfolding act
@@ -77,11 +63,11 @@ replace_bound ts v t k i = refl
 
 pub replace_there : (ts : List Expression) (v t k u : ℕ) → u ≡ v → changed ts (Replace v t) k (free u) ≡ tree ts t
 unfolding act
-replace_there ts v t k u e = same u v (tree ts t) (free u) e
+replace_there ts v t k u e = if_same u v (tree ts t) (free u) e
 
 pub replace_other : (ts : List Expression) (v t k u : ℕ) → u ≢ v → changed ts (Replace v t) k (free u) ≡ free u
 unfolding act
-replace_other ts v t k u n = other u v (tree ts t) (free u) n
+replace_other ts v t k u n = if_other u v (tree ts t) (free u) n
 
 pub raise_free : (ts : List Expression) (n k u : ℕ) → changed ts (Raise n) k (free u) ≡ free u
 unfolding rename

@@ -6,6 +6,7 @@ use Rattle.ft_theory.specs.Expressions.{Expression, substitute, in_place_of, ope
 use Rattle.ft_theory.specs.Small.{IsSmall}
 use Rattle.ft_syntax.specs.Arguments.{Argument, node_of, arguments_of, applied, IsTerm, AreTerms, FitsNode, IsApplication}
 use Rattle.ft_syntax.specs.Table.{tree, Extends, argument_in, BodyBelow, ArgumentsBelow}
+use Rattle.ft_syntax.specs.Laws.{extends_same, extends_trans, length_extends, tree_extends, arguments_extend, body_longer, arguments_longer, arguments_push, argument_below}
 use Rattle.ft_syntax.specs.Measures.{IsSmallBody, AreSmall}
 use Rattle.ft_syntax.specs.Invariant.{IsApplied}
 use Rattle.ft_syntax.specs.Changes.{changed, changed_argument, ChangeBelow}
@@ -15,40 +16,10 @@ use Rattle.ft_syntax.specs.declared.syntax.Node.TheVariants.{Bound, Free, Sym, M
 use Rattle.ft_syntax.specs.declared.table.Row.{Row}
 use Rattle.ft_syntax.specs.declared.change.Change.{Change}
 use Rattle.ft_syntax.specs.declared.change.Change.TheVariants.{Open, Close, Replace, Raise}
-use Rattle.ft_syntax.proofs.Tables.{IsRow, row_arguments, get_append, args_append, extends_same}
+use Rattle.ft_syntax.proofs.Tables.{IsRow, row_arguments}
 use Rattle.ft_syntax.proofs.Lists.{take_all}
 use Rattle.ft_syntax.proofs.Parts.{applied_node_of, arguments_fit, small_arguments}
 use Rattle.ft_syntax.proofs.Changes.{changed_applied}
-
--- tables that go on
-pub extends_trans : (ts us vs : List Expression) → Extends ts us → Extends us vs → Extends ts vs
-extends_trans ts us vs a b = (a.0 ++ b.0, b.1 ∙ ap (λ l. l ++ b.0) a.1 ∙ append_assoc ts a.0 b.0)
-
-pub tree_extends : (ts us : List Expression) (e : ℕ) → Extends ts us → e < length ts → tree us e ≡ tree ts e
-tree_extends ts us e x l = ap (λ vs. tree vs e) x.1 ∙ get_append ts x.0 e l
-
-pub length_extends : (ts us : List Expression) → Extends ts us → length ts ≤ length us
-length_extends ts us x = omega (arith, ap length x.1, length-append ts x.0)
-
-pub args_extend : (ts us : List Expression) (xs : List Arg) → Extends ts us → ArgumentsBelow (length ts) xs → map (argument_in us) xs ≡ map (argument_in ts) xs
-args_extend ts us xs x h = ap (λ vs. map (argument_in vs) xs) x.1 ∙ args_append ts x.0 xs h
-
-body_longer : (n m : ℕ) (b : Option ℕ) → n ≤ m → BodyBelow n b → BodyBelow m b
-body_longer n m None l h = tt
-body_longer n m (Some e) l h = omega arith
-
-pub below_longer : (n m : ℕ) (xs : List Arg) → n ≤ m → ArgumentsBelow n xs → ArgumentsBelow m xs
-below_longer n m [] l h = tt
-below_longer n m (x ∷ xs) l h = (body_longer n m x.body l h.0, below_longer n m xs l h.1)
-
-pub below_push : (n : ℕ) (xs : List Arg) (x : Arg) → ArgumentsBelow n xs → BodyBelow n x.body → ArgumentsBelow n (xs ++ x ∷ [])
-below_push n [] x h g = (g, tt)
-below_push n (y ∷ xs) x h g = (h.0, below_push n xs x h.1 g)
-
-pub body_at : (n i : ℕ) (xs : List Arg) (x : Arg) → ArgumentsBelow n xs → i < length xs → x ≡ get_or xs i x → BodyBelow n x.body
-body_at n i [] x b l g = absurd (omega arith)
-body_at n zero (y ∷ xs) x b l g = subst (λ z. BodyBelow n z.body) (sym g) b.0
-body_at n (suc i) (y ∷ xs) x b l g = body_at n i xs x b.1 (omega arith) g
 
 -- f is done to the first i arguments, over a table that has gone on
 pub record Mapped (f : Argument → Argument) (old cur : List Expression) (i : ℕ) (xs ys : List Arg) : Type 0 where
@@ -64,15 +35,19 @@ pub mapped_more : (f : Argument → Argument) (old cur next : List Expression) (
 mapped_more f old cur next i xs ys x y m g l h b q =
     record {
       goes_on = extends_trans old cur next m.goes_on g;
-      below = below_push (length next) ys y (below_longer (length cur) (length next) ys (length_extends cur next g) m.below) b;
+      below = arguments_push (length next) ys y (arguments_longer (length cur) (length next) ys (length_extends cur next g) m.below) b;
       done = map-append (argument_in next) ys (y ∷ [])
-          ∙ ap₂ (λ ps p. ps ++ p ∷ []) (args_extend cur next ys g m.below ∙ m.done) q
+          ∙ ap₂ (λ ps p. ps ++ p ∷ []) (arguments_extend cur next ys g m.below ∙ m.done) q
           ∙ sym (ap (λ zs. map f (map (argument_in old) zs)) (take-suc xs i x l ∙ ap (λ z. take i xs ++ z ∷ []) (sym h))
           ∙ ap (map f) (map-append (argument_in old) (take i xs) (x ∷ [])) ∙ map-append f (map (argument_in old) (take i xs)) (argument_in old x ∷ []));
     }
 
 pub mapped_end : (f : Argument → Argument) (old cur : List Expression) (i : ℕ) (xs ys : List Arg) → Mapped f old cur i xs ys → length xs ≤ i → map (argument_in cur) ys ≡ map f (map (argument_in old) xs)
 mapped_end f old cur i xs ys m l = m.done ∙ ap (λ zs. map f (map (argument_in old) zs)) (take_all i xs l)
+
+-- the body of an argument of an application of the table
+pub first_below : (old : List Expression) (e i : ℕ) (xs : List Arg) (x : Arg) → IsApplied old e xs → i < length xs → x ≡ get_or xs i x → BodyBelow (length old) x.body
+first_below old e i xs x q l r = body_longer e (length old) x.body (omega (arith, q.within)) (argument_below e i xs x q.below l r)
 
 -- what is done to a term gives a term
 abbrev pub KeepsTerms : (Argument → Argument) → Type 0
@@ -138,7 +113,7 @@ pub changing_more : (old cur next : List Expression) (c : Change) (k e i : ℕ) 
     Mapped (changed_argument old c k) old next (suc i) xs (ys ++ record { binders = x.binders; body = b } ∷ [])
 changing_more old cur next c k e i xs ys x b a h m g l q w r =
     mapped_more (changed_argument old c k) old cur next i xs ys x (record { binders = x.binders; body = b }) m g l q w
-    (ap (λ d. (x.binders, d)) (r ∙ changed_body_extends old cur c (x.binders + k) x.body m.goes_on h (body_longer e (length old) x.body (omega (arith, a.within)) (body_at e i xs x a.below l q))))
+    (ap (λ d. (x.binders, d)) (r ∙ changed_body_extends old cur c (x.binders + k) x.body m.goes_on h (body_longer e (length old) x.body (omega (arith, a.within)) (argument_below e i xs x a.below l q))))
 
 pub changing_small : (old : List Expression) (c : Change) (k e : ℕ) (xs : List Arg) → IsApplied old e xs → IsSmall (changed old c k (tree old e)) → AreSmall (map (changed_argument old c k) (map (argument_in old) xs))
 changing_small old c k e xs a s =
@@ -149,7 +124,7 @@ changing_small old c k e xs a s =
 pub changing_refused : (old cur : List Expression) (c : Change) (k e i : ℕ) (xs ys : List Arg) (x : Arg) → IsApplied old e xs → ChangeBelow (length old) c → Mapped (changed_argument old c k) old cur i xs ys → i < length xs → x ≡ get_or xs i x →
     (IsSmallBody (option_map (changed cur c (x.binders + k)) (option_map (tree cur) x.body)) → ⊥) → IsSmall (changed old c k (tree old e)) → ⊥
 changing_refused old cur c k e i xs ys x a h m l q n s =
-    n (subst IsSmallBody (sym (changed_body_extends old cur c (x.binders + k) x.body m.goes_on h (body_longer e (length old) x.body (omega (arith, a.within)) (body_at e i xs x a.below l q))))
+    n (subst IsSmallBody (sym (changed_body_extends old cur c (x.binders + k) x.body m.goes_on h (body_longer e (length old) x.body (omega (arith, a.within)) (argument_below e i xs x a.below l q))))
     (small_at (changed_argument old c k) old xs i x (changing_small old c k e xs a s) l q))
 
 -- what the loop leaves
@@ -159,7 +134,7 @@ applied_longer f old cur e i xs ys a m =
     record {
       within = omega (arith, a.within, length_extends old cur m.goes_on);
       application = subst (λ u. IsApplication (node_of u)) (sym t) a.application;
-      is = ap arguments_of t ∙ a.is ∙ sym (args_extend old cur xs m.goes_on (below_longer e (length old) xs (omega (arith, a.within)) a.below));
+      is = ap arguments_of t ∙ a.is ∙ sym (arguments_extend old cur xs m.goes_on (arguments_longer e (length old) xs (omega (arith, a.within)) a.below));
       below = a.below;
     }
 
@@ -173,7 +148,7 @@ pub mapped_tree : (f : Argument → Argument) (old cur : List Expression) (e i :
 mapped_tree f old cur e i xs ys a m l = ap₂ (λ u ps. applied (node_of u) ps) (tree_extends old cur e m.goes_on a.within) (mapped_end f old cur i xs ys m l)
 
 pub mapped_body : (f : Argument → Argument) (old cur : List Expression) (e i : ℕ) (xs ys : List Arg) (x : Arg) → IsApplied old e xs → Mapped f old cur i xs ys → i < length xs → x ≡ get_or xs i x → BodyBelow (length cur) x.body
-mapped_body f old cur e i xs ys x a m l q = body_longer e (length cur) x.body (omega (arith, a.within, length_extends old cur m.goes_on)) (body_at e i xs x a.below l q)
+mapped_body f old cur e i xs ys x a m l q = body_longer e (length cur) x.body (omega (arith, a.within, length_extends old cur m.goes_on)) (argument_below e i xs x a.below l q)
 
 pub changing_below : (f : Argument → Argument) (old cur : List Expression) (c : Change) (i : ℕ) (xs ys : List Arg) → Mapped f old cur i xs ys → ChangeBelow (length old) c → ChangeBelow (length cur) c
 changing_below f old cur c i xs ys m h = change_below (length old) (length cur) c (length_extends old cur m.goes_on) h
@@ -196,7 +171,7 @@ change_measure None = 0
 change_measure (Some e) = 4 * e + 3
 
 change_falls : (e i : ℕ) (xs : List Arg) (x : Arg) → ArgumentsBelow e xs → i < length xs → x ≡ get_or xs i x → change_measure x.body < 4 * e + 1
-change_falls e i xs x b l g = go x.body (body_at e i xs x b l g)
+change_falls e i xs x b l g = go x.body (argument_below e i xs x b l g)
   where
     go : (b : Option ℕ) → BodyBelow e b → change_measure b < 4 * e + 1
     go None k = omega arith

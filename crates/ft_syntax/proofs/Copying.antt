@@ -5,12 +5,12 @@ use Rattle.std.proofs.lemmas.List.{map-append}
 use Rattle.ft_theory.specs.Expressions.{Expression}
 use Rattle.ft_syntax.specs.Arguments.{node_of, applied, FitsNode}
 use Rattle.ft_syntax.specs.Table.{tree, Extends, argument_in, BodyBelow, ArgumentsBelow}
+use Rattle.ft_syntax.specs.Laws.{extends_same, extends_trans, length_extends, arguments_extend, arguments_longer, arguments_push}
 use Rattle.ft_syntax.specs.Invariant.{IsApplied}
 use Rattle.ft_syntax.specs.declared.syntax.Arg.{Arg}
 use Rattle.ft_syntax.specs.declared.syntax.Node.{Node}
-use Rattle.ft_syntax.proofs.Tables.{extends_same}
 use Rattle.ft_syntax.proofs.Lists.{take_all}
-use Rattle.ft_syntax.proofs.Changing.{extends_trans, length_extends, args_extend, below_longer, below_push, body_at, applied_tree, applied_fits}
+use Rattle.ft_syntax.proofs.Changing.{applied_tree, applied_fits}
 
 -- the first i arguments of the other table are copied
 pub record Copying (other old cur : List Expression) (i : ℕ) (xs ys : List Arg) : Type 0 where
@@ -27,18 +27,11 @@ copying_more other old cur next i xs ys x b m g l h w q =
     let y : Arg = record { binders = x.binders; body = b } in
     record {
       goes_on = extends_trans old cur next m.goes_on g;
-      below = below_push (length next) ys y (below_longer (length cur) (length next) ys (length_extends cur next g) m.below) w;
+      below = arguments_push (length next) ys y (arguments_longer (length cur) (length next) ys (length_extends cur next g) m.below) w;
       done = map-append (argument_in next) ys (y ∷ [])
-          ∙ ap₂ (λ ps d. ps ++ (x.binders, d) ∷ []) (args_extend cur next ys g m.below ∙ m.done) q
+          ∙ ap₂ (λ ps d. ps ++ (x.binders, d) ∷ []) (arguments_extend cur next ys g m.below ∙ m.done) q
           ∙ sym (ap (map (argument_in other)) (take-suc xs i x l ∙ ap (λ z. take i xs ++ z ∷ []) (sym h)) ∙ map-append (argument_in other) (take i xs) (x ∷ []));
     }
-
-pub copying_body : (other : List Expression) (e i : ℕ) (xs : List Arg) (x : Arg) → IsApplied other e xs → i < length xs → x ≡ get_or xs i x → BodyBelow (length other) x.body
-copying_body other e i xs x a l h = go x.body (body_at e i xs x a.below l h)
-  where
-    go : (b : Option ℕ) → BodyBelow e b → BodyBelow (length other) b
-    go None g = tt
-    go (Some j) g = omega (arith, a.within)
 
 copying_all : (other old cur : List Expression) (i : ℕ) (xs ys : List Arg) → Copying other old cur i xs ys → length xs ≤ i → map (argument_in cur) ys ≡ map (argument_in other) xs
 copying_all other old cur i xs ys m l = m.done ∙ ap (map (argument_in other)) (take_all i xs l)

@@ -1,12 +1,12 @@
 -- The loops that put an instance in the arguments of an application, and in the terms of a metavariable.
 use Rattle.std.proofs.Common.{◌≡◌, ◌≢◌, ℕ, zero, suc, ◌<◌, ◌≤◌, List, [], ◌∷◌, ◌++◌, length, get_or, take, map, Bool, true, false, cond, nat_eq, ◌&&◌, is_some, Option, Some, None, option_map, unwrap_or, refl, sym, ap, ap₂, ◌∙◌, subst, arith}
-use mathlib.Core.Path.{fun_ext}
 use Rattle.std.proofs.Math.Seq.{take-suc}
 use Rattle.std.proofs.lemmas.List.{map-append}
 use Rattle.ft_theory.specs.Expressions.{Expression, bound, free, symbol, meta, with_body, dummy, Terms, no_terms, also, count, lifts, put, pushes, body_or, act, act_arguments, act_terms, instantiate}
 use Rattle.ft_theory.specs.Small.{IsSmall}
 use Rattle.ft_syntax.specs.Arguments.{Argument, node_of, arguments_of, list_of_terms, as_arguments, as_terms, applied, IsTerm, AreTerms, FitsNode, IsApplication}
 use Rattle.ft_syntax.specs.Table.{tree, Extends, argument_in, BodyBelow}
+use Rattle.ft_syntax.specs.Laws.{extends_same, extends_trans, length_extends, tree_extends, argument_below, pairs_longer, body_for_below, instance_extends}
 use Rattle.ft_syntax.specs.Measures.{IsSmallBody, AreSmall}
 use Rattle.ft_syntax.specs.Invariant.{IsApplied}
 use Rattle.ft_syntax.specs.Instances.{planted, body_for, instance_in, PairsBelow, IsTermOf, AreTermsOf, BodiesBelow, instantiated_argument, KeepsHead, HasBody, IsPlanted, IsNeverSmall}
@@ -14,10 +14,9 @@ use Rattle.ft_syntax.specs.declared.syntax.Arg.{Arg}
 use Rattle.ft_syntax.specs.declared.syntax.Node.{Node}
 use Rattle.ft_syntax.specs.declared.syntax.Node.TheVariants.{Bound, Free, Sym, Meta}
 use Rattle.ft_syntax.proofs.Parts.{small_arguments}
-use Rattle.ft_syntax.proofs.Tables.{extends_same}
 use Rattle.ft_syntax.proofs.Lists.{take_all}
-use Rattle.ft_syntax.proofs.Changing.{Mapped, mapped_start, mapped_more, mapped_fits, mapped_tree, mapped_body, applied_longer, applied_tree, applied_fits, fits_kept, small_at, KeepsTerms, tree_extends, length_extends, extends_trans, body_at}
-use Rattle.ft_syntax.proofs.Planting.{terms_extend, first_below}
+use Rattle.ft_syntax.proofs.Changing.{Mapped, mapped_start, mapped_more, mapped_fits, mapped_tree, mapped_body, applied_longer, applied_tree, applied_fits, fits_kept, small_at, KeepsTerms, first_below}
+use Rattle.ft_syntax.proofs.Planting.{terms_extend, bodies_longer}
 
 -- variables
 pub instantiated_bound : (i : ℕ → ℕ → Option Expression) (e : Expression) (j : ℕ) → e ≡ bound j → e ≡ instantiate i e
@@ -62,14 +61,6 @@ meta_application ps (symbol f a) b h = absurd h
 meta_application ps (meta n a) b h = tt
 
 -- the body is a tree of the table
-body_for_below : (n : ℕ) (ps : List (ℕ × Arg)) (m k b : ℕ) → PairsBelow n ps → body_for ps m k ≡ Some b → b < n
-body_for_below n [] m k b h g = cc
-body_for_below n (p ∷ ps) m k b h g = go (nat_eq m p.0 && nat_eq k p.1.binders && is_some p.1.body) (λ f. body_for_below n ps m k b h.1 f) g
-  where
-    go : (t : Bool) → (body_for ps m k ≡ Some b → b < n) → cond t p.1.body (body_for ps m k) ≡ Some b → b < n
-    go true f g = subst (BodyBelow n) g h.0
-    go false f g = f g
-
 pub has_body_below : (n : ℕ) (ps : List (ℕ × Arg)) (e : Expression) (b : ℕ) → PairsBelow n ps → HasBody ps e b → b < n
 has_body_below n ps (bound j) b h g = absurd g
 has_body_below n ps (free v) b h g = absurd g
@@ -77,21 +68,6 @@ has_body_below n ps (symbol f a) b h g = absurd g
 has_body_below n ps (meta m a) b h g = body_for_below n ps m (count a) b h g
 
 -- a table that goes on
-pub pairs_longer : (n m : ℕ) (ps : List (ℕ × Arg)) → n ≤ m → PairsBelow n ps → PairsBelow m ps
-pairs_longer n m [] l h = tt
-pairs_longer n m (p ∷ ps) l h = (go p.1.body h.0, pairs_longer n m ps l h.1)
-  where
-    go : (b : Option ℕ) → BodyBelow n b → BodyBelow m b
-    go None g = tt
-    go (Some e) g = omega arith
-
-instance_extends : (ts us : List Expression) (ps : List (ℕ × Arg)) → Extends ts us → PairsBelow (length ts) ps → instance_in us ps ≡ instance_in ts ps
-instance_extends ts us ps x h = fun_ext (λ m. fun_ext (λ k. go m k (body_for ps m k) refl))
-  where
-    go : (m k : ℕ) (b : Option ℕ) → body_for ps m k ≡ b → option_map (tree us) b ≡ option_map (tree ts) b
-    go m k None e = refl
-    go m k (Some b) e = ap Some (tree_extends ts us b x (body_for_below (length ts) ps m k b h e))
-
 body_extends : (ts us : List Expression) (ps : List (ℕ × Arg)) (b : Option ℕ) → Extends ts us → PairsBelow (length ts) ps → BodyBelow (length ts) b →
     option_map (instantiate (instance_in us ps)) (option_map (tree us) b) ≡ option_map (instantiate (instance_in ts ps)) (option_map (tree ts) b)
 body_extends ts us ps None x h g = refl
@@ -204,11 +180,6 @@ bodies_push : (n : ℕ) (ys : List (Option ℕ)) (y : Option ℕ) → BodiesBelo
 bodies_push n [] y h b = (b, tt)
 bodies_push n (z ∷ ys) y h b = (h.0, bodies_push n ys y h.1 b)
 
-bodies_longer : (n m : ℕ) (ys : List (Option ℕ)) → n ≤ m → BodiesBelow n ys → BodiesBelow m ys
-bodies_longer n m [] l h = tt
-bodies_longer n m (None ∷ ys) l h = (tt, bodies_longer n m ys l h.1)
-bodies_longer n m (Some e ∷ ys) l h = (omega (arith, h.0), bodies_longer n m ys l h.1)
-
 unwrapped : (i : ℕ → ℕ → Option Expression) (b : Option Expression) → unwrap_or (option_map (instantiate i) b) (bound 0) ≡ instantiate i (unwrap_or b (bound 0))
 unfolding act
 unwrapped i None = refl
@@ -239,7 +210,7 @@ pub gathering_below : (old cur : List Expression) (pairs : List (ℕ × Arg)) (i
 gathering_below old cur pairs i xs ys m h = pairs_longer (length old) (length cur) pairs (length_extends old cur m.goes_on) h
 
 pub gathering_body : (old cur : List Expression) (pairs : List (ℕ × Arg)) (e i : ℕ) (xs : List Arg) (ys : List (Option ℕ)) (x : Arg) → IsApplied old e xs → Gathering old cur pairs i xs ys → i < length xs → x ≡ get_or xs i x → BodyBelow (length cur) x.body
-gathering_body old cur pairs e i xs ys x q m l r = go x.body (body_at e i xs x q.below l r)
+gathering_body old cur pairs e i xs ys x q m l r = go x.body (argument_below e i xs x q.below l r)
   where
     go : (b : Option ℕ) → BodyBelow e b → BodyBelow (length cur) b
     go None g = tt

@@ -8,6 +8,5 @@ pub mod Changing
 pub mod Plugs
 pub mod Planting
 pub mod Instantiating
-pub mod Outcomes
 pub mod Copying
 pub mod Sameness

@@ -3,18 +3,10 @@ use Rattle.std.proofs.Common.{◌≡◌, suc, ◌+◌, max, List, [], ◌∷◌,
 use Rattle.ft_theory.specs.Expressions.{Expression, bound, free, symbol, meta, Arguments, no_arguments, with_body, dummy, Terms, no_terms, also}
 use Rattle.ft_theory.specs.Small.{depth, depth_of_arguments, depth_of_terms, size, size_of_arguments, size_of_terms, NumbersFit, NumbersFitInArguments, NumbersFitInTerms, IsSmall}
 use Rattle.ft_syntax.specs.Arguments.{Argument, node_of, list_of_arguments, list_of_terms, arguments_of, as_arguments, as_terms, applied, AreTerms, FitsNode, IsApplication}
+use Rattle.ft_syntax.specs.Laws.{arguments_listed, terms_listed}
 use Rattle.ft_syntax.specs.Measures.{greatest_depth, total_size, AllNumbersFit, AreSmall}
 use Rattle.ft_syntax.specs.declared.syntax.Node.{Node}
 use Rattle.ft_syntax.specs.declared.syntax.Node.TheVariants.{Bound, Free, Sym, Meta}
-
-arguments_listed : (a : Arguments) → as_arguments (list_of_arguments a) ≡ a
-arguments_listed no_arguments = refl
-arguments_listed (with_body n e a) = ap (with_body n e) (arguments_listed a)
-arguments_listed (dummy n a) = ap (dummy n) (arguments_listed a)
-
-terms_listed : (a : Terms) → as_terms (list_of_terms a) ≡ a
-terms_listed no_terms = refl
-terms_listed (also t a) = ap (also t) (terms_listed a)
 
 pub list_arguments : (ps : List Argument) → list_of_arguments (as_arguments ps) ≡ ps
 list_arguments [] = refl

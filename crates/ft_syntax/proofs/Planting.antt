@@ -4,13 +4,13 @@ use Rattle.ft_theory.specs.Expressions.{Expression, bound, free, Terms, no_terms
 use Rattle.ft_theory.specs.Small.{IsSmall}
 use Rattle.ft_syntax.specs.Arguments.{node_of, applied, FitsNode}
 use Rattle.ft_syntax.specs.Table.{tree, Extends, argument_in, BodyBelow, ArgumentsBelow}
+use Rattle.ft_syntax.specs.Laws.{extends_same, length_extends, tree_extends, body_extends}
 use Rattle.ft_syntax.specs.Measures.{IsSmallBody, AreSmall}
 use Rattle.ft_syntax.specs.Invariant.{IsApplied}
 use Rattle.ft_syntax.specs.Instances.{planted, planted_argument, body_for, IsTermOf, AreTermsOf, BodiesBelow, IsPlanted, IsNeverSmall, IsPlantedBody, IsNeverSmallBody}
 use Rattle.ft_syntax.specs.declared.syntax.Arg.{Arg}
 use Rattle.ft_syntax.proofs.Parts.{small_arguments}
-use Rattle.ft_syntax.proofs.Tables.{extends_same}
-use Rattle.ft_syntax.proofs.Changing.{Mapped, mapped_start, mapped_more, mapped_fits, mapped_tree, mapped_body, applied_longer, applied_tree, applied_fits, fits_kept, small_at, KeepsTerms, tree_extends, length_extends, body_at}
+use Rattle.ft_syntax.proofs.Changing.{Mapped, mapped_start, mapped_more, mapped_fits, mapped_tree, mapped_body, applied_longer, applied_tree, applied_fits, fits_kept, small_at, KeepsTerms, first_below}
 use Rattle.ft_syntax.proofs.Plugs.{planted_within, planted_past, planted_some, planted_none, planted_free, planted_applied, cut_planted, bodies_at}
 
 -- what the function on variables answers
@@ -76,27 +76,16 @@ terms_extend ts us [] (also t a) g b h = absurd h
 terms_extend ts us (x ∷ xs) no_terms g b h = absurd h
 terms_extend ts us (x ∷ xs) (also t a) g b h = (term_extends ts us x t g b.0 h.0, terms_extend ts us xs a g b.1 h.1)
 
-bodies_longer : (n m : ℕ) (xs : List (Option ℕ)) → n ≤ m → BodiesBelow n xs → BodiesBelow m xs
+pub bodies_longer : (n m : ℕ) (xs : List (Option ℕ)) → n ≤ m → BodiesBelow n xs → BodiesBelow m xs
 bodies_longer n m [] l h = tt
 bodies_longer n m (None ∷ xs) l h = (tt, bodies_longer n m xs l h.1)
 bodies_longer n m (Some e ∷ xs) l h = (omega (arith, h.0), bodies_longer n m xs l h.1)
-
-body_extends : (ts us : List Expression) (b : Option ℕ) → Extends ts us → BodyBelow (length ts) b → option_map (tree us) b ≡ option_map (tree ts) b
-body_extends ts us None g h = refl
-body_extends ts us (Some e) g h = ap Some (tree_extends ts us e g h)
 
 -- the loop
 pub record Planting (old cur : List Expression) (terms : List (Option ℕ)) (k i : ℕ) (xs ys : List Arg) : Type 0 where
   pub goes_on : Extends old cur
   pub below : ArgumentsBelow (length cur) ys
   pub done : (a : Terms) → AreTermsOf old terms a → Mapped (planted_argument a k) old cur i xs ys
-
-pub first_below : (old : List Expression) (e i : ℕ) (xs : List Arg) (x : Arg) → IsApplied old e xs → i < length xs → x ≡ get_or xs i x → BodyBelow (length old) x.body
-first_below old e i xs x q l r = go x.body (body_at e i xs x q.below l r)
-  where
-    go : (b : Option ℕ) → BodyBelow e b → BodyBelow (length old) b
-    go None g = tt
-    go (Some j) g = omega (arith, q.within)
 
 planted_keeps : (a : Terms) (k : ℕ) → KeepsTerms (planted_argument a k)
 planted_keeps a k (n, Some e) h = h

@@ -1,7 +1,9 @@
 -- What `==` tells of arguments.
 use Rattle.std.proofs.Common.{◌≡◌, List, map, ◌∙◌, ℕ, Bool, true, false, ◌&&◌, nat_eq, Option, Some, None, sym, ap, ap₂, refl}
 use Rattle.std.specs.Bool.{Decides}
-use Rattle.std.proofs.lemmas.Bool.{eqb-true, eq-eqb}
+use Rattle.std.proofs.lemmas.Bool.{eqb-true, eq-eqb, and_parts}
+use Rattle.std.proofs.lemmas.Option.{none-some, same_Some}
+use Rattle.ft_common.proofs.Booleans.{false_true}
 use Rattle.ft_theory.specs.Expressions.{Expression}
 use Rattle.ft_syntax.specs.Arguments.{applied, node_of}
 use Rattle.ft_syntax.specs.Table.{tree, argument_in}
@@ -13,32 +15,18 @@ use Rattle.ft_syntax.specs.contracts.syntax.ArgPartialEq.TheImpl as arg_eq
 argument : ℕ → Option ℕ → Arg
 argument n b = record { binders = n; body = b }
 
-both_true : (a b : Bool) → (a && b) ≡ true → (a ≡ true) × (b ≡ true)
-both_true true true h = (refl, refl)
-both_true true false h = cc
-both_true false b h = cc
-
-no : {P : Type 0} → false ≡ true → P
-no h = cc
-
-none_some : {P : Type 0} (e : ℕ) → None ≡ Some e → P
-none_some e h = cc
-
 binders_same : (x y : Arg) → x ≡ y → nat_eq x.binders y.binders ≡ true
 binders_same x y h = eq-eqb x.binders y.binders (ap (λ z. z.binders) h)
 
 decides_parts : (m n : ℕ) (a b : Option ℕ) → Decides ((arg_eq.ghosts).eq (argument m a) (argument n b)) (argument m a ≡ argument n b)
 unfolding argument
-decides_parts m n None None = (λ h. ap (λ k. argument k None) (eqb-true m n (both_true (nat_eq m n) true h).0), λ e. ap (λ b. b && true) (binders_same (argument m None) (argument n None) e))
-decides_parts m n None (Some e) = (λ h. no (both_true (nat_eq m n) false h).1, λ h. none_some e (ap (λ z. z.body) h))
-decides_parts m n (Some d) None = (λ h. no (both_true (nat_eq m n) false h).1, λ h. none_some d (sym (ap (λ z. z.body) h)))
+decides_parts m n None None = (λ h. ap (λ k. argument k None) (eqb-true m n (and_parts (nat_eq m n) true h).0), λ e. ap (λ b. b && true) (binders_same (argument m None) (argument n None) e))
+decides_parts m n None (Some e) = (λ h. false_true (and_parts (nat_eq m n) false h).1, λ h. absurd (none-some e (ap (λ z. z.body) h)))
+decides_parts m n (Some d) None = (λ h. false_true (and_parts (nat_eq m n) false h).1, λ h. absurd (none-some d (sym (ap (λ z. z.body) h))))
 decides_parts m n (Some d) (Some e) = (
-  λ h. let t = both_true (nat_eq m n) (nat_eq d e) h in ap₂ (λ k b. argument k (Some b)) (eqb-true m n t.0) (eqb-true d e t.1),
-  λ h. ap₂ (λ a b. a && b) (binders_same (argument m (Some d)) (argument n (Some e)) h) (eq-eqb d e (some_same (ap (λ z. z.body) h))),
+  λ h. let t = and_parts (nat_eq m n) (nat_eq d e) h in ap₂ (λ k b. argument k (Some b)) (eqb-true m n t.0) (eqb-true d e t.1),
+  λ h. ap₂ (λ a b. a && b) (binders_same (argument m (Some d)) (argument n (Some e)) h) (eq-eqb d e (same_Some d e (ap (λ z. z.body) h))),
 )
-  where
-    some_same : {x y : ℕ} → Some x ≡ Some y → x ≡ y
-    some_same e = cc
 
 -- `==` of two arguments tells whether they are the same
 pub decides : (x y : Arg) → Decides ((arg_eq.ghosts).eq x y) (x ≡ y)

@@ -7,6 +7,7 @@ use Rattle.ft_theory.specs.Expressions.{Expression}
 use Rattle.ft_theory.specs.Small.{depth, size, IsSmall}
 use Rattle.ft_syntax.specs.Arguments.{applied, FitsNode, node_of, arguments_of}
 use Rattle.ft_syntax.specs.Table.{tree, Extends, argument_in, BodyBelow, ArgumentsBelow}
+use Rattle.ft_syntax.specs.Laws.{argument_below, arguments_extend}
 use Rattle.ft_syntax.specs.Invariant.{row_tree, trees_after, IsGoodRow, AreGoodRows}
 use Rattle.ft_syntax.specs.declared.syntax.Arg.{Arg}
 use Rattle.ft_syntax.specs.declared.syntax.Node.{Node}
@@ -23,20 +24,6 @@ length_trees ts (r ∷ rs) = omega (arith, length_trees (ts ++ row_tree ts r ∷
 pub good_append : (ts : List Expression) (rs : List Row) (r : Row) → AreGoodRows ts rs → IsGoodRow (trees_after ts rs) r → AreGoodRows ts (rs ++ r ∷ [])
 good_append ts [] r h g = (g, tt)
 good_append ts (d ∷ rs) r h g = (h.0, good_append (ts ++ row_tree ts d ∷ []) rs r h.1 g)
-
--- reading a tree that was there before
-pub get_append : (ts us : List Expression) (e : ℕ) → e < length ts → tree (ts ++ us) e ≡ tree ts e
-get_append [] us e l = absurd (omega arith)
-get_append (t ∷ ts) us zero l = refl
-get_append (t ∷ ts) us (suc e) l = get_append ts us e (omega arith)
-
-pub body_append : (ts us : List Expression) (b : Option ℕ) → BodyBelow (length ts) b → option_map (tree (ts ++ us)) b ≡ option_map (tree ts) b
-body_append ts us None h = refl
-body_append ts us (Some e) h = ap Some (get_append ts us e h)
-
-pub args_append : (ts us : List Expression) (xs : List Arg) → ArgumentsBelow (length ts) xs → map (argument_in (ts ++ us)) xs ≡ map (argument_in ts) xs
-args_append ts us [] h = refl
-args_append ts us (x ∷ xs) h = ap₂ (λ b ps. (x.binders, b) ∷ ps) (body_append ts us x.body h.0) (args_append ts us xs h.1)
 
 -- a table goes on from what it began with
 pub trees_extend : (ts : List Expression) (rs : List Row) → (more : List Expression) × (trees_after ts rs ≡ ts ++ more)
@@ -63,7 +50,7 @@ first_row ts r rs g =
     let x = trees_extend (ts ++ t ∷ []) rs in
     let whole : trees_after ts (r ∷ rs) ≡ ts ++ t ∷ x.0 = x.1 ∙ append_assoc ts (t ∷ []) x.0 in
     let at : tree (trees_after ts (r ∷ rs)) (length ts) ≡ t = ap (λ us. tree us (length ts)) whole ∙ get_last ts t x.0 in
-    let args : map (argument_in (trees_after ts (r ∷ rs))) r.args.items ≡ map (argument_in ts) r.args.items = ap (λ us. map (argument_in us) r.args.items) whole ∙ args_append ts (t ∷ x.0) r.args.items g.below in
+    let args : map (argument_in (trees_after ts (r ∷ rs))) r.args.items ≡ map (argument_in ts) r.args.items = ap (λ us. map (argument_in us) r.args.items) whole ∙ arguments_extend ts (ts ++ t ∷ x.0) r.args.items (t ∷ x.0, refl) g.below in
     record {
       below = g.below;
       fits = subst (FitsNode r.node) (sym args) g.fits;
@@ -87,9 +74,6 @@ pub row_of : (rs : List Row) (e : ℕ) (r : Row) → AreGoodRows [] rs → e < l
 row_of rs e r g l h = subst (λ k. IsRow (trees_after [] rs) k r) (omega arith) (row_at [] rs e r g (slice_get_read rs (length rs) e r refl l h))
 
 -- a table that goes on
-pub extends_same : (ts us : List Expression) → us ≡ ts → Extends ts us
-extends_same ts us h = ([], h ∙ sym (append-nil ts))
-
 pub extends_last : (ts us : List Expression) (t : Expression) → us ≡ ts ++ t ∷ [] → Extends ts us
 extends_last ts us t h = (t ∷ [], h)
 
@@ -113,13 +97,8 @@ pub row_argument : (ts : List Expression) (e i : ℕ) (r : Row) (x : Arg) → Is
 row_argument ts e i r x h l g =
     ap (λ ps. slice_get ps i) (row_arguments ts e r h) ∙ slice_get-map (argument_in ts) r.args.items i ∙ ap (option_map (argument_in ts)) (slice_get_read r.args.items (length r.args.items) i x refl l g)
 
-body_below : (n i : ℕ) (xs : List Arg) (x : Arg) → ArgumentsBelow n xs → i < length xs → x ≡ get_or xs i x → BodyBelow n x.body
-body_below n i [] x b l g = absurd (omega arith)
-body_below n zero (y ∷ xs) x b l g = subst (λ z. BodyBelow n z.body) (sym g) b.0
-body_below n (suc i) (y ∷ xs) x b l g = body_below n i xs x b.1 (omega arith) g
-
 pub row_below : (ts : List Expression) (e i : ℕ) (r : Row) (x : Arg) → IsRow ts e r → i < length r.args.items → x ≡ get_or r.args.items i x → BodyBelow e x.body
-row_below ts e i r x h l g = body_below e i r.args.items x h.below l g
+row_below ts e i r x h l g = argument_below e i r.args.items x h.below l g
 
 -- the tree of a row that has this node and these arguments
 pub tree_of_row : (ts : List Expression) (e : ℕ) (r : Row) (node : Node) (args : List Arg) → IsRow ts e r → r.node ≡ node → r.args.items ≡ args → tree ts e ≡ applied node (map (argument_in ts) args)

@@ -5,3 +5,4 @@ pub mod Invariant
 pub mod Measures
 pub mod Changes
 pub mod Instances
+pub mod Laws

@@ -70,7 +70,7 @@ impl Terms {
 
     // The expression with the change made, below so many binders.
     #[cycle(changing)]
-    #[tactic(auto, using(crate::proofs::Changes::node_bound, crate::proofs::Changes::node_free, crate::proofs::Changes::node_symbol, crate::proofs::Changes::node_meta, crate::proofs::Tables::extends_same))]
+    #[tactic(auto, using(crate::proofs::Changes::node_bound, crate::proofs::Changes::node_free, crate::proofs::Changes::node_symbol, crate::proofs::Changes::node_meta, crate::specs::Laws::extends_same))]
     fn change(&mut self, e: E, under: u64, change: &Change) -> Result<E, SynFault>
         requires { (e < length self.old) × ChangeBelow (length self.old) change.now }
         ensures within { IfOk result (λ r. r < length self.new) }
@@ -87,7 +87,7 @@ impl Terms {
     }
 
     // The bound variable i, which is e, with the change made.
-    #[tactic(auto, using(crate::proofs::Changes::opened_there, crate::proofs::Changes::opened_other, crate::proofs::Changes::closed_bound, crate::proofs::Changes::replaced_bound, crate::proofs::Changes::raised_within, crate::proofs::Changes::raised_past, crate::proofs::Changes::small_bound, crate::proofs::Tables::extends_same))]
+    #[tactic(auto, using(crate::proofs::Changes::opened_there, crate::proofs::Changes::opened_other, crate::proofs::Changes::closed_bound, crate::proofs::Changes::replaced_bound, crate::proofs::Changes::raised_within, crate::proofs::Changes::raised_past, crate::proofs::Changes::small_bound, crate::specs::Laws::extends_same))]
     fn change_bound(&mut self, e: E, i: u64, under: u64, change: &Change) -> Result<E, SynFault>
         requires within { (e < length self.old) × ChangeBelow (length self.old) change.now }
         requires is { tree self.old e ≡ bound i }
@@ -114,7 +114,7 @@ impl Terms {
     }
 
     // The free variable u, which is e, with the change made.
-    #[tactic(auto, using(crate::proofs::Changes::opened_free, crate::proofs::Changes::raised_free, crate::proofs::Changes::closed_there, crate::proofs::Changes::closed_other, crate::proofs::Changes::replaced_there, crate::proofs::Changes::replaced_other, crate::proofs::Tables::extends_same))]
+    #[tactic(auto, using(crate::proofs::Changes::opened_free, crate::proofs::Changes::raised_free, crate::proofs::Changes::closed_there, crate::proofs::Changes::closed_other, crate::proofs::Changes::replaced_there, crate::proofs::Changes::replaced_other, crate::specs::Laws::extends_same))]
     fn change_free(&mut self, e: E, u: u64, under: u64, change: &Change) -> Result<E, SynFault>
         requires within { (e < length self.old) × ChangeBelow (length self.old) change.now }
         requires is { tree self.old e ≡ free u }
@@ -156,7 +156,7 @@ impl Terms {
 
     // The body of an argument with the change made.
     #[cycle(changing)]
-    #[tactic(auto, using(crate::proofs::Changes::cut_body, crate::proofs::Changes::cut_body_refused, crate::proofs::Tables::extends_same))]
+    #[tactic(auto, using(crate::proofs::Changes::cut_body, crate::proofs::Changes::cut_body_refused, crate::specs::Laws::extends_same))]
     fn change_body(
         &mut self,
         body: Option<E>,

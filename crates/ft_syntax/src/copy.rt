@@ -41,7 +41,7 @@ impl Terms {
 
     // The application that e is in the other table.
     #[cycle(copying)]
-    #[tactic(auto, using(crate::proofs::Copying::copying_start, crate::proofs::Copying::copying_body, crate::proofs::Copying::copying_fits, crate::proofs::Copying::copying_end, crate::proofs::Copying::copying_goes_on, crate::proofs::Changing::applied_falls))]
+    #[tactic(auto, using(crate::proofs::Copying::copying_start, crate::proofs::Changing::first_below, crate::proofs::Copying::copying_fits, crate::proofs::Copying::copying_end, crate::proofs::Copying::copying_goes_on, crate::proofs::Changing::applied_falls))]
     fn copied_application(&mut self, other: &Terms, node: Node, e: E) -> Result<E, SynFault>
         requires within { e < length other.now }
         requires node { node ≡ node_of (tree other.now e) }
@@ -64,7 +64,7 @@ impl Terms {
 
     // The body of an argument of the other table.
     #[cycle(copying)]
-    #[tactic(auto, using(crate::proofs::Copying::copied_some, crate::proofs::Tables::extends_same))]
+    #[tactic(auto, using(crate::proofs::Copying::copied_some, crate::specs::Laws::extends_same))]
     fn copied_body(&mut self, other: &Terms, body: Option<E>) -> Result<Option<E>, SynFault>
         requires { BodyBelow (length other.now) body }
         ensures within { IfOk result (λ b. BodyBelow (length self.new) b) }

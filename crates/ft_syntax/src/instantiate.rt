@@ -28,7 +28,7 @@ impl Terms {
 
     // The expression with the instance of the pairs put in it.
     #[cycle(instantiating)]
-    #[tactic(auto, using(crate::proofs::Changes::node_bound, crate::proofs::Changes::node_free, crate::proofs::Changes::node_symbol, crate::proofs::Changes::node_meta, crate::proofs::Instantiating::instantiated_bound, crate::proofs::Instantiating::instantiated_free, crate::proofs::Instantiating::keeps_symbol, crate::proofs::Instantiating::keeps_meta, crate::proofs::Instantiating::has_body, crate::proofs::Tables::extends_same))]
+    #[tactic(auto, using(crate::proofs::Changes::node_bound, crate::proofs::Changes::node_free, crate::proofs::Changes::node_symbol, crate::proofs::Changes::node_meta, crate::proofs::Instantiating::instantiated_bound, crate::proofs::Instantiating::instantiated_free, crate::proofs::Instantiating::keeps_symbol, crate::proofs::Instantiating::keeps_meta, crate::proofs::Instantiating::has_body, crate::specs::Laws::extends_same))]
     fn instantiated(&mut self, e: E, pairs: &[(u64, Arg)]) -> Result<E, SynFault>
         requires { (e < length self.old) × PairsBelow (length self.old) pairs.now }
         ensures within { IfOk result (λ r. r < length self.new) }
@@ -73,7 +73,7 @@ impl Terms {
 
     // The body of an argument with the instance put in it.
     #[cycle(instantiating)]
-    #[tactic(auto, using(crate::proofs::Tables::extends_same, crate::proofs::Instantiating::some_body, crate::proofs::Instantiating::some_refused))]
+    #[tactic(auto, using(crate::specs::Laws::extends_same, crate::proofs::Instantiating::some_body, crate::proofs::Instantiating::some_refused))]
     fn instantiate_body(
         &mut self,
         body: Option<E>,
@@ -141,7 +141,7 @@ impl Terms {
 
     // The expression, below so many binders, with terms for the variables that point past these: the last for the first.
     #[cycle(plugging)]
-    #[tactic(auto, using(crate::proofs::Changes::node_bound, crate::proofs::Changes::node_free, crate::proofs::Changes::node_symbol, crate::proofs::Changes::node_meta, crate::proofs::Planting::plug_free, crate::proofs::Tables::extends_same))]
+    #[tactic(auto, using(crate::proofs::Changes::node_bound, crate::proofs::Changes::node_free, crate::proofs::Changes::node_symbol, crate::proofs::Changes::node_meta, crate::proofs::Planting::plug_free, crate::specs::Laws::extends_same))]
     fn plug(&mut self, e: E, under: u64, terms: &[Option<E>]) -> Result<E, SynFault>
         requires { (e < length self.old) × BodiesBelow (length self.old) terms.now }
         ensures within { IfOk result (λ r. r < length self.new) }
@@ -158,7 +158,7 @@ impl Terms {
     }
 
     // The bound variable i, which is e, with terms put.
-    #[tactic(auto, using(crate::proofs::Planting::plug_within, crate::proofs::Planting::plug_some, crate::proofs::Planting::plug_refused, crate::proofs::Planting::plug_none, crate::proofs::Planting::plug_past, crate::proofs::Planting::plug_past_small, crate::proofs::Planting::term_below, crate::proofs::Tables::extends_same))]
+    #[tactic(auto, using(crate::proofs::Planting::plug_within, crate::proofs::Planting::plug_some, crate::proofs::Planting::plug_refused, crate::proofs::Planting::plug_none, crate::proofs::Planting::plug_past, crate::proofs::Planting::plug_past_small, crate::proofs::Planting::term_below, crate::specs::Laws::extends_same))]
     fn plug_bound(&mut self, e: E, i: u64, under: u64, terms: &[Option<E>]) -> Result<E, SynFault>
         requires within { (e < length self.old) × BodiesBelow (length self.old) terms.now }
         requires is { tree self.old e ≡ bound i }
@@ -208,7 +208,7 @@ impl Terms {
 
     // The body of an argument with terms put in it.
     #[cycle(plugging)]
-    #[tactic(auto, using(crate::proofs::Planting::plug_none_body, crate::proofs::Planting::plug_body, crate::proofs::Planting::plug_body_refused, crate::proofs::Tables::extends_same))]
+    #[tactic(auto, using(crate::proofs::Planting::plug_none_body, crate::proofs::Planting::plug_body, crate::proofs::Planting::plug_body_refused, crate::specs::Laws::extends_same))]
     fn plug_body(
         &mut self,
         body: Option<E>,

@@ -12,6 +12,3 @@ mod table;
 pub use instance::{Instance, Pairs};
 pub use syntax::{Arg, E, Node, SynFault};
 pub use table::Terms;
-
-#[cfg(test)]
-mod tests;

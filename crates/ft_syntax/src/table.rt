@@ -11,6 +11,7 @@ ghost use Rattle.ft_syntax.specs.declared.syntax.SynFault.TheVariants.{TooBig, M
 
 use crate::recent::{Recent, mark_of};
 use crate::syntax::{Arg, E, Node, SynFault};
+use ft_base::limits::{MAX_BINDERS, MAX_DEPTH, MAX_SIZE};
 use std::alloc::{AllocError, Global};
 use std::marker::Model;
 
@@ -102,7 +103,7 @@ impl Terms {
     }
 
     // The expression of a node with its arguments, whose depth and size are these.
-    #[tactic(auto, using(crate::proofs::Tables::extends_last, crate::proofs::Tables::extends_same, crate::proofs::Tables::tree_last, crate::proofs::Tables::length_last))]
+    #[tactic(auto, using(crate::proofs::Tables::extends_last, crate::specs::Laws::extends_same, crate::proofs::Tables::tree_last, crate::proofs::Tables::length_last))]
     fn row(
         &mut self,
         mark: u64,
@@ -127,7 +128,7 @@ impl Terms {
     }
 
     // A variable: the row that is remembered for it, or a new one.
-    #[tactic(auto, using(crate::proofs::Tables::extends_same))]
+    #[tactic(auto, using(crate::specs::Laws::extends_same))]
     fn variable(&mut self, node: Node) -> Result<E, SynFault>
         requires fits { FitsNode node [] }
         requires depth_is { 1 ≡ Rattle.ft_theory.specs.Small.depth (applied node []) }
@@ -155,25 +156,25 @@ impl Terms {
         let mut depth: u64 = 0;
         let mut size: u64 = 0;
         for a in args {
-            if a.binders > 4294967295 {
+            if a.binders > MAX_BINDERS {
                 return None;
             }
             if let Some(e) = a.body {
                 depth = depth.max(self.depth(e));
                 size += self.size(e);
-                if size > 65535 {
+                if size >= MAX_SIZE {
                     return None;
                 }
             }
         }
-        if depth > 999 {
+        if depth >= MAX_DEPTH {
             return None;
         }
         Some((depth, size))
     }
 
     // The application of a symbol or a metavariable to arguments that fit it.
-    #[tactic(auto, using(crate::proofs::Parts::small_applied, crate::proofs::Parts::small_arguments, crate::proofs::Parts::depth_applied, crate::proofs::Parts::size_applied, crate::proofs::Tables::extends_last, crate::proofs::Tables::extends_same, crate::proofs::Tables::tree_last, crate::proofs::Tables::length_last))]
+    #[tactic(auto, using(crate::proofs::Parts::small_applied, crate::proofs::Parts::small_arguments, crate::proofs::Parts::depth_applied, crate::proofs::Parts::size_applied, crate::proofs::Tables::extends_last, crate::specs::Laws::extends_same, crate::proofs::Tables::tree_last, crate::proofs::Tables::length_last))]
     pub(crate) fn apply(&mut self, node: Node, args: Vec<Arg>) -> Result<E, SynFault>
         requires application { IsApplication node }
         requires below { ArgumentsBelow (length self.old) args.items }
@@ -195,7 +196,7 @@ impl Terms {
     }
 
     /// The bound variable of a number.
-    #[tactic(auto, using(crate::proofs::Tables::extends_last, crate::proofs::Tables::extends_same, crate::proofs::Tables::tree_last, crate::proofs::Tables::length_last))]
+    #[tactic(auto, using(crate::proofs::Tables::extends_last, crate::specs::Laws::extends_same, crate::proofs::Tables::tree_last, crate::proofs::Tables::length_last))]
     pub fn bound(&mut self, i: u64) -> Result<E, SynFault>
         ensures within { IfOk result (λ e. e < length self.new) }
         ensures tree { IfOk result (λ e. tree self.new e ≡ bound i) }
@@ -210,7 +211,7 @@ impl Terms {
     }
 
     /// The free variable of a number.
-    #[tactic(auto, using(crate::proofs::Tables::extends_last, crate::proofs::Tables::extends_same, crate::proofs::Tables::tree_last, crate::proofs::Tables::length_last))]
+    #[tactic(auto, using(crate::proofs::Tables::extends_last, crate::specs::Laws::extends_same, crate::proofs::Tables::tree_last, crate::proofs::Tables::length_last))]
     pub fn free(&mut self, v: u64) -> Result<E, SynFault>
         ensures within { IfOk result (λ e. e < length self.new) }
         ensures tree { IfOk result (λ e. tree self.new e ≡ free v) }
@@ -273,7 +274,7 @@ impl Terms {
     }
 
     /// The application of a symbol to arguments.
-    #[tactic(auto, using(crate::proofs::Tables::extends_same))]
+    #[tactic(auto, using(crate::specs::Laws::extends_same))]
     pub fn symbol(&mut self, s: u64, args: &[Arg]) -> Result<E, SynFault>
         requires { ArgumentsBelow (length self.old) args.now }
         ensures within { IfOk result (λ e. e < length self.new) }
@@ -287,7 +288,7 @@ impl Terms {
     }
 
     /// The application of a metavariable to terms.
-    #[tactic(auto, using(crate::proofs::Tables::extends_same, crate::proofs::Lists::terms_below, crate::proofs::Lists::terms_fit, crate::proofs::Lists::terms_are))]
+    #[tactic(auto, using(crate::specs::Laws::extends_same, crate::proofs::Lists::terms_below, crate::proofs::Lists::terms_fit, crate::proofs::Lists::terms_are))]
     pub fn meta(&mut self, m: u64, args: &[E]) -> Result<E, SynFault>
         requires { AllBelow (length self.old) args.now }
         ensures within { IfOk result (λ e. e < length self.new) }
@@ -316,7 +317,7 @@ impl Terms {
     }
 
     // The application e, which has the arguments args, with the arguments list: e itself where these are the same.
-    #[tactic(auto, using(crate::proofs::Sameness::same_tree, crate::proofs::Tables::extends_same))]
+    #[tactic(auto, using(crate::proofs::Sameness::same_tree, crate::specs::Laws::extends_same))]
     pub(crate) fn rebuilt(&mut self, e: E, args: &[Arg], list: Vec<Arg>) -> Result<E, SynFault>
         requires applied { IsApplied self.old e args.now }
         requires below { ArgumentsBelow (length self.old) list.items }

@@ -5,7 +5,7 @@ use Rattle.ft_syntax.specs.Table.{tree}
 use Rattle.ft_judge.specs.Meaning.{claim_in}
 use Rattle.ft_judge.specs.Moving.{moved_list, AreSmall}
 use Rattle.ft_judge.specs.declared.moving.Move.TheVariants.{Open}
-use Rattle.ft_judge.proofs.Moves.{all_extend}
+use Rattle.ft_syntax.specs.Laws.{all_below_extends}
 use Rattle.ft_judge.proofs.Moved.{opened_statement, opened_domains_big, opened_claim_big, form_after}
 use Rattle.ft_judge.proofs.moving.open_first.Goals as goal
 
@@ -13,7 +13,7 @@ pub returns-in-Err-clause-too_big : goal.returns-in-Err-clause-too_big
 returns-in-Err-clause-too_big c = λ e. opened_domains_big c.args.t.now c.args.by c.args.x.now.domains (claim_in c.args.t.now c.args.x.now.form) c.requires.domain (λ s. c.in-Err.ensures.too_big e (subst (λ xs. AreSmall (moved_list c.args.t.now (Open c.args.by) 0 (map (tree c.args.t.now) (drop 1 xs)))) (sym c.items.ensures) s))
 
 pub returns-in-Ok-move_form-clause-within : goal.returns-in-Ok-move_form-clause-within
-returns-in-Ok-move_form-clause-within c = (all_extend c.open_domains.new.t c.move_form.new.t c.in-Ok.domains c.in-Ok-move_form.ensures.goes_on c.in-Ok.ensures.within, c.in-Ok-move_form.ensures.within)
+returns-in-Ok-move_form-clause-within c = (all_below_extends c.open_domains.new.t c.move_form.new.t c.in-Ok.domains c.in-Ok-move_form.ensures.goes_on c.in-Ok.ensures.within, c.in-Ok-move_form.ensures.within)
 
 pub returns-in-Ok-move_form-clause-thesis : goal.returns-in-Ok-move_form-clause-thesis
 returns-in-Ok-move_form-clause-thesis c =

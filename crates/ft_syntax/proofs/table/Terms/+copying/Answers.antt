@@ -3,7 +3,7 @@ use Rattle.ft_syntax.specs.Arguments.{applied}
 use Rattle.ft_syntax.specs.Table.{tree, argument_in}
 use Rattle.ft_syntax.specs.Invariant.{IsApplied}
 use Rattle.ft_syntax.proofs.Copying.{copying_more, copying_fits, copying_end}
-use Rattle.ft_syntax.proofs.Outcomes.{ok_map}
+use Rattle.std.proofs.lemmas.Result.{IfOk-weaker}
 use Rattle.ft_syntax.proofs.table.Terms.+copying.Goals as goal
 
 pub copied_application-loop-a-preserved : goal.copied_application-loop-a-preserved
@@ -20,5 +20,5 @@ pub copied_application-returns-clause-tree : goal.copied_application-returns-cla
 copied_application-returns-clause-tree t c =
     let a : IsApplied c.args.other.now c.args.e c.deref-a-items.result.now = subst (λ xs. IsApplied c.args.other.now c.args.e xs) (sym c.deref-a-items.ensures.value) c.in_ok-args.ensures in
     let done : length c.deref-a-items.result.now ≤ c.loop-a.a-index = search rules in
-    ok_map c.apply.result (λ r. tree c.apply.new.self r ≡ applied c.args.node (map (argument_in c.loop-a.self) c.loop-a.list.items)) (λ r. tree c.apply.new.self r ≡ tree c.args.other.now c.args.e)
+    IfOk-weaker c.apply.result (λ r. tree c.apply.new.self r ≡ applied c.args.node (map (argument_in c.loop-a.self) c.loop-a.list.items)) (λ r. tree c.apply.new.self r ≡ tree c.args.other.now c.args.e)
     (λ r h. h ∙ copying_end c.args.other.now c.args.self.now c.loop-a.self c.args.node c.args.e c.loop-a.a-index c.deref-a-items.result.now c.loop-a.list.items c.requires.node a c.loop-a.invariant done) c.apply.ensures.tree

@@ -4,7 +4,7 @@ use Rattle.ft_syntax.specs.Table.{tree, argument_in}
 use Rattle.ft_syntax.proofs.Changes.{node_free}
 use Rattle.ft_syntax.proofs.Planting.{planting_more, planting_longer, planting_body, planting_below, planting_fits, planting_end, planting_too_big, plug_free}
 use Rattle.ft_syntax.proofs.Changing.{change_measure, applied_falls}
-use Rattle.ft_syntax.proofs.Outcomes.{ok_map, err_map}
+use Rattle.std.proofs.lemmas.Result.{IfOk-weaker, IfErr-weaker}
 use Rattle.ft_syntax.specs.Arguments.{node_of, applied}
 use Rattle.ft_syntax.specs.Instances.{IsPlanted, IsNeverSmall}
 use Rattle.ft_syntax.specs.declared.syntax.SynFault.TheVariants.{TooBig}
@@ -48,12 +48,12 @@ pub plug_arguments-returns-clause-tree : goal.plug_arguments-returns-clause-tree
 plug_arguments-returns-clause-tree t c =
     let a : IsApplied c.args.self.now c.args.e c.deref-a-items.result.now = subst (λ xs. IsApplied c.args.self.now c.args.e xs) (sym c.deref-a-items.ensures.value) c.in_ok-args.ensures in
     let done : length c.deref-a-items.result.now ≤ c.loop-a.a-index = search rules in
-    ok_map c.rebuilt.result (λ r. tree c.rebuilt.new.self r ≡ applied (node_of (tree c.loop-a.self c.args.e)) (map (argument_in c.loop-a.self) c.loop-a.list.items)) (λ r. IsPlanted c.args.self.now c.args.terms.now c.args.under (tree c.args.self.now c.args.e) (tree c.rebuilt.new.self r))
+    IfOk-weaker c.rebuilt.result (λ r. tree c.rebuilt.new.self r ≡ applied (node_of (tree c.loop-a.self c.args.e)) (map (argument_in c.loop-a.self) c.loop-a.list.items)) (λ r. IsPlanted c.args.self.now c.args.terms.now c.args.under (tree c.args.self.now c.args.e) (tree c.rebuilt.new.self r))
     (λ r h. planting_end c.args.self.now c.loop-a.self c.args.terms.now c.args.under c.args.e c.loop-a.a-index c.deref-a-items.result.now c.loop-a.list.items (tree c.rebuilt.new.self r) a c.loop-a.invariant done h) c.rebuilt.ensures.tree
 
 pub plug_arguments-returns-clause-too_big : goal.plug_arguments-returns-clause-too_big
 plug_arguments-returns-clause-too_big t c =
     let a : IsApplied c.args.self.now c.args.e c.deref-a-items.result.now = subst (λ xs. IsApplied c.args.self.now c.args.e xs) (sym c.deref-a-items.ensures.value) c.in_ok-args.ensures in
     let done : length c.deref-a-items.result.now ≤ c.loop-a.a-index = search rules in
-    err_map c.rebuilt.result (λ f. f ≡ TooBig → IsSmall (applied (node_of (tree c.loop-a.self c.args.e)) (map (argument_in c.loop-a.self) c.loop-a.list.items)) → ⊥) (λ f. f ≡ TooBig → IsNeverSmall c.args.self.now c.args.terms.now c.args.under (tree c.args.self.now c.args.e))
+    IfErr-weaker c.rebuilt.result (λ f. f ≡ TooBig → IsSmall (applied (node_of (tree c.loop-a.self c.args.e)) (map (argument_in c.loop-a.self) c.loop-a.list.items)) → ⊥) (λ f. f ≡ TooBig → IsNeverSmall c.args.self.now c.args.terms.now c.args.under (tree c.args.self.now c.args.e))
     (λ f h e. planting_too_big c.args.self.now c.loop-a.self c.args.terms.now c.args.under c.args.e c.loop-a.a-index c.deref-a-items.result.now c.loop-a.list.items a c.loop-a.invariant done (h e)) c.rebuilt.ensures.too_big

@@ -1,0 +1,16 @@
+pub mod Means
+pub mod Derive
+pub mod Opening
+pub mod Applications
+pub mod Positions
+pub mod Parts
+pub mod Patterns
+pub mod Walks
+pub mod Fitting
+pub mod Matches
+pub mod Equational
+pub mod Normal
+pub mod ByType
+pub mod Answers
+pub mod Accepted
+pub mod Stores

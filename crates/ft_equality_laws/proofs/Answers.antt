@@ -1,5 +1,5 @@
 -- The bodies mean what they say; so the answers do.
-use Rattle.std.proofs.Common.{◌≡◌, ◌≤◌, ℕ, Bool, true, false, Some, List, refl, subst}
+use Rattle.std.proofs.Common.{◌≡◌, ◌≤◌, arith, ℕ, Bool, true, false, Some, List, refl, subst}
 use Rattle.ft_theory.specs.Expressions.{Expression}
 use Rattle.ft_theory.specs.Statements.{Claim, is_type, has_type, equal_types, equal_terms, type_goal, term_goal, Statement, plain, equate_goal, IsObjectGoal}
 use Rattle.ft_theory.specs.Rules.{look_up, Rule, rule_at}
@@ -10,14 +10,16 @@ use Rattle.ft_laws.proofs.Sides.{parts, boundary}
 use Rattle.ft_laws.proofs.EqualTerms.{transitive_flat}
 use Rattle.ft_laws.proofs.Finitary.{Sound, scoped}
 use Rattle.ft_items.specs.Store.{Declared, Store, nth}
-use Rattle.ft_equality.specs.Shapes.{EqualityRules}
-use Rattle.ft_equality.specs.Programs.{Question, types, terms, normals, ◌>>=◌, Units, solve}
+use Rattle.ft_equality.specs.Shapes.{Computation, EqualityRules}
+use Rattle.ft_equality.specs.Matching.{match_pattern}
+use Rattle.ft_equality_laws.proofs.Matches.{MatchFact}
+use Rattle.ft_equality.specs.Programs.{Question, types, terms, normals, ◌>>=◌, Units, run, solve}
 use Rattle.ft_equality.specs.Equality.{by_normal_forms, by_type, answered, bodies, types_are_equal, terms_at, terms_are_equal, normal_form, normal_of}
-use Rattle.ft_equality_laws.proofs.Means.{Below, If, EqualAt, Fact, NormalFact, Means, Came, IsSound, Meant, came_after, came_earlier, came_weaken, below_later, solve_sound}
+use Rattle.ft_equality_laws.proofs.Means.{Below, If, EqualAt, Fact, NormalFact, Means, Came, IsSound, Meant, run_means, came_after, came_earlier, came_weaken, below_later, solve_sound}
 use Rattle.ft_equality_laws.proofs.Derive.{reflexive_at, symmetric_at, right_at}
 use Rattle.ft_equality_laws.proofs.Opening.{if_map, means_same_or}
 use Rattle.ft_equality_laws.proofs.Parts.{Flat, means_map, normals_mean}
-use Rattle.ft_equality_laws.proofs.Normal.{AllCompute, normal_mean}
+use Rattle.ft_equality_laws.proofs.Normal.{Computes, AllCompute, computation_match, normal_mean}
 use Rattle.ft_equality_laws.proofs.ByType.{AllCompare, by_type_mean}
 
 module _ (W : Store) (E : EqualityRules) (so : Sound W.rules) (M : List (ℕ × Statement)) (ac : AllCompute W.rules E.computations) (ax : AllCompare W.rules E.extensionalities)
@@ -77,3 +79,6 @@ module _ (W : Store) (E : EqualityRules) (so : Sound W.rules) (M : List (ℕ × 
 
   pub normal_answer : (e : Expression) (u : Units) → Came u.used (NormalFact W.rules M u.used e) (normal_form W E e u)
   normal_answer e u = sound.normals e u
+
+  pub match_answer : (c : Computation) → Computes W.rules c → (e : Expression) (u : Units) → Came u.used (MatchFact W.rules M u.used c.premises c.left e) (run (solve (bodies W E)) (match_pattern W c.premises c.left e) u)
+  match_answer c h e u = run_means W.rules M (solve (bodies W E)) sound u.used (MatchFact W.rules M u.used c.premises c.left e) (match_pattern W c.premises c.left e) (computation_match W so M c h u.used e) u (omega arith)

@@ -14,3 +14,5 @@ pub mod ByType
 pub mod Answers
 pub mod Accepted
 pub mod Stores
+pub mod Counts
+pub mod Worked

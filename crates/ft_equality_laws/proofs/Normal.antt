@@ -130,7 +130,7 @@ module _ (W : Store) (so : Sound W.rules) (M : List (ℕ × Statement)) where
   only_premises qs d s us o p = MentionsOnly_mono (symbol s us) (InVariables []) (λ v. ⊥) (InMetavariables qs) (IsObjectPremise qs) (λ v h. nothing h.1) (λ m k h. h)
       (AllOfClaim_head d (Fine qs [] zero) (symbol s us) o (scope W.rules (sequent qs [] (plain (fill_goal d (symbol s us)))) p)).1
 
-  computation_match : (c : Computation) → Computes W.rules c → (n : ℕ) (e : Expression) → Means W.rules M n (MatchFact W.rules M n c.premises c.left e) (match_pattern W c.premises c.left e)
+  pub computation_match : (c : Computation) → Computes W.rules c → (n : ℕ) (e : Expression) → Means W.rules M n (MatchFact W.rules M n c.premises c.left e) (match_pattern W c.premises c.left e)
   computation_match c h n e =
       let l : (d : Claim) × IsObjectGoal d × Prim W.rules c.premises [] (plain (fill_goal d c.left)) = left_at W.rules so M c h in
       subst (λ u. Means W.rules M n (MatchFact W.rules M n c.premises u e) (match_pattern W c.premises u e)) (sym h.left)

@@ -12,11 +12,11 @@ use Rattle.ft_items.specs.Store.{Assertion, Declared, Store, nth, each, entry_na
 use Rattle.ft_items.specs.Rows.{atoms, differ, on_earlier}
 use Rattle.ft_items.specs.Good.{is_plain_type, is_new, Allowed}
 use Rattle.ft_items.proofs.SetLemmas.{by_bool, has_true, has_false}
-use Rattle.ft_items.proofs.Lists.{store_last, good_last, Before, nth_before, each_before, nth_end, nth_past}
+use Rattle.ft_items.proofs.Lists.{store_last, good_last, Before, nth_before, each_before, nth_end, nth_past, store_append, before_all}
 use Rattle.ft_sound.proofs.Theorems.{rules_finitary}
 use Rattle.ft_reference.specs.Refusals.{Refusal, WrongForm, OpenBoundary}
 use Rattle.ft_reference.specs.Declare.{outcome, refused_unless, first_of, new_variable, first_variable, new_metavariable, RuleFault, Duplicate, TooMany, OpenPremise, OpenConclusion, Draft, name_fault, first_outside, begin, premise, finish}
-use Rattle.ft_nucleus_laws.specs.Laws.{LeavesOld, RefusalsChangeNothing, VariablesAllowed, MetavariablesAllowed, numbers, IsDraft, DraftsGrow, drafted, FinishesAllowed, FinishedIsFinitary}
+use Rattle.ft_nucleus_laws.specs.Laws.{LeavesOld, RefusalsChangeNothing, VariablesAllowed, MetavariablesAllowed, numbers, IsDraft, DraftsGrow, DraftsStay, drafted, FinishesAllowed, FinishedIsFinitary}
 use Rattle.ft_sound.proofs.Good.{atoms_last}
 
 -- outcomes
@@ -229,6 +229,13 @@ more W d n b i h = record {
 
     stays_there : Before W X
     stays_there = record { entries = λ p a q. q; metavariables = λ k e q. nth_before W.metavariables (x.1 ∷ []) k e q }
+
+pub drafts_stay : DraftsStay
+drafts_stay items more d i =
+    let W = store_of items in
+    let X = store_of (items ++ more) in
+    let later : Before W X = subst (λ Y. Before W Y) (sym (store_append empty_store items more)) (before_all W more) in
+    record { named = each_before W X later (numbers d.premises) d.premises i.named; different = i.different; ordered = i.ordered }
 
 pub drafts_grow : DraftsGrow
 drafts_grow = (begun, grown)

@@ -128,7 +128,7 @@ equal_substitution_small (abstracted A x) y z h e = none_some e
 at_some : (y z : Statement) → AllSmall (expressions y) → Some y ≡ Some z → AllSmall (expressions z)
 at_some y z h e = subst (λ w. AllSmall (expressions w)) (same_Some y z e) h
 
-at_when : (b : Bool) (y z : Statement) → AllSmall (expressions y) → when b y ≡ Some z → AllSmall (expressions z)
+pub at_when : (b : Bool) (y z : Statement) → AllSmall (expressions y) → when b y ≡ Some z → AllSmall (expressions z)
 at_when b y z h e = subst (λ w. AllSmall (expressions w)) (when_path b y z e) h
 
 symmetry_small : (x z : Statement) → AllSmall (expressions x) → symmetry x ≡ Some z → AllSmall (expressions z)
@@ -291,7 +291,7 @@ row W (by_natural p) z n g f e = natural_small W p.statement z g f e
 row W (by_metainst p ms qs) z n g f e = ends (all_argument_checks (premises_of ms) (statements qs)) (instantiated ms p (statements qs)) z f e
 
 -- the statement that is given is the conclusion
-given_conclusion : (W : Store) (s : Resolved) (a : Assertion) → given W s ≡ Some a → conclusion W s ≡ Some a.statement
+pub given_conclusion : (W : Store) (s : Resolved) (a : Assertion) → given W s ≡ Some a → conclusion W s ≡ Some a.statement
 given_conclusion W s a h = go (of_kind s) (conclusion W s) h
   where
     go : (b : Bool) (o : Option Statement) → cond b (option_map (λ x. record { statement = x; set = result_set s }) o) None ≡ Some a → o ≡ Some a.statement

@@ -2,15 +2,15 @@
 use Rattle.std.specs.Prelude.{ℕ, ◌≡◌, Bool, true, false, if◌then◌else◌, List, [], ◌∷◌, ◌++◌, Option, Some, None, ◌⊎◌}
 use Rattle.ft_base.specs.declared.word.Word.{Word}
 use Rattle.ft_base.specs.contracts.word.WordPartialEq.TheImpl as word_eq
-use Rattle.ft_lexer.specs.declared.token.Mark.{Mark}
-use Rattle.ft_lexer.specs.contracts.token.MarkPartialEq.TheImpl as mark_eq
-use Rattle.ft_lexer.specs.declared.token.Kind.{Kind}
-use Rattle.ft_lexer.specs.declared.token.Kind.TheVariants as kind
-use Rattle.ft_lexer.specs.declared.token.Token.{Token}
-use Rattle.ft_parser.specs.declared.syntax.Named.{Named}
-use Rattle.ft_parser.specs.declared.syntax.AmlType.{AmlType}
-use Rattle.ft_parser.specs.declared.syntax.Pattern.{Pattern}
-use Rattle.ft_parser.specs.declared.syntax.Ast.{Ast}
+use Rattle.ft_grammar.specs.declared.token.Mark.{Mark}
+use Rattle.ft_grammar.specs.contracts.token.MarkPartialEq.TheImpl as mark_eq
+use Rattle.ft_grammar.specs.declared.token.Kind.{Kind}
+use Rattle.ft_grammar.specs.declared.token.Kind.TheVariants as kind
+use Rattle.ft_grammar.specs.declared.token.Token.{Token}
+use Rattle.ft_grammar.specs.declared.syntax.Named.{Named}
+use Rattle.ft_grammar.specs.declared.syntax.AmlType.{AmlType}
+use Rattle.ft_grammar.specs.declared.syntax.Pattern.{Pattern}
+use Rattle.ft_grammar.specs.declared.syntax.Ast.{Ast}
 
 -- the parts that count for nesting
 pub data Part : Type 0 where

@@ -2,19 +2,19 @@
 use Rattle.std.specs.Prelude.{ℕ, Bool, true, false, is_some, Option, Some, None}
 use Rattle.ft_base.specs.declared.word.Word.{Word}
 use Rattle.ft_base.specs.declared.word.Word.TheVariants as word
-use Rattle.ft_lexer.specs.declared.token.Mark.TheVariants as mark
-use Rattle.ft_lexer.specs.declared.token.Kind.{Kind}
-use Rattle.ft_lexer.specs.declared.token.Kind.TheVariants as kind
-use Rattle.ft_parser.specs.declared.syntax.AmlType.{AmlType}
-use Rattle.ft_parser.specs.declared.syntax.AmlType.TheVariants as ty
-use Rattle.ft_parser.specs.declared.syntax.Pattern.{Pattern}
-use Rattle.ft_parser.specs.declared.syntax.Pattern.TheVariants as pat
-use Rattle.ft_parser.specs.declared.syntax.Ast.{Ast}
-use Rattle.ft_parser.specs.declared.syntax.Ast.TheVariants as ast
-use Rattle.ft_parser.specs.declared.form.OneForm.{OneForm}
-use Rattle.ft_parser.specs.declared.form.OneForm.TheVariants as one
-use Rattle.ft_parser.specs.declared.form.TwoForm.{TwoForm}
-use Rattle.ft_parser.specs.declared.form.TwoForm.TheVariants as two
+use Rattle.ft_grammar.specs.declared.token.Mark.TheVariants as mark
+use Rattle.ft_grammar.specs.declared.token.Kind.{Kind}
+use Rattle.ft_grammar.specs.declared.token.Kind.TheVariants as kind
+use Rattle.ft_grammar.specs.declared.syntax.AmlType.{AmlType}
+use Rattle.ft_grammar.specs.declared.syntax.AmlType.TheVariants as ty
+use Rattle.ft_grammar.specs.declared.syntax.Pattern.{Pattern}
+use Rattle.ft_grammar.specs.declared.syntax.Pattern.TheVariants as pat
+use Rattle.ft_grammar.specs.declared.syntax.Ast.{Ast}
+use Rattle.ft_grammar.specs.declared.syntax.Ast.TheVariants as ast
+use Rattle.ft_grammar.specs.declared.form.OneForm.{OneForm}
+use Rattle.ft_grammar.specs.declared.form.OneForm.TheVariants as one
+use Rattle.ft_grammar.specs.declared.form.TwoForm.{TwoForm}
+use Rattle.ft_grammar.specs.declared.form.TwoForm.TheVariants as two
 
 -- a word that is a type by itself
 unfoldable pub plain_type : Word → Option AmlType

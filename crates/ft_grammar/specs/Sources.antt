@@ -1,10 +1,10 @@
 -- Lists of tokens that end as a source does.
 use Rattle.std.specs.Prelude.{◌≡◌, ℕ, true, List, [], ◌∷◌, ◌++◌}
-use Rattle.ft_lexer.specs.declared.token.Kind.TheVariants as kind
-use Rattle.ft_lexer.specs.declared.token.Token.{Token}
-use Rattle.ft_parser.specs.declared.syntax.Command.{Command}
-use Rattle.ft_parser.specs.Forms.{is_no_end}
-use Rattle.ft_parser.specs.Grammar.{IsSource}
+use Rattle.ft_grammar.specs.declared.token.Kind.TheVariants as kind
+use Rattle.ft_grammar.specs.declared.token.Token.{Token}
+use Rattle.ft_grammar.specs.declared.syntax.Command.{Command}
+use Rattle.ft_grammar.specs.Forms.{is_no_end}
+use Rattle.ft_grammar.specs.Grammar.{IsSource}
 
 -- the last token of the list, and no other, is the end
 abbrev pub IsClosed : List Token → Type 0

@@ -1,28 +1,28 @@
 -- The grammar of a source, a rule for each of its forms.
 use Rattle.std.specs.Prelude.{ℕ, zero, suc, ◌≡◌, List, [], ◌∷◌, ◌++◌, Option, Some, None}
 use Rattle.ft_base.specs.declared.word.Word.TheVariants as w
-use Rattle.ft_lexer.specs.declared.token.Mark.TheVariants as m
-use Rattle.ft_lexer.specs.declared.token.Kind.TheVariants as kind
-use Rattle.ft_lexer.specs.declared.token.Token.{Token}
-use Rattle.ft_parser.specs.declared.syntax.AmlType.{AmlType}
-use Rattle.ft_parser.specs.declared.syntax.AmlType.TheVariants as ty
-use Rattle.ft_parser.specs.declared.syntax.Pattern.{Pattern}
-use Rattle.ft_parser.specs.declared.syntax.Pattern.TheVariants as pat
-use Rattle.ft_parser.specs.declared.syntax.Ast.{Ast}
-use Rattle.ft_parser.specs.declared.syntax.Ast.TheVariants as ast
-use Rattle.ft_parser.specs.declared.syntax.Case.{Case as AnyCase}
-use Rattle.ft_parser.specs.declared.syntax.ValCase.{ValCase as AnyValCase}
-use Rattle.ft_parser.specs.declared.syntax.OpCase.{OpCase as AnyOpCase}
-use Rattle.ft_parser.specs.declared.syntax.Binder.{Binder}
-use Rattle.ft_parser.specs.declared.syntax.Body.{Body}
-use Rattle.ft_parser.specs.declared.syntax.Body.TheVariants as body
-use Rattle.ft_parser.specs.declared.syntax.Premise.{Premise}
-use Rattle.ft_parser.specs.declared.syntax.Conclusion.{Conclusion}
-use Rattle.ft_parser.specs.declared.syntax.Conclusion.TheVariants as conclusion
-use Rattle.ft_parser.specs.declared.syntax.Command.{Command}
-use Rattle.ft_parser.specs.declared.syntax.Command.TheVariants as command
-use Rattle.ft_parser.specs.Rules.{Rule, Part, Tree, expression, pattern, type, type_atom, give, name, number, word, mark, part, starting, either, either_by_two, unless, more, the, is_word, is_mark, is_name, Is, ◌>>=◌, ◌>>◌}
-use Rattle.ft_parser.specs.Forms.{plain_type, word_pattern, word_expression, one_form, one_tree, two_form, two_tree, begins_one, begins_two, begins_atom, begins_pattern_atom, is_no_end}
+use Rattle.ft_grammar.specs.declared.token.Mark.TheVariants as m
+use Rattle.ft_grammar.specs.declared.token.Kind.TheVariants as kind
+use Rattle.ft_grammar.specs.declared.token.Token.{Token}
+use Rattle.ft_grammar.specs.declared.syntax.AmlType.{AmlType}
+use Rattle.ft_grammar.specs.declared.syntax.AmlType.TheVariants as ty
+use Rattle.ft_grammar.specs.declared.syntax.Pattern.{Pattern}
+use Rattle.ft_grammar.specs.declared.syntax.Pattern.TheVariants as pat
+use Rattle.ft_grammar.specs.declared.syntax.Ast.{Ast}
+use Rattle.ft_grammar.specs.declared.syntax.Ast.TheVariants as ast
+use Rattle.ft_grammar.specs.declared.syntax.Case.{Case as AnyCase}
+use Rattle.ft_grammar.specs.declared.syntax.ValCase.{ValCase as AnyValCase}
+use Rattle.ft_grammar.specs.declared.syntax.OpCase.{OpCase as AnyOpCase}
+use Rattle.ft_grammar.specs.declared.syntax.Binder.{Binder}
+use Rattle.ft_grammar.specs.declared.syntax.Body.{Body}
+use Rattle.ft_grammar.specs.declared.syntax.Body.TheVariants as body
+use Rattle.ft_grammar.specs.declared.syntax.Premise.{Premise}
+use Rattle.ft_grammar.specs.declared.syntax.Conclusion.{Conclusion}
+use Rattle.ft_grammar.specs.declared.syntax.Conclusion.TheVariants as conclusion
+use Rattle.ft_grammar.specs.declared.syntax.Command.{Command}
+use Rattle.ft_grammar.specs.declared.syntax.Command.TheVariants as command
+use Rattle.ft_grammar.specs.Rules.{Rule, Part, Tree, expression, pattern, type, type_atom, give, name, number, word, mark, part, starting, either, either_by_two, unless, more, the, is_word, is_mark, is_name, Is, ◌>>=◌, ◌>>◌}
+use Rattle.ft_grammar.specs.Forms.{plain_type, word_pattern, word_expression, one_form, one_tree, two_form, two_tree, begins_one, begins_two, begins_atom, begins_pattern_atom, is_no_end}
 
 -- ---- types
 unfoldable pub list_type : Rule AmlType

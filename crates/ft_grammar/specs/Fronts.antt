@@ -1,18 +1,14 @@
 -- What stands at the front of a text. A text is the list of its characters.
-use Rattle.std.specs.Prelude.{ℕ, suc, ◌+◌, ◌-◌, ◌*◌, ◌==◌, ◌&&◌, ◌||◌, Bool, false, not, if◌then◌else◌, nat_lt, List, [], ◌∷◌, take, Option, Some, None}
+use Rattle.std.specs.Prelude.{ℕ, suc, ◌==◌, ◌&&◌, ◌||◌, Bool, false, not, if◌then◌else◌, nat_lt, List, [], ◌∷◌, take, Option, Some, None}
 use Rattle.std.specs.Char.{is_ascii_digit}
 use Rattle.unicode_ident.specs.Ident.{is_xid_continue}
+pub use Rattle.ft_common.specs.Digits.{run, decimal_value, has_leading_zero}
 use Rattle.ft_base.specs.Names.{starts_name, is_name_token}
 use Rattle.ft_base.specs.Words.{word_of}
 use Rattle.ft_base.specs.declared.word.Word.{Word as AnyWord}
-use Rattle.ft_lexer.specs.declared.token.Kind.{Kind}
-use Rattle.ft_lexer.specs.declared.token.Kind.TheVariants.{Name, Number, Word, Mark, Bad}
-use Rattle.ft_lexer.specs.declared.token.Mark.TheVariants as mark
-
--- how many characters at the front pass the test
-abbrev pub run : (ℕ → Bool) → List ℕ → ℕ
-run passes [] = 0
-run passes (c ∷ cs) = if passes c then suc (run passes cs) else 0
+use Rattle.ft_grammar.specs.declared.token.Kind.{Kind}
+use Rattle.ft_grammar.specs.declared.token.Kind.TheVariants.{Name, Number, Word, Mark, Bad}
+use Rattle.ft_grammar.specs.declared.token.Mark.TheVariants as mark
 
 -- whether white space: space, tab, carriage return and line feed
 abbrev pub is_space : ℕ → Bool
@@ -36,17 +32,6 @@ word_or_mark None = Mark mark.Underscore
 -- or the lone underscore, which is a mark
 abbrev pub name_kind : List ℕ → Kind
 name_kind spelling = if is_name_token spelling then Name spelling else word_or_mark (word_of spelling)
-
--- the number that decimal digits write after those of n
-abbrev pub decimal_value : ℕ → List ℕ → ℕ
-decimal_value n [] = n
-decimal_value n (d ∷ ds) = decimal_value (10 * n + (d - 48)) ds
-
--- whether the digits are a zero and others behind it
-abbrev pub has_leading_zero : List ℕ → Bool
-has_leading_zero [] = false
-has_leading_zero (d ∷ []) = false
-has_leading_zero (d ∷ e ∷ ds) = d == 48
 
 -- what a run of digits is: a number where it has no leading zero and is at most 65,535
 abbrev pub number_kind : List ℕ → Kind

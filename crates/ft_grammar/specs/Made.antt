@@ -4,13 +4,13 @@ use Rattle.std.specs.List.{list_all}
 use Rattle.std.specs.Char.{len_utf8}
 use Rattle.ft_base.specs.Names.{is_name_token}
 use Rattle.ft_base.specs.Words.{spelling_of}
-use Rattle.ft_lexer.specs.declared.token.Kind.{Kind}
-use Rattle.ft_lexer.specs.declared.token.Kind.TheVariants.{Name, Number, Word, Mark, Bad, End}
-use Rattle.ft_lexer.specs.declared.token.Mark.{Mark as AnyMark}
-use Rattle.ft_lexer.specs.declared.token.Mark.TheVariants as mark
-use Rattle.ft_lexer.specs.declared.token.Token.{Token}
-use Rattle.ft_lexer.specs.Fronts.{is_space, is_no_line_feed}
-use Rattle.ft_lexer.specs.Tokens.{width}
+use Rattle.ft_grammar.specs.declared.token.Kind.{Kind}
+use Rattle.ft_grammar.specs.declared.token.Kind.TheVariants.{Name, Number, Word, Mark, Bad, End}
+use Rattle.ft_grammar.specs.declared.token.Mark.{Mark as AnyMark}
+use Rattle.ft_grammar.specs.declared.token.Mark.TheVariants as mark
+use Rattle.ft_grammar.specs.declared.token.Token.{Token}
+use Rattle.ft_grammar.specs.Fronts.{is_space, is_no_line_feed}
+use Rattle.ft_grammar.specs.Tokens.{width}
 
 -- the characters of a mark
 abbrev pub mark_spelling : AnyMark → List ℕ
@@ -74,5 +74,5 @@ without_last (t ∷ []) = []
 without_last (t ∷ u ∷ us) = t ∷ without_last (u ∷ us)
 
 -- a token, so many bytes further on
-abbrev pub moved : ℕ → Token → Token
-moved bytes t = record { kind = t.kind; start = bytes + t.start; end = bytes + t.end }
+abbrev pub moved_token : ℕ → Token → Token
+moved_token bytes t = record { kind = t.kind; start = bytes + t.start; end = bytes + t.end }

@@ -2,17 +2,17 @@
 -- the first is the one that the fault names. What is left of the nesting bounds the recursion.
 use Rattle.std.specs.Prelude.{ℕ, zero, suc, ◌≡◌, ◌≢◌, Bool, true, false, ◌&&◌, if◌then◌else◌, List, [], ◌∷◌, ◌++◌, length, drop, Result, Ok, Err, Option, Some, None}
 use Rattle.ft_base.specs.declared.word.Word.{Word}
-use Rattle.ft_lexer.specs.declared.token.Mark.{Mark}
-use Rattle.ft_lexer.specs.declared.token.Kind.{Kind}
-use Rattle.ft_lexer.specs.declared.token.Kind.TheVariants as kind
-use Rattle.ft_lexer.specs.declared.token.Token.{Token}
-use Rattle.ft_parser.specs.declared.fault.SyntaxFault.{SyntaxFault}
-use Rattle.ft_parser.specs.declared.fault.SyntaxFault.TheVariants.{Unexpected, TooNested, Memory}
-use Rattle.ft_parser.specs.declared.syntax.Named.{Named}
-use Rattle.ft_parser.specs.declared.syntax.AmlType.{AmlType}
-use Rattle.ft_parser.specs.declared.syntax.Command.{Command}
-use Rattle.ft_parser.specs.Rules.{Rule, Part, Tree, type, type_atom, give, name, number, word, mark, part, starting, sequence, either, either_by_two, unless, more, is_mark, named, numbered, worded}
-use Rattle.ft_parser.specs.Grammar.{rule_of, commands, nesting}
+use Rattle.ft_grammar.specs.declared.token.Mark.{Mark}
+use Rattle.ft_grammar.specs.declared.token.Kind.{Kind}
+use Rattle.ft_grammar.specs.declared.token.Kind.TheVariants as kind
+use Rattle.ft_grammar.specs.declared.token.Token.{Token}
+use Rattle.ft_grammar.specs.declared.fault.SyntaxFault.{SyntaxFault}
+use Rattle.ft_grammar.specs.declared.fault.SyntaxFault.TheVariants.{Unexpected, TooNested, Memory}
+use Rattle.ft_grammar.specs.declared.syntax.Named.{Named}
+use Rattle.ft_grammar.specs.declared.syntax.AmlType.{AmlType}
+use Rattle.ft_grammar.specs.declared.syntax.Command.{Command}
+use Rattle.ft_grammar.specs.Rules.{Rule, Part, Tree, type, type_atom, give, name, number, word, mark, part, starting, sequence, either, either_by_two, unless, more, is_mark, named, numbered, worded}
+use Rattle.ft_grammar.specs.Grammar.{rule_of, commands, nesting}
 
 abbrev pub Outcome : Type 0 → Type 0
 Outcome A = Result (A × List Token) (SyntaxFault × List Token)

@@ -2,7 +2,6 @@
 use Rattle.std.proofs.Common.{◌≡◌, ◌+◌, ℕ, zero, suc, Bool, true, false, cond, nat_eq, ◌&&◌, Option, Some, None, Result, Ok, Err, List, [], ◌∷◌, ◌++◌, ◌⊎◌, inl, inr, refl, sym, ap, ap₂, ◌∙◌, subst, arith, eqb-true, append_assoc}
 use Rattle.std.specs.Prelude.{not, ◌||◌, filter, option_map}
 use Rattle.std.specs.List.{list_any}
-use Rattle.ft_theory.specs.Derivability.{PremisesHold}
 use Rattle.ft_theory.specs.Expressions.{Expression, bound, free, symbol, meta, Arguments, no_arguments, with_body, dummy, no_terms}
 use Rattle.ft_theory.specs.Statements.{Claim, is_type, has_type, equal_types, equal_terms, type_goal, term_goal, type_equation_goal, term_equation_goal, Statement, plain, domain_count, fill_goal, IsObjectGoal, IsObject, IsEquation}
 use Rattle.ft_theory.specs.Rules.{Rule, rule_at, FitsPremises}
@@ -18,10 +17,11 @@ use Rattle.ft_equality.specs.Results.{ensure, some_or}
 use Rattle.ft_equality.specs.Shapes.{Premises, ShapeFault, NotEquation, BadLeft, EquationPremise, Undetermined, Computation, Extensionality, EqualityRules, is_pattern, are_patterns, is_symbol_pattern, determines, mentions, is_object_premise, objects, equations, each_premise, equations_last, sides, term_sides, last_two, is_side_of, computation_of, extensionality_of, is_symbol_at, looks_into, is_principal}
 use Rattle.ft_equality_laws.proofs.Parts.{Flat}
 use Rattle.ft_equality_laws.proofs.Patterns.{Laid, laid}
-use Rattle.ft_equality_laws.proofs.Fitting.{EachPremise}
-use Rattle.ft_equality_laws.proofs.Matches.{each_premise_zip}
 use Rattle.ft_equality_laws.proofs.Normal.{equation_goal, Computes, AllCompute, left_at}
 use Rattle.ft_equality_laws.proofs.ByType.{Compares}
+use Rattle.ft_equality_laws.specs.Laws.{Each}
+use Rattle.ft_equality_laws.proofs.Each.{each_zip, each_split}
+use Rattle.ft_equality_laws.proofs.Walks.{kinds_of}
 
 -- results in a row
 pub bind_ok : {A B E : Type 0} (m : Result A E) (k : A → Result B E) (b : B) → results.◌>>=◌ m k ≡ Ok b → (a : A) × (m ≡ Ok a) × (k a ≡ Ok b)
@@ -59,7 +59,7 @@ some_ok {A} {E} None e a h = absurd (clash h)
     clash : Err e ≡ Ok a → ⊥
     clash h = cc
 
-each_premise_ok : (p : ℕ × Statement → Bool) (f : ℕ → ShapeFault) (i : ℕ) (qs : Premises) (u : Unit {0}) → each_premise p f i qs ≡ Ok u → EachPremise (λ q. p q ≡ true) qs
+each_premise_ok : (p : ℕ × Statement → Bool) (f : ℕ → ShapeFault) (i : ℕ) (qs : Premises) (u : Unit {0}) → each_premise p f i qs ≡ Ok u → Each (λ q. p q ≡ true) qs
 each_premise_ok p f i [] u h = tt
 each_premise_ok p f i (q ∷ qs) u h =
     let r : (a : Unit {0}) × (ensure (p q) (f i) ≡ Ok a) × (each_premise p f (suc i) qs ≡ Ok u) = then_ok (ensure (p q) (f i)) (each_premise p f (suc i) qs) u h in
@@ -108,7 +108,7 @@ computes T r R c q h =
           patterns = l.1;
           left = l.2;
           pattern = l.3;
-          determined = each_premise_zip (λ p. is_object_premise p ≡ true) (λ p. determines x.0 p.0 ≡ true) (λ p. IsObject p.1 × (determines x.0 p.0 ≡ true)) R.premises (λ p y z. (object_true p.1 y, z))
+          determined = each_zip (λ p. is_object_premise p ≡ true) (λ p. determines x.0 p.0 ≡ true) (λ p. IsObject p.1 × (determines x.0 p.0 ≡ true)) R.premises (λ p y z. (object_true p.1 y, z))
               (each_premise_ok is_object_premise EquationPremise 1 R.premises b1.0 b1.1) (each_premise_ok (λ p. determines x.0 p.0) Undetermined 1 R.premises b3.0 b3.1);
         })
 
@@ -136,29 +136,21 @@ parted i (q ∷ qs) u h =
         ap (λ z. q ∷ z) (ih ∙ ap (λ z. z ++ equations qs) n) ∙ ap (λ z. z ++ (q ∷ equations qs)) (sym n)
 
 -- what a filter keeps
-kept : (p : ℕ × Statement → Bool) (qs : Premises) → EachPremise (λ q. p q ≡ true) (filter p qs)
+kept : (p : ℕ × Statement → Bool) (qs : Premises) → Each (λ q. p q ≡ true) (filter p qs)
 kept p [] = tt
 kept p (q ∷ qs) = go (p q) refl (kept p qs)
   where
-    go : (b : Bool) → p q ≡ b → EachPremise (λ q. p q ≡ true) (filter p qs) → EachPremise (λ q. p q ≡ true) (cond b (q ∷ filter p qs) (filter p qs))
+    go : (b : Bool) → p q ≡ b → Each (λ q. p q ≡ true) (filter p qs) → Each (λ q. p q ≡ true) (cond b (q ∷ filter p qs) (filter p qs))
     go true e ih = (e, ih)
     go false e ih = ih
 
-filter_each : (P : ℕ × Statement → Type 0) (p : ℕ × Statement → Bool) (qs : Premises) → EachPremise P qs → EachPremise P (filter p qs)
+filter_each : (P : ℕ × Statement → Type 0) (p : ℕ × Statement → Bool) (qs : Premises) → Each P qs → Each P (filter p qs)
 filter_each P p [] h = tt
 filter_each P p (q ∷ qs) h = go (p q) (filter_each P p qs h.1)
   where
-    go : (b : Bool) → EachPremise P (filter p qs) → EachPremise P (cond b (q ∷ filter p qs) (filter p qs))
+    go : (b : Bool) → Each P (filter p qs) → Each P (cond b (q ∷ filter p qs) (filter p qs))
     go true ih = (h.0, ih)
     go false ih = ih
-
-first_each : (P : ℕ × Statement → Type 0) (xs ys : Premises) → EachPremise P (xs ++ ys) → EachPremise P xs
-first_each P [] ys h = tt
-first_each P (x ∷ xs) ys h = (h.0, first_each P xs ys h.1)
-
-each_kind : (D : List (ℕ × Statement) → Statement → Type 0) (before qs : List (ℕ × Statement)) → PremisesHold D before qs → EachPremise (λ q. IsObject q.1 ⊎ IsEquation q.1) qs
-each_kind D before [] h = tt
-each_kind D before (q ∷ qs) h = (h.1, each_kind D (before ++ (q ∷ [])) qs h.3)
 
 object_tests : (b : Statement) → IsObject b → is_object b ≡ true
 object_tests (plain type_goal) o = refl
@@ -232,11 +224,11 @@ compares T so r R x q h =
           patterns = l.1;
           type_is = l.2;
           pattern = l.3;
-          determined = each_premise_zip (λ p. is_object_premise p ≡ true) (λ p. determines y.2 p.0 ≡ true) (λ p. IsObject p.1 × (determines y.2 p.0 ≡ true)) o.0 (λ p u v. (object_true p.1 u, v))
-              (first_each (λ p. is_object_premise p ≡ true) o.0 (o.1 ∷ o.2 ∷ []) (subst (λ z. EachPremise (λ p. is_object_premise p ≡ true) z) two_last (kept is_object_premise R.premises)))
+          determined = each_zip (λ p. is_object_premise p ≡ true) (λ p. determines y.2 p.0 ≡ true) (λ p. IsObject p.1 × (determines y.2 p.0 ≡ true)) o.0 (λ p u v. (object_true p.1 u, v))
+              (each_split (λ p. is_object_premise p ≡ true) o.0 (o.1 ∷ o.2 ∷ []) (subst (λ z. Each (λ p. is_object_premise p ≡ true) z) two_last (kept is_object_premise R.premises))).0
               (each_premise_ok (λ p. determines y.2 p.0) Undetermined 1 o.0 b4.0 b4.1);
-          equational = each_premise_zip (λ p. IsObject p.1 ⊎ IsEquation p.1) (λ p. not (is_object_premise p) ≡ true) (λ p. IsEquation p.1) eqs (λ p u v. no_object p.1 u v)
-              (filter_each (λ p. IsObject p.1 ⊎ IsEquation p.1) (λ q. not (is_object_premise q)) R.premises (each_kind (λ N z. Prim T N [] z) [] R.premises (so r R q).0)) (kept (λ q. not (is_object_premise q)) R.premises);
+          equational = each_zip (λ p. IsObject p.1 ⊎ IsEquation p.1) (λ p. not (is_object_premise p) ≡ true) (λ p. IsEquation p.1) eqs (λ p u v. no_object p.1 u v)
+              (filter_each (λ p. IsObject p.1 ⊎ IsEquation p.1) (λ q. not (is_object_premise q)) R.premises (kinds_of (λ N z. Prim T N [] z) [] R.premises (so r R q).0)) (kept (λ q. not (is_object_premise q)) R.premises);
           no_first = one.2;
           no_second = two.2;
         })

@@ -32,10 +32,12 @@ use Rattle.ft_equality_laws.proofs.Opening.{SidesEqual, means_both, sides_mean}
 use Rattle.ft_equality_laws.proofs.Parts.{means_map, means_then}
 use Rattle.ft_equality_laws.proofs.Positions.{some_last, none_before}
 use Rattle.ft_equality_laws.proofs.Patterns.{laid, bare_at}
-use Rattle.ft_equality_laws.proofs.Fitting.{EachPremise, Given, given_last, given_instance}
-use Rattle.ft_equality_laws.proofs.Matches.{MatchFact, match_mean, look_none, premise_of, each_looked, each_premise_map, each_premise_zip}
+use Rattle.ft_equality_laws.proofs.Fitting.{Given, given_last, given_instance}
+use Rattle.ft_equality_laws.proofs.Matches.{MatchFact, match_mean, look_none, premise_of, each_looked}
 use Rattle.ft_equality_laws.proofs.Equational.{Met, equation_at}
 use Rattle.ft_equality_laws.proofs.Normal.{only_premises}
+use Rattle.ft_equality_laws.specs.Laws.{Each}
+use Rattle.ft_equality_laws.proofs.Each.{each_map, each_zip, each_join}
 
 -- the premises after the determined ones: those of the sides, and equations
 abbrev pub side_premises : Extensionality → List (ℕ × Statement)
@@ -50,8 +52,8 @@ pub record Compares (T : List Rule) (x : Extensionality) : Type 0 where
   pub patterns : Arguments
   pub type_is : x.type ≡ symbol symbol_of patterns
   pub pattern : are_patterns patterns ≡ true
-  pub determined : EachPremise (λ q. IsObject q.1 × (determines x.type q.0 ≡ true)) others
-  pub equational : EachPremise (λ q. IsEquation q.1) x.equations
+  pub determined : Each (λ q. IsObject q.1 × (determines x.type q.0 ≡ true)) others
+  pub equational : Each (λ q. IsEquation q.1) x.equations
   pub no_first : mentions x.first x.type ≡ false
   pub no_second : mentions x.second x.type ≡ false
 
@@ -97,13 +99,13 @@ module _ (f g : ℕ) (P Q : ℕ → ℕ → Type 0) (w : (m k : ℕ) → m ≢ f
         let b' : (mentions g e ≡ false) × (terms_mention g c ≡ false) = neither (mentions g e) (terms_mention g c) b in
         (narrow e a'.0 b'.0 h.0, narrow_terms c a'.1 b'.1 h.1)
 
-equation_found : (qs : List (ℕ × Statement)) (m : ℕ) (b : Statement) → EachPremise (λ q. IsEquation q.1) qs → look_up qs m ≡ Some b → IsEquation b
+equation_found : (qs : List (ℕ × Statement)) (m : ℕ) (b : Statement) → Each (λ q. IsEquation q.1) qs → look_up qs m ≡ Some b → IsEquation b
 equation_found [] m b h l = nothing l
 equation_found (q ∷ qs) m b h l = by_test (IsEquation b) m q.0 (λ e. subst IsEquation (found m q qs b e l) h.0) (λ n. equation_found qs m b h.1 (past m q qs b n l))
 
 -- each premise's boundary mentions only premises
 each_scoped : (T : List Rule) (all before qs : List (ℕ × Statement)) → ((m : ℕ) (b : Statement) → look_up (before ++ qs) m ≡ Some b → look_up all m ≡ Some b) → PremisesHold (λ N x. Prim T N [] x) before qs
-    → EachPremise (λ q. StatementMentionsOnly (λ v. ⊥) (IsObjectPremise all) q.1) qs
+    → Each (λ q. StatementMentionsOnly (λ v. ⊥) (IsObjectPremise all) q.1) qs
 each_scoped T all before [] w h = tt
 each_scoped T all before (q ∷ qs) w h = (
   AllOfStatement_mono q.1 (Fine before []) (λ l. MentionsOnly (λ v. ⊥) (IsObjectPremise all)) zero
@@ -111,14 +113,10 @@ each_scoped T all before (q ∷ qs) w h = (
   each_scoped T all (before ++ (q ∷ [])) qs (λ m b r. w m b (ap (λ z. look_up z m) (sym (append_assoc before (q ∷ []) qs)) ∙ r)) h.3,
 )
 
-each_premise_join : (P : ℕ × Statement → Type 0) (xs ys : List (ℕ × Statement)) → EachPremise P xs → EachPremise P ys → EachPremise P (xs ++ ys)
-each_premise_join P [] ys h k = k
-each_premise_join P (x ∷ xs) ys h k = (h.0, each_premise_join P xs ys h.1 k)
-
 module _ (W : Store) (so : Sound W.rules) (M : List (ℕ × Statement)) where
   -- equation premises
   abbrev EqFact : ℕ → (ℕ → ℕ → Option Expression) → List (ℕ × Statement) → List (ℕ × Statement) → Type 0
-  EqFact n K before qs = (G : List (ℕ × Expression)) → Below n G → IsInstance W.rules before [] M G K → EachPremise (Met W.rules M G K) qs
+  EqFact n K before qs = (G : List (ℕ × Expression)) → Below n G → IsInstance W.rules before [] M G K → Each (Met W.rules M G K) qs
 
   one_equation : (G : List (ℕ × Expression)) (K : ℕ → ℕ → Option Expression) (before : List (ℕ × Statement)) (q : ℕ × Statement) → IsInstance W.rules before [] M G K → IsEquation q.1 → Prim W.rules M G (fill (statement_at K q.1) (bound zero)) → IsInstance W.rules (before ++ (q ∷ [])) [] M G K
   one_equation G K before q i o p = record {
@@ -136,7 +134,7 @@ module _ (W : Store) (so : Sound W.rules) (M : List (ℕ × Statement)) where
       equations_of m b vf ob (inl r) = i.equations m b r vf ob
       equations_of m b vf ob (inr r) = given_equation (subst (λ z. Prim W.rules M G (fill (statement_at K z) (bound zero))) r.1 p)
 
-  equations_mean : (n : ℕ) (K : ℕ → ℕ → Option Expression) (before qs : List (ℕ × Statement)) → PremisesHold (λ N x. Prim W.rules N [] x) before qs → EachPremise (λ q. IsEquation q.1) qs → Means W.rules M n (λ r. If r (EqFact n K before qs)) (equations_hold K qs)
+  equations_mean : (n : ℕ) (K : ℕ → ℕ → Option Expression) (before qs : List (ℕ × Statement)) → PremisesHold (λ N x. Prim W.rules N [] x) before qs → Each (λ q. IsEquation q.1) qs → Means W.rules M n (λ r. If r (EqFact n K before qs)) (equations_hold K qs)
   equations_mean n K before [] h e = λ G bl i. tt
   equations_mean n K before (q ∷ qs) h e =
       means_both W.rules M n (SidesEqual W.rules M n (statement_at K q.1)) (EqFact n K before (q ∷ qs)) (equation_holds (statement_at K q.1)) (λ t. equations_hold K qs)
@@ -183,7 +181,7 @@ module _ (W : Store) (so : Sound W.rules) (M : List (ℕ × Statement)) where
         (match_mean W so M h.others (side_premises x) h.symbol_of h.patterns h.pattern
         (laid W.rules so x.premises [] (symbol h.symbol_of h.patterns) type_goal tt h.pattern (subst (λ u. Prim W.rules x.premises [] (plain (is_type u))) h.type_is type_holds))
         only_others holds
-        (each_premise_map (λ q. IsObject q.1 × (determines x.type q.0 ≡ true)) (λ q. IsObject q.1 × (determines (symbol h.symbol_of h.patterns) q.0 ≡ true)) h.others (λ q d. (d.0, ap (λ u. determines u q.0) (sym h.type_is) ∙ d.1)) h.determined) n A))
+        (each_map (λ q. IsObject q.1 × (determines x.type q.0 ≡ true)) (λ q. IsObject q.1 × (determines (symbol h.symbol_of h.patterns) q.0 ≡ true)) h.others (λ q d. (d.0, ap (λ u. determines u q.0) (sym h.type_is) ∙ d.1)) h.determined) n A))
 
     -- the names of the sides are new
     not_first : (m : ℕ) (b : Statement) → look_up h.others m ≡ Some b → m ≢ x.first
@@ -230,7 +228,7 @@ module _ (W : Store) (so : Sound W.rules) (M : List (ℕ × Statement)) where
           let hd : PremisesHold (λ N y. Prim W.rules N [] y) [] h.others = first_premises (λ N y. Prim W.rules N [] y) [] h.others (side_premises x) holds in
           let r : (q : ℕ × Statement) × (m ≡ q.0) × (StatementMentionsOnly (λ v. ⊥) (IsObjectPremise h.others) q.1 × (look_up h.others q.0 ≡ Some q.1)) =
           premise_of (λ q. StatementMentionsOnly (λ v. ⊥) (IsObjectPremise h.others) q.1 × (look_up h.others q.0 ≡ Some q.1)) h.others m b
-          (each_premise_zip (λ q. StatementMentionsOnly (λ v. ⊥) (IsObjectPremise h.others) q.1) (λ q. look_up h.others q.0 ≡ Some q.1) (λ q. StatementMentionsOnly (λ v. ⊥) (IsObjectPremise h.others) q.1 × (look_up h.others q.0 ≡ Some q.1)) h.others (λ q y z. (y, z))
+          (each_zip (λ q. StatementMentionsOnly (λ v. ⊥) (IsObjectPremise h.others) q.1) (λ q. look_up h.others q.0 ≡ Some q.1) (λ q. StatementMentionsOnly (λ v. ⊥) (IsObjectPremise h.others) q.1 × (look_up h.others q.0 ≡ Some q.1)) h.others (λ q y z. (y, z))
           (each_scoped W.rules h.others [] h.others (λ m b y. y) hd) (each_looked (λ N y. Prim W.rules N [] y) [] h.others hd)) l in
           K_alike b (subst (λ z. StatementMentionsOnly (λ v. ⊥) (IsObjectPremise h.others) z) (Some_injective r.0.1 b (sym r.2.1 ∙ ap (look_up h.others) (sym r.1) ∙ l)) r.2.0)
 
@@ -257,13 +255,13 @@ module _ (W : Store) (so : Sound W.rules) (M : List (ℕ × Statement)) where
         let g0 : Given W.rules M G K h.others = K_given s t I G k.2 in
         let g1 : Given W.rules M G K (h.others ++ (one ∷ [])) = given_last W.rules M G K h.others one s g0 tt (K_first s t I zero) si in
         let g2 : Given W.rules M G K ((h.others ++ (one ∷ [])) ++ (two ∷ [])) = given_last W.rules M G K (h.others ++ (one ∷ [])) two t g1 tt (K_second s t I zero) ti in
-        let eqs : EachPremise (Met W.rules M G K) x.equations = y G bl (given_instance W.rules M G K ((h.others ++ (one ∷ [])) ++ (two ∷ [])) (K_closed s t I k.1 cs ct) g2) in
+        let eqs : Each (Met W.rules M G K) x.equations = y G bl (given_instance W.rules M G K ((h.others ++ (one ∷ [])) ++ (two ∷ [])) (K_closed s t I k.1 cs ct) g2) in
         let hd : PremisesHold (λ N z. Prim W.rules N [] z) [] h.others = first_premises (λ N z. Prim W.rules N [] z) [] h.others (side_premises x) holds in
-        let mets : EachPremise (Met W.rules M G K) (h.others ++ side_premises x) = each_premise_join (Met W.rules M G K) h.others (side_premises x)
-        (each_premise_map (λ q. look_up h.others q.0 ≡ Some q.1) (Met W.rules M G K) h.others (λ q l. inl (g0 q.0 q.1 l)) (each_looked (λ N z. Prim W.rules N [] z) [] h.others hd))
+        let mets : Each (Met W.rules M G K) (h.others ++ side_premises x) = each_join (Met W.rules M G K) h.others (side_premises x)
+        (each_map (λ q. look_up h.others q.0 ≡ Some q.1) (Met W.rules M G K) h.others (λ q l. inl (g0 q.0 q.1 l)) (each_looked (λ N z. Prim W.rules N [] z) [] h.others hd))
         (inl (tt, s, K_first s t I zero, si), (inl (tt, t, K_second s t I zero, ti), eqs)) in
         let e : Prim W.rules M G (plain (equal_terms (instantiate K (meta x.first no_terms)) (instantiate K (meta x.second no_terms)) (instantiate K x.type))) =
-        equation_at W.rules so M G K x.rule (record { premises = x.premises; conclusion = term_equation_goal (meta x.first no_terms) (meta x.second no_terms) x.type }) h.is tt (subst (λ z. EachPremise (Met W.rules M G K) z) (sym h.split) mets) in
+        equation_at W.rules so M G K x.rule (record { premises = x.premises; conclusion = term_equation_goal (meta x.first no_terms) (meta x.second no_terms) x.type }) h.is tt (subst (λ z. Each (Met W.rules M G K) z) (sym h.split) mets) in
         do_convert_equation
         (subst (λ z. Prim W.rules M G (plain (equal_terms s t z))) KP
         (subst (λ z. Prim W.rules M G (plain (equal_terms s z (instantiate K x.type)))) (bare_at K x.second zero no_terms t refl (K_second s t I zero) ct)

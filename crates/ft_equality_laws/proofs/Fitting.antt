@@ -29,35 +29,33 @@ use Rattle.ft_equality_laws.proofs.Means.{Below, If, Means}
 use Rattle.ft_equality_laws.proofs.Derive.{symmetric_at}
 use Rattle.ft_equality_laws.proofs.Opening.{HeadsEqual, Exchange, means_both, means_same_or, heads_mean, boundaries_mean}
 use Rattle.ft_equality_laws.proofs.Parts.{means_true, means_map, means_then}
-use Rattle.ft_equality_laws.proofs.Walks.{EachPlace, HasPlace, PlaceIn, Goods}
-
-abbrev pub EachOf : (Statement → Type 0) → List Statement → Type 0
-EachOf P [] = Unit {0}
-EachOf P (x ∷ xs) = P x × EachOf P xs
+use Rattle.ft_equality_laws.proofs.Walks.{HasPlace, PlaceIn, Goods}
+use Rattle.ft_equality_laws.specs.Laws.{Each}
+use Rattle.ft_equality_laws.proofs.Each.{each_map}
 
 -- of the places of one metavariable
-pub met_each : (Q : ℕ × Statement → Type 0) (P : Statement → Type 0) (m : ℕ) (pl : List (ℕ × Statement)) → ((p : ℕ × Statement) → m ≡ p.0 → Q p → P p.1) → EachPlace Q pl → EachOf P (met_by m pl)
+pub met_each : (Q : ℕ × Statement → Type 0) (P : Statement → Type 0) (m : ℕ) (pl : List (ℕ × Statement)) → ((p : ℕ × Statement) → m ≡ p.0 → Q p → P p.1) → Each Q pl → Each P (met_by m pl)
 met_each Q P m [] f h = tt
 met_each Q P m (p ∷ pl) f h = go (nat_eq m p.0) (eqb-true m p.0) (met_each Q P m pl f h.1)
   where
-    go : (b : Bool) → (b ≡ true → m ≡ p.0) → EachOf P (met_by m pl) → EachOf P (cond b (p.1 ∷ met_by m pl) (met_by m pl))
+    go : (b : Bool) → (b ≡ true → m ≡ p.0) → Each P (met_by m pl) → Each P (cond b (p.1 ∷ met_by m pl) (met_by m pl))
     go true e ih = (f p (e refl) h.0, ih)
     go false e ih = ih
 
 -- and back: of each place
-pub each_place : (hs : List (ℕ × Statement)) (P : ℕ → Statement → Type 0) (pl : List (ℕ × Statement)) → EachPlace (PlaceIn hs) pl → ((m : ℕ) (b : Statement) → look_up hs m ≡ Some b → EachOf (P m) (met_by m pl)) → EachPlace (λ p. P p.0 p.1) pl
+pub each_place : (hs : List (ℕ × Statement)) (P : ℕ → Statement → Type 0) (pl : List (ℕ × Statement)) → Each (PlaceIn hs) pl → ((m : ℕ) (b : Statement) → look_up hs m ≡ Some b → Each (P m) (met_by m pl)) → Each (λ p. P p.0 p.1) pl
 each_place hs P [] h f = tt
 each_place hs P (p ∷ pl) h f = (
-  (subst (λ b. EachOf (P p.0) (cond b (p.1 ∷ met_by p.0 pl) (met_by p.0 pl))) (test_true p.0 p.0 refl) (f p.0 h.0.1 h.0.2)).0,
+  (subst (λ b. Each (P p.0) (cond b (p.1 ∷ met_by p.0 pl) (met_by p.0 pl))) (test_true p.0 p.0 refl) (f p.0 h.0.1 h.0.2)).0,
   each_place hs P pl h.1 (λ m b l. go m (nat_eq m p.0) (f m b l)),
 )
   where
-    go : (m : ℕ) (b : Bool) → EachOf (P m) (cond b (p.1 ∷ met_by m pl) (met_by m pl)) → EachOf (P m) (met_by m pl)
+    go : (m : ℕ) (b : Bool) → Each (P m) (cond b (p.1 ∷ met_by m pl) (met_by m pl)) → Each (P m) (met_by m pl)
     go m true h = h.1
     go m false h = h
 
 -- the instance has the first place's argument
-pub instance_first : (m k : ℕ) (pl : List (ℕ × Statement)) (x : Statement) (xs : List Statement) → met_by m pl ≡ x ∷ xs → EachOf (λ y. domain_count y ≡ k) (met_by m pl) → instance_by pl m k ≡ Some (head x)
+pub instance_first : (m k : ℕ) (pl : List (ℕ × Statement)) (x : Statement) (xs : List Statement) → met_by m pl ≡ x ∷ xs → Each (λ y. domain_count y ≡ k) (met_by m pl) → instance_by pl m k ≡ Some (head x)
 instance_first m k [] x xs e d = absurd (clash e)
   where
     clash : [] ≡ x ∷ xs → ⊥
@@ -68,28 +66,20 @@ instance_first m k (p ∷ pl) x xs e d = go (nat_eq m p.0) e d (λ e' d'. instan
     first [] = plain type_goal
     first (y ∷ ys) = y
 
-    go : (b : Bool) → cond b (p.1 ∷ met_by m pl) (met_by m pl) ≡ x ∷ xs → EachOf (λ y. domain_count y ≡ k) (cond b (p.1 ∷ met_by m pl) (met_by m pl))
-        → (met_by m pl ≡ x ∷ xs → EachOf (λ y. domain_count y ≡ k) (met_by m pl) → instance_by pl m k ≡ Some (head x))
+    go : (b : Bool) → cond b (p.1 ∷ met_by m pl) (met_by m pl) ≡ x ∷ xs → Each (λ y. domain_count y ≡ k) (cond b (p.1 ∷ met_by m pl) (met_by m pl))
+        → (met_by m pl ≡ x ∷ xs → Each (λ y. domain_count y ≡ k) (met_by m pl) → instance_by pl m k ≡ Some (head x))
         → cond (b && nat_eq k (domain_count p.1)) (Some (head p.1)) (instance_by pl m k) ≡ Some (head x)
     go true e d ih = ap (λ t. cond t (Some (head p.1)) (instance_by pl m k)) (test_true k (domain_count p.1) (sym d.0)) ∙ ap (λ z. Some (head (first z))) e
     go false e d ih = ih e d
 
 -- what the instance has is closed
-pub instance_closed : (pl : List (ℕ × Statement)) → EachPlace (λ p. ClosedAt (domain_count p.1) (head p.1)) pl → HasClosedBodies (instance_by pl)
+pub instance_closed : (pl : List (ℕ × Statement)) → Each (λ p. ClosedAt (domain_count p.1) (head p.1)) pl → HasClosedBodies (instance_by pl)
 instance_closed [] h m k e q = nothing q
 instance_closed (p ∷ pl) h m k e q = go (nat_eq m p.0 && nat_eq k (domain_count p.1)) refl q (instance_closed pl h.1 m k e)
   where
     go : (b : Bool) → (nat_eq m p.0 && nat_eq k (domain_count p.1)) ≡ b → cond b (Some (head p.1)) (instance_by pl m k) ≡ Some e → (instance_by pl m k ≡ Some e → ClosedAt k e) → ClosedAt k e
     go true t q ih = subst (λ z. ClosedAt k z) (Some_injective (head p.1) e q) (subst (λ l. ClosedAt l (head p.1)) (sym (eqb-true k (domain_count p.1) (both (nat_eq m p.0) (nat_eq k (domain_count p.1)) t).1)) h.0)
     go false t q ih = ih q
-
-each_map : (P Q : Statement → Type 0) (xs : List Statement) → ((x : Statement) → P x → Q x) → EachOf P xs → EachOf Q xs
-each_map P Q [] f h = tt
-each_map P Q (x ∷ xs) f h = (f x h.0, each_map P Q xs f h.1)
-
-abbrev pub EachPremise : (ℕ × Statement → Type 0) → List (ℕ × Statement) → Type 0
-EachPremise P [] = Unit {0}
-EachPremise P (q ∷ qs) = P q × EachPremise P qs
 
 module _ (T : List Rule) (M : List (ℕ × Statement)) where
   abbrev pub Exch : List (ℕ × Expression) → Statement → Statement → Type 0
@@ -137,10 +127,10 @@ module _ (T : List Rule) (sc : ScopedTheory T) (M : List (ℕ × Statement)) whe
       subst (λ l. ClosedAt l (head x)) (omega (arith, boundary_depth x))
       (AllOfStatement_head (boundary_of x) (Fine M G) zero (head x) r.0 (scope T (sequent M G (fill (boundary_of x) (head x))) (subst (λ z. Prim T M G z) r.1 p))).0
 
-  pub places_closed : (hs pl : List (ℕ × Statement)) (G : List (ℕ × Expression)) → EachPlace (PlaceIn hs) pl → Goods T M G pl → HasClosedBodies (instance_by pl)
+  pub places_closed : (hs pl : List (ℕ × Statement)) (G : List (ℕ × Expression)) → Each (PlaceIn hs) pl → Goods T M G pl → HasClosedBodies (instance_by pl)
   places_closed hs pl G h g = instance_closed pl (go pl h g)
     where
-      go : (pl : List (ℕ × Statement)) → EachPlace (PlaceIn hs) pl → Goods T M G pl → EachPlace (λ p. ClosedAt (domain_count p.1) (head p.1)) pl
+      go : (pl : List (ℕ × Statement)) → Each (PlaceIn hs) pl → Goods T M G pl → Each (λ p. ClosedAt (domain_count p.1) (head p.1)) pl
       go [] h g = tt
       go (p ∷ pl) h g = (closed_head G p.1 h.0.0 g.0, go pl h.1 g.1)
 
@@ -155,25 +145,25 @@ module _ (T : List Rule) (sc : ScopedTheory T) (M : List (ℕ × Statement)) whe
       go false e = boundaries_mean T sc M (domain_count b) n b (boundary_of x) refl (boundary_depth x ∙ d) o (refill x h).0
 
   abbrev AllExchange : ℕ → Statement → List Statement → Type 0
-  AllExchange n b xs = (G : List (ℕ × Expression)) → Below n G → Prim T M G b → EachOf (λ x. Prim T M G x) xs → EachOf (λ x. Exch T M G b (boundary_of x)) xs
+  AllExchange n b xs = (G : List (ℕ × Expression)) → Below n G → Prim T M G b → Each (λ x. Prim T M G x) xs → Each (λ x. Exch T M G b (boundary_of x)) xs
 
-  all_stand_mean : (n : ℕ) (b : Statement) (xs : List Statement) → IsObject b → EachOf (λ x. (has_head x ≡ true) × (domain_count x ≡ domain_count b)) xs → Means T M n (λ r. If r (AllExchange n b xs)) (for_each (stands_at b) xs)
+  all_stand_mean : (n : ℕ) (b : Statement) (xs : List Statement) → IsObject b → Each (λ x. (has_head x ≡ true) × (domain_count x ≡ domain_count b)) xs → Means T M n (λ r. If r (AllExchange n b xs)) (for_each (stands_at b) xs)
   all_stand_mean n b [] o h = λ G bl p g. tt
   all_stand_mean n b (x ∷ xs) o h = means_both T M n (Exchange T M n b (boundary_of x)) (AllExchange n b (x ∷ xs)) (stands_at b x) (λ t. for_each (stands_at b) xs) (stands_mean n b x o h.0.0 h.0.1)
       (λ e. means_map T M n (AllExchange n b xs) (AllExchange n b (x ∷ xs)) (for_each (stands_at b) xs) (λ y G bl p g. (e G bl p (boundary T sc (sequent M G x) g.0), y G bl p g.1)) (all_stand_mean n b xs o h.1))
 
-module _ (T : List Rule) (sc : ScopedTheory T) (M hs rest pl : List (ℕ × Statement)) (inside : EachPlace (PlaceIn hs) pl) where
+module _ (T : List Rule) (sc : ScopedTheory T) (M hs rest pl : List (ℕ × Statement)) (inside : Each (PlaceIn hs) pl) where
   abbrev pub Fitting : List (ℕ × Expression) → ℕ × Statement → Type 0
-  Fitting G q = EachOf (λ x. Exch T M G (statement_at (instance_by pl) q.1) (boundary_of x)) (met_by q.0 pl)
+  Fitting G q = Each (λ x. Exch T M G (statement_at (instance_by pl) q.1) (boundary_of x)) (met_by q.0 pl)
 
   abbrev pub FitFact : ℕ → List (ℕ × Statement) → List (ℕ × Statement) → Type 0
-  FitFact n before qs = (G : List (ℕ × Expression)) → Below n G → Goods T M G pl → Given T M G (instance_by pl) before → EachPremise (Fitting G) qs × Given T M G (instance_by pl) (before ++ qs)
+  FitFact n before qs = (G : List (ℕ × Expression)) → Below n G → Goods T M G pl → Given T M G (instance_by pl) before → Each (Fitting G) qs × Given T M G (instance_by pl) (before ++ qs)
 
   -- a premise has a place, and is the one of its name
   abbrev pub Determined : ℕ × Statement → Type 0
   Determined q = IsObject q.1 × HasPlace q.0 pl × (look_up hs q.0 ≡ Some q.1)
 
-  pub met_heads : (q : ℕ × Statement) → Determined q → EachOf (λ x. (has_head x ≡ true) × (domain_count x ≡ domain_count q.1)) (met_by q.0 pl)
+  pub met_heads : (q : ℕ × Statement) → Determined q → Each (λ x. (has_head x ≡ true) × (domain_count x ≡ domain_count q.1)) (met_by q.0 pl)
   met_heads q d = met_each (PlaceIn hs) (λ x. (has_head x ≡ true) × (domain_count x ≡ domain_count q.1)) q.0 pl
       (λ p e i. (i.0, i.4 ∙ ap domain_count (Some_injective i.1 q.1 (sym i.2 ∙ ap (look_up hs) (sym e) ∙ d.2)))) inside
 
@@ -182,40 +172,40 @@ module _ (T : List Rule) (sc : ScopedTheory T) (M hs rest pl : List (ℕ × Stat
       let B : Statement = statement_at (instance_by pl) q.1 in
       let cl : HasClosedBodies (instance_by pl) = places_closed T sc M hs pl G inside g in
       let pb : Prim T M G B = instantiate T sc before [] M G (instance_by pl) q.1 (given_instance T M G (instance_by pl) before cl gi) hp in
-      let gm : EachOf (λ z. Prim T M G z) (met_by q.0 pl) = met_each (λ p. Prim T M G p.1) (λ z. Prim T M G z) q.0 pl (λ p e t. t) g in
+      let gm : Each (λ z. Prim T M G z) (met_by q.0 pl) = met_each (λ p. Prim T M G p.1) (λ z. Prim T M G z) q.0 pl (λ p e t. t) g in
       let ex : Fitting G q = x G bl pb gm in
-      let hd : EachOf (λ z. (has_head z ≡ true) × (domain_count z ≡ domain_count q.1)) (met_by q.0 pl) = met_heads q d in
+      let hd : Each (λ z. (has_head z ≡ true) × (domain_count z ≡ domain_count q.1)) (met_by q.0 pl) = met_heads q d in
       let z : Statement = d.1.0 in
       let zs : List Statement = d.1.1 in
       let m : met_by q.0 pl ≡ z ∷ zs = d.1.2 in
-      let fz : Prim T M G (fill (boundary_of z) (head z)) = refilled T sc M G z (subst (λ xs. EachOf (λ z. (has_head z ≡ true) × (domain_count z ≡ domain_count q.1)) xs) m hd).0.0 (subst (λ xs. EachOf (λ z. Prim T M G z) xs) m gm).0 in
-      let fb : Prim T M G (fill B (head z)) = ((subst (λ xs. EachOf (λ w. Exch T M G B (boundary_of w)) xs) m ex).0 (head z)).1 fz in
+      let fz : Prim T M G (fill (boundary_of z) (head z)) = refilled T sc M G z (subst (λ xs. Each (λ z. (has_head z ≡ true) × (domain_count z ≡ domain_count q.1)) xs) m hd).0.0 (subst (λ xs. Each (λ z. Prim T M G z) xs) m gm).0 in
+      let fb : Prim T M G (fill B (head z)) = ((subst (λ xs. Each (λ w. Exch T M G B (boundary_of w)) xs) m ex).0 (head z)).1 fz in
       let is : instance_by pl q.0 (domain_count q.1) ≡ Some (head z) = instance_first q.0 (domain_count q.1) pl z zs m (each_map (λ w. (has_head w ≡ true) × (domain_count w ≡ domain_count q.1)) (λ w. domain_count w ≡ domain_count q.1) (met_by q.0 pl) (λ w i. i.1) hd) in
-      let r : EachPremise (Fitting G) qs × Given T M G (instance_by pl) ((before ++ (q ∷ [])) ++ qs) = y G bl g (given_last T M G (instance_by pl) before q (head z) gi d.0 is fb) in
+      let r : Each (Fitting G) qs × Given T M G (instance_by pl) ((before ++ (q ∷ [])) ++ qs) = y G bl g (given_last T M G (instance_by pl) before q (head z) gi d.0 is fb) in
       ((ex, r.0), subst (λ w. Given T M G (instance_by pl) w) (append_assoc before (q ∷ []) qs) r.1)
 
-  pub fits_mean : (n : ℕ) (before qs : List (ℕ × Statement)) → PremisesHold (λ N x. Prim T N [] x) before (qs ++ rest) → EachPremise Determined qs → Means T M n (λ r. If r (FitFact n before qs)) (boundaries_fit (instance_by pl) (qs ++ rest) pl)
+  pub fits_mean : (n : ℕ) (before qs : List (ℕ × Statement)) → PremisesHold (λ N x. Prim T N [] x) before (qs ++ rest) → Each Determined qs → Means T M n (λ r. If r (FitFact n before qs)) (boundaries_fit (instance_by pl) (qs ++ rest) pl)
   fits_mean n before [] h d = means_true T M n (FitFact n before []) (boundaries_fit (instance_by pl) rest pl) (λ G bl g gi. (tt, subst (λ z. Given T M G (instance_by pl) z) (sym (append-nil before)) gi))
   fits_mean n before (q ∷ qs) h d =
       means_both T M n (AllExchange T sc M n (statement_at (instance_by pl) q.1) (met_by q.0 pl)) (FitFact n before (q ∷ qs)) (for_each (stands_at (statement_at (instance_by pl) q.1)) (met_by q.0 pl)) (λ t. boundaries_fit (instance_by pl) (qs ++ rest) pl)
       (all_stand_mean T sc M n (statement_at (instance_by pl) q.1) (met_by q.0 pl) (object-map q.1 (λ z. act free (instance_by pl)) zero d.0.0) (heads_again q d.0))
       (λ x. means_map T M n (FitFact n (before ++ (q ∷ [])) qs) (FitFact n before (q ∷ qs)) (boundaries_fit (instance_by pl) (qs ++ rest) pl) (λ y. one_premise n before qs q d.0 h.2 x y) (fits_mean n (before ++ (q ∷ [])) qs h.3 d.1))
     where
-      heads_again : (q : ℕ × Statement) → Determined q → EachOf (λ x. (has_head x ≡ true) × (domain_count x ≡ domain_count (statement_at (instance_by pl) q.1))) (met_by q.0 pl)
-      heads_again q d = subst (λ k. EachOf (λ x. (has_head x ≡ true) × (domain_count x ≡ k)) (met_by q.0 pl)) (sym (domain_count-map q.1 (λ z. act free (instance_by pl)) zero)) (met_heads q d)
+      heads_again : (q : ℕ × Statement) → Determined q → Each (λ x. (has_head x ≡ true) × (domain_count x ≡ domain_count (statement_at (instance_by pl) q.1))) (met_by q.0 pl)
+      heads_again q d = subst (λ k. Each (λ x. (has_head x ≡ true) × (domain_count x ≡ k)) (met_by q.0 pl)) (sym (domain_count-map q.1 (λ z. act free (instance_by pl)) zero)) (met_heads q d)
 
   -- the second round
   abbrev pub FirstEquals : List (ℕ × Expression) → List Statement → Type 0
   FirstEquals G [] = Unit {0}
-  FirstEquals G (x ∷ xs) = EachOf (λ y. Prim T M G (equate (boundary_of y) (head y) (head x))) (x ∷ xs)
+  FirstEquals G (x ∷ xs) = Each (λ y. Prim T M G (equate (boundary_of y) (head y) (head x))) (x ∷ xs)
 
   abbrev pub RepeatFact : ℕ → List (ℕ × Statement) → Type 0
-  RepeatFact n qs = (G : List (ℕ × Expression)) → Below n G → Goods T M G pl → EachPremise (Fitting G) qs → EachPremise (λ q. FirstEquals G (met_by q.0 pl)) qs
+  RepeatFact n qs = (G : List (ℕ × Expression)) → Below n G → Goods T M G pl → Each (Fitting G) qs → Each (λ q. FirstEquals G (met_by q.0 pl)) qs
 
   abbrev EqualsEach : ℕ → Expression → List Statement → Type 0
-  EqualsEach n e xs = (G : List (ℕ × Expression)) → Below n G → EachOf (λ y. Prim T M G (fill (boundary_of y) e)) xs → EachOf (λ y. Prim T M G y) xs → EachOf (λ y. Prim T M G (equate (boundary_of y) (head y) e)) xs
+  EqualsEach n e xs = (G : List (ℕ × Expression)) → Below n G → Each (λ y. Prim T M G (fill (boundary_of y) e)) xs → Each (λ y. Prim T M G y) xs → Each (λ y. Prim T M G (equate (boundary_of y) (head y) e)) xs
 
-  equals_each_mean : (n : ℕ) (e : Expression) (xs : List Statement) → EachOf (λ x. has_head x ≡ true) xs → Means T M n (λ r. If r (EqualsEach n e xs)) (equals_each e xs)
+  equals_each_mean : (n : ℕ) (e : Expression) (xs : List Statement) → Each (λ x. has_head x ≡ true) xs → Means T M n (λ r. If r (EqualsEach n e xs)) (equals_each e xs)
   equals_each_mean n e [] h = λ G bl f p. tt
   equals_each_mean n e (x ∷ xs) h =
       means_both T M n (HeadsEqual T M n (boundary_of x) e (head x)) (EqualsEach n e (x ∷ xs)) (same_or e (head x) (heads_equal (boundary_of x) e (head x))) (λ t. equals_each e xs)
@@ -227,9 +217,9 @@ module _ (T : List Rule) (sc : ScopedTheory T) (M hs rest pl : List (ℕ × Stat
       (equals_each_mean n e xs h.1))
 
   abbrev FirstFact : ℕ → Statement → List Statement → Type 0
-  FirstFact n b xs = (G : List (ℕ × Expression)) → Below n G → EachOf (λ y. Prim T M G y) xs → EachOf (λ x. Exch T M G b (boundary_of x)) xs → FirstEquals G xs
+  FirstFact n b xs = (G : List (ℕ × Expression)) → Below n G → Each (λ y. Prim T M G y) xs → Each (λ x. Exch T M G b (boundary_of x)) xs → FirstEquals G xs
 
-  first_mean : (n : ℕ) (b : Statement) (xs : List Statement) → EachOf (λ x. has_head x ≡ true) xs → Means T M n (λ r. If r (FirstFact n b xs)) (first_equals xs)
+  first_mean : (n : ℕ) (b : Statement) (xs : List Statement) → Each (λ x. has_head x ≡ true) xs → Means T M n (λ r. If r (FirstFact n b xs)) (first_equals xs)
   first_mean n b [] h = λ G bl p ex. tt
   first_mean n b (x ∷ xs) h = means_map T M n (EqualsEach n (head x) xs) (FirstFact n b (x ∷ xs)) (equals_each (head x) xs)
       (λ y G bl p ex.
@@ -240,7 +230,7 @@ module _ (T : List Rule) (sc : ScopedTheory T) (M hs rest pl : List (ℕ × Stat
       ))
       (equals_each_mean n (head x) xs h.1)
 
-  pub repeats_mean : (n : ℕ) (qs : List (ℕ × Statement)) → EachPremise Determined qs → Means T M n (λ r. If r (RepeatFact n qs)) (repeats_equal (qs ++ rest) pl)
+  pub repeats_mean : (n : ℕ) (qs : List (ℕ × Statement)) → Each Determined qs → Means T M n (λ r. If r (RepeatFact n qs)) (repeats_equal (qs ++ rest) pl)
   repeats_mean n [] d = means_true T M n (RepeatFact n []) (repeats_equal rest pl) (λ G bl g f. tt)
   repeats_mean n (q ∷ qs) d = means_both T M n (FirstFact n (statement_at (instance_by pl) q.1) (met_by q.0 pl)) (RepeatFact n (q ∷ qs)) (first_equals (met_by q.0 pl)) (λ t. repeats_equal (qs ++ rest) pl)
       (first_mean n (statement_at (instance_by pl) q.1) (met_by q.0 pl) (each_map (λ w. (has_head w ≡ true) × (domain_count w ≡ domain_count q.1)) (λ w. has_head w ≡ true) (met_by q.0 pl) (λ w i. i.0) (met_heads q d.0)))

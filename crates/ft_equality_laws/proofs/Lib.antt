@@ -1,3 +1,4 @@
+pub mod Each
 pub mod Means
 pub mod Derive
 pub mod Opening

@@ -19,8 +19,10 @@ use Rattle.ft_equality_laws.proofs.Means.{Below, If, Means, means_bind}
 use Rattle.ft_equality_laws.proofs.Opening.{means_both}
 use Rattle.ft_equality_laws.proofs.Parts.{means_map, means_then}
 use Rattle.ft_equality_laws.proofs.Patterns.{Laid}
-use Rattle.ft_equality_laws.proofs.Walks.{EachPlace, PlaceIn, Goods, EqualPlace, SymbolFact, pattern_walk}
-use Rattle.ft_equality_laws.proofs.Fitting.{EachOf, each_place, instance_first, EachPremise, Given, places_closed, FitFact, Determined, met_heads, fits_mean, FirstEquals, RepeatFact, repeats_mean, Fitting}
+use Rattle.ft_equality_laws.proofs.Walks.{PlaceIn, Goods, EqualPlace, SymbolFact, pattern_walk}
+use Rattle.ft_equality_laws.proofs.Fitting.{each_place, instance_first, Given, places_closed, FitFact, Determined, met_heads, fits_mean, FirstEquals, RepeatFact, repeats_mean, Fitting}
+use Rattle.ft_equality_laws.specs.Laws.{Each}
+use Rattle.ft_equality_laws.proofs.Each.{each_map, each_zip}
 
 pub look_none : (before xs : List (ℕ × Statement)) (m : ℕ) → look_up before m ≡ None → look_up (before ++ xs) m ≡ look_up xs m
 look_none [] xs m h = refl
@@ -30,36 +32,20 @@ look_none (p ∷ before) xs m h = go (nat_eq m p.0) h (look_none before xs m)
     go true h ih = nothing (sym h)
     go false h ih = ih h
 
-pub each_premise_map : (P Q : ℕ × Statement → Type 0) (qs : List (ℕ × Statement)) → ((q : ℕ × Statement) → P q → Q q) → EachPremise P qs → EachPremise Q qs
-each_premise_map P Q [] f h = tt
-each_premise_map P Q (q ∷ qs) f h = (f q h.0, each_premise_map P Q qs f h.1)
-
-pub each_premise_zip : (P Q R : ℕ × Statement → Type 0) (qs : List (ℕ × Statement)) → ((q : ℕ × Statement) → P q → Q q → R q) → EachPremise P qs → EachPremise Q qs → EachPremise R qs
-each_premise_zip P Q R [] f h k = tt
-each_premise_zip P Q R (q ∷ qs) f h k = (f q h.0 k.0, each_premise_zip P Q R qs f h.1 k.1)
-
 -- each premise is the one of its name
-pub each_looked : (D : List (ℕ × Statement) → Statement → Type 0) (before qs : List (ℕ × Statement)) → PremisesHold D before qs → EachPremise (λ q. look_up (before ++ qs) q.0 ≡ Some q.1) qs
+pub each_looked : (D : List (ℕ × Statement) → Statement → Type 0) (before qs : List (ℕ × Statement)) → PremisesHold D before qs → Each (λ q. look_up (before ++ qs) q.0 ≡ Some q.1) qs
 each_looked D before [] h = tt
 each_looked D before (q ∷ qs) h = (
   look_none before (q ∷ qs) q.0 h.0 ∙ same q.0 q.0 (Some q.1) (look_up qs q.0) refl,
-  each_premise_map (λ p. look_up ((before ++ (q ∷ [])) ++ qs) p.0 ≡ Some p.1) (λ p. look_up (before ++ (q ∷ qs)) p.0 ≡ Some p.1) qs (λ p e. ap (λ z. look_up z p.0) (sym (append_assoc before (q ∷ []) qs)) ∙ e) (each_looked D (before ++ (q ∷ [])) qs h.3),
+  each_map (λ p. look_up ((before ++ (q ∷ [])) ++ qs) p.0 ≡ Some p.1) (λ p. look_up (before ++ (q ∷ qs)) p.0 ≡ Some p.1) qs (λ p e. ap (λ z. look_up z p.0) (sym (append_assoc before (q ∷ []) qs)) ∙ e) (each_looked D (before ++ (q ∷ [])) qs h.3),
 )
 
 -- the premise of a name
-pub premise_of : (P : ℕ × Statement → Type 0) (qs : List (ℕ × Statement)) (m : ℕ) (b : Statement) → EachPremise P qs → look_up qs m ≡ Some b → (q : ℕ × Statement) × (m ≡ q.0) × P q
+pub premise_of : (P : ℕ × Statement → Type 0) (qs : List (ℕ × Statement)) (m : ℕ) (b : Statement) → Each P qs → look_up qs m ≡ Some b → (q : ℕ × Statement) × (m ≡ q.0) × P q
 premise_of P [] m b h l = nothing l
 premise_of P (q ∷ qs) m b h l = by_test ((q : ℕ × Statement) × (m ≡ q.0) × P q) m q.0
     (λ e. (q, e, h.0))
     (λ n. premise_of P qs m b h.1 (past m q qs b n l))
-
-each_of_zip : (P Q R : Statement → Type 0) (xs : List Statement) → ((x : Statement) → P x → Q x → R x) → EachOf P xs → EachOf Q xs → EachOf R xs
-each_of_zip P Q R [] f h k = tt
-each_of_zip P Q R (x ∷ xs) f h k = (f x h.0 k.0, each_of_zip P Q R xs f h.1 k.1)
-
-each_of_map : (P Q : Statement → Type 0) (xs : List Statement) → ((x : Statement) → P x → Q x) → EachOf P xs → EachOf Q xs
-each_of_map P Q [] f h = tt
-each_of_map P Q (x ∷ xs) f h = (f x h.0, each_of_map P Q xs f h.1)
 
 -- the expression equals the pattern at the instance, wherever it stands, and the instance has arguments for the premises
 abbrev pub MatchFact : List Rule → List (ℕ × Statement) → ℕ → List (ℕ × Statement) → Expression → Expression → Option (ℕ → ℕ → Option Expression) → Type 0
@@ -67,25 +53,25 @@ MatchFact T M n hs u e None = Unit {0}
 MatchFact T M n hs u e (Some I) = (c : Claim) → IsObjectGoal c → (G : List (ℕ × Expression)) → Below n G → Prim T M G (plain (fill_goal c e)) → Prim T M G (plain (equate_goal c e (instantiate I u))) × HasClosedBodies I × Given T M G I hs
 
 module _ (W : Store) (so : Sound W.rules) (M hs rest : List (ℕ × Statement)) (s : ℕ) (us : Arguments) (pat : are_patterns us ≡ true) (l : Laid W.rules (symbol s us)) (only : ArgumentsMentionOnly (λ v. ⊥) (IsObjectPremise hs) us)
-    (h : PremisesHold (λ N x. Prim W.rules N [] x) [] (hs ++ rest)) (d : EachPremise (λ q. IsObject q.1 × (determines (symbol s us) q.0 ≡ true)) hs) where
+    (h : PremisesHold (λ N x. Prim W.rules N [] x) [] (hs ++ rest)) (d : Each (λ q. IsObject q.1 × (determines (symbol s us) q.0 ≡ true)) hs) where
   -- the places have equal arguments in the instance
-  equal_places : (pl : List (ℕ × Statement)) (inside : EachPlace (PlaceIn hs) pl) (G : List (ℕ × Expression)) → EachPremise (Determined W.rules (scoped W.rules so) M hs rest pl inside) hs
-      → EachPremise (λ q. FirstEquals W.rules (scoped W.rules so) M hs rest pl inside G (met_by q.0 pl)) hs → EachPlace (EqualPlace W.rules M G (instance_by pl)) pl
+  equal_places : (pl : List (ℕ × Statement)) (inside : Each (PlaceIn hs) pl) (G : List (ℕ × Expression)) → Each (Determined W.rules (scoped W.rules so) M hs rest pl inside) hs
+      → Each (λ q. FirstEquals W.rules (scoped W.rules so) M hs rest pl inside G (met_by q.0 pl)) hs → Each (EqualPlace W.rules M G (instance_by pl)) pl
   equal_places pl inside G ds fs = each_place hs (λ m x. EqualPlace W.rules M G (instance_by pl) (m, x)) pl inside
       (λ m b lk.
       let r : (q : ℕ × Statement) × (m ≡ q.0) × (Determined W.rules (scoped W.rules so) M hs rest pl inside q × FirstEquals W.rules (scoped W.rules so) M hs rest pl inside G (met_by q.0 pl)) =
       premise_of (λ q. Determined W.rules (scoped W.rules so) M hs rest pl inside q × FirstEquals W.rules (scoped W.rules so) M hs rest pl inside G (met_by q.0 pl)) hs m b
-      (each_premise_zip (Determined W.rules (scoped W.rules so) M hs rest pl inside) (λ q. FirstEquals W.rules (scoped W.rules so) M hs rest pl inside G (met_by q.0 pl)) (λ q. Determined W.rules (scoped W.rules so) M hs rest pl inside q × FirstEquals W.rules (scoped W.rules so) M hs rest pl inside G (met_by q.0 pl)) hs (λ q x y. (x, y)) ds fs) lk in
-      subst (λ z. EachOf (λ x. EqualPlace W.rules M G (instance_by pl) (z, x)) (met_by z pl)) (sym r.1) (of_one r.0 r.2.0 r.2.1))
+      (each_zip (Determined W.rules (scoped W.rules so) M hs rest pl inside) (λ q. FirstEquals W.rules (scoped W.rules so) M hs rest pl inside G (met_by q.0 pl)) (λ q. Determined W.rules (scoped W.rules so) M hs rest pl inside q × FirstEquals W.rules (scoped W.rules so) M hs rest pl inside G (met_by q.0 pl)) hs (λ q x y. (x, y)) ds fs) lk in
+      subst (λ z. Each (λ x. EqualPlace W.rules M G (instance_by pl) (z, x)) (met_by z pl)) (sym r.1) (of_one r.0 r.2.0 r.2.1))
     where
-      of_one : (q : ℕ × Statement) → Determined W.rules (scoped W.rules so) M hs rest pl inside q → FirstEquals W.rules (scoped W.rules so) M hs rest pl inside G (met_by q.0 pl) → EachOf (λ x. EqualPlace W.rules M G (instance_by pl) (q.0, x)) (met_by q.0 pl)
+      of_one : (q : ℕ × Statement) → Determined W.rules (scoped W.rules so) M hs rest pl inside q → FirstEquals W.rules (scoped W.rules so) M hs rest pl inside G (met_by q.0 pl) → Each (λ x. EqualPlace W.rules M G (instance_by pl) (q.0, x)) (met_by q.0 pl)
       of_one q dq f =
-          let hd : EachOf (λ z. (has_head z ≡ true) × (domain_count z ≡ domain_count q.1)) (met_by q.0 pl) = met_heads W.rules (scoped W.rules so) M hs rest pl inside q dq in
+          let hd : Each (λ z. (has_head z ≡ true) × (domain_count z ≡ domain_count q.1)) (met_by q.0 pl) = met_heads W.rules (scoped W.rules so) M hs rest pl inside q dq in
           let z : Statement = dq.1.0 in
-          let is : instance_by pl q.0 (domain_count q.1) ≡ Some (head z) = instance_first q.0 (domain_count q.1) pl z dq.1.1 dq.1.2 (each_of_map (λ w. (has_head w ≡ true) × (domain_count w ≡ domain_count q.1)) (λ w. domain_count w ≡ domain_count q.1) (met_by q.0 pl) (λ w i. i.1) hd) in
-          let f' : EachOf (λ y. Prim W.rules M G (equate (boundary_of y) (head y) (head z))) (met_by q.0 pl) =
-          subst (λ xs. EachOf (λ y. Prim W.rules M G (equate (boundary_of y) (head y) (head z))) xs) (sym dq.1.2) (subst (λ xs. FirstEquals W.rules (scoped W.rules so) M hs rest pl inside G xs) dq.1.2 f) in
-          each_of_zip (λ w. (has_head w ≡ true) × (domain_count w ≡ domain_count q.1)) (λ y. Prim W.rules M G (equate (boundary_of y) (head y) (head z))) (λ x. EqualPlace W.rules M G (instance_by pl) (q.0, x)) (met_by q.0 pl)
+          let is : instance_by pl q.0 (domain_count q.1) ≡ Some (head z) = instance_first q.0 (domain_count q.1) pl z dq.1.1 dq.1.2 (each_map (λ w. (has_head w ≡ true) × (domain_count w ≡ domain_count q.1)) (λ w. domain_count w ≡ domain_count q.1) (met_by q.0 pl) (λ w i. i.1) hd) in
+          let f' : Each (λ y. Prim W.rules M G (equate (boundary_of y) (head y) (head z))) (met_by q.0 pl) =
+          subst (λ xs. Each (λ y. Prim W.rules M G (equate (boundary_of y) (head y) (head z))) xs) (sym dq.1.2) (subst (λ xs. FirstEquals W.rules (scoped W.rules so) M hs rest pl inside G xs) dq.1.2 f) in
+          each_zip (λ w. (has_head w ≡ true) × (domain_count w ≡ domain_count q.1)) (λ y. Prim W.rules M G (equate (boundary_of y) (head y) (head z))) (λ x. EqualPlace W.rules M G (instance_by pl) (q.0, x)) (met_by q.0 pl)
           (λ w i p. (head z, ap (instance_by pl q.0) i.1 ∙ is, p)) hd f'
 
   places_mean : (n : ℕ) (e : Expression) (o : Option (List (ℕ × Statement))) → SymbolFact W.rules M hs (symbol s us) e o → Means W.rules M n (MatchFact W.rules M n hs (symbol s us) e) (match_places W (hs ++ rest) (symbol s us) o)
@@ -103,8 +89,8 @@ module _ (W : Store) (so : Sound W.rules) (M hs rest : List (ℕ × Statement)) 
       Second : Type 0
       Second = RepeatFact W.rules (scoped W.rules so) M hs rest pl k.1 n hs
 
-      ds : EachPremise (Determined W.rules (scoped W.rules so) M hs rest pl k.1) hs
-      ds = each_premise_zip (λ q. IsObject q.1 × (determines (symbol s us) q.0 ≡ true)) (λ q. look_up hs q.0 ≡ Some q.1) (Determined W.rules (scoped W.rules so) M hs rest pl k.1) hs (λ q x y. (x.0, k.0 q.0 x.1, y)) d
+      ds : Each (Determined W.rules (scoped W.rules so) M hs rest pl k.1) hs
+      ds = each_zip (λ q. IsObject q.1 × (determines (symbol s us) q.0 ≡ true)) (λ q. look_up hs q.0 ≡ Some q.1) (Determined W.rules (scoped W.rules so) M hs rest pl k.1) hs (λ q x y. (x.0, k.0 q.0 x.1, y)) d
           (each_looked (λ N x. Prim W.rules N [] x) [] hs (first_premises (λ N x. Prim W.rules N [] x) [] hs rest h))
 
       fin : (b : Bool) → If b (First × Second) → Means W.rules M n (MatchFact W.rules M n hs (symbol s us) e) (matched W (symbol s us) (instance_by pl) b)
@@ -115,7 +101,7 @@ module _ (W : Store) (so : Sound W.rules) (M hs rest : List (ℕ × Statement)) 
           (λ c o G bl p.
           let g : Goods W.rules M G pl = (k.2 c o G p).0 in
           let cl : HasClosedBodies (instance_by pl) = places_closed W.rules (scoped W.rules so) M hs pl G k.1 g in
-          let ft : EachPremise (Fitting W.rules (scoped W.rules so) M hs rest pl k.1 G) hs × Given W.rules M G (instance_by pl) hs = f.0 G bl g (λ m b q. nothing q) in
+          let ft : Each (Fitting W.rules (scoped W.rules so) M hs rest pl k.1 G) hs × Given W.rules M G (instance_by pl) hs = f.0 G bl g (λ m b q. nothing q) in
           ((k.2 c o G p).1 (instance_by pl) cl (equal_places pl k.1 G ds (f.1 G bl g ft.0)), cl, ft.1)))
 
   pub match_mean : (n : ℕ) (e : Expression) → Means W.rules M n (MatchFact W.rules M n hs (symbol s us) e) (match_pattern W (hs ++ rest) (symbol s us) e)

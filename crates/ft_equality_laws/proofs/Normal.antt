@@ -29,9 +29,11 @@ use Rattle.ft_equality_laws.proofs.Derive.{reflexive_at, right_at}
 use Rattle.ft_equality_laws.proofs.Applications.{Stands, Resting, resting, rule_of, congruence_at}
 use Rattle.ft_equality_laws.proofs.Parts.{Flat, means_then}
 use Rattle.ft_equality_laws.proofs.Patterns.{laid}
-use Rattle.ft_equality_laws.proofs.Fitting.{EachPremise, Given, refl_heads}
-use Rattle.ft_equality_laws.proofs.Matches.{MatchFact, match_mean, each_looked, each_premise_map}
+use Rattle.ft_equality_laws.proofs.Fitting.{Given, refl_heads}
+use Rattle.ft_equality_laws.proofs.Matches.{MatchFact, match_mean, each_looked}
 use Rattle.ft_equality_laws.proofs.Equational.{Met, equation_at}
+use Rattle.ft_equality_laws.specs.Laws.{Each}
+use Rattle.ft_equality_laws.proofs.Each.{each_map}
 
 -- the goal of an equation, at the type where it has one
 abbrev pub equation_goal : Expression → Expression → Option Expression → Claim
@@ -45,7 +47,7 @@ pub record Computes (T : List Rule) (c : Computation) : Type 0 where
   pub patterns : Arguments
   pub left : c.left ≡ symbol symbol_of patterns
   pub pattern : are_patterns patterns ≡ true
-  pub determined : EachPremise (λ q. IsObject q.1 × (determines c.left q.0 ≡ true)) c.premises
+  pub determined : Each (λ q. IsObject q.1 × (determines c.left q.0 ≡ true)) c.premises
 
 abbrev pub AllCompute : List Rule → List Computation → Type 0
 AllCompute T [] = Unit {0}
@@ -112,8 +114,8 @@ module _ (T : List Rule) (so : Sound T) (M : List (ℕ × Statement)) where
           (regoal G g d h.symbol_of (act_arguments free I h.patterns) (instantiate I c.right) o o' (subst (λ z. Prim T M G (plain (fill_goal g z))) is_symbol p) (subst (λ z. Prim T M G (plain (fill_goal d z))) is_symbol q)
           (subst (λ z. Prim T M G (plain (equate_goal d z (instantiate I c.right)))) is_symbol e))
 
-      mets : (x : Option Expression) → rule_at T c.rule ≡ Some (record { premises = c.premises; conclusion = equation_goal c.left c.right x }) → EachPremise (Met T M G I) c.premises
-      mets x e = each_premise_map (λ q. look_up c.premises q.0 ≡ Some q.1) (Met T M G I) c.premises (λ q lk. inl (gi q.0 q.1 lk))
+      mets : (x : Option Expression) → rule_at T c.rule ≡ Some (record { premises = c.premises; conclusion = equation_goal c.left c.right x }) → Each (Met T M G I) c.premises
+      mets x e = each_map (λ q. look_up c.premises q.0 ≡ Some q.1) (Met T M G I) c.premises (λ q lk. inl (gi q.0 q.1 lk))
           (each_looked (λ N y. Prim T N [] y) [] c.premises (so c.rule (record { premises = c.premises; conclusion = equation_goal c.left c.right x }) e).0)
 
       go : (x : Option Expression) → rule_at T c.rule ≡ Some (record { premises = c.premises; conclusion = equation_goal c.left c.right x }) → Prim T M G (plain (equate_goal g (instantiate I c.left) (instantiate I c.right)))
@@ -139,7 +141,7 @@ module _ (W : Store) (so : Sound W.rules) (M : List (ℕ × Statement)) where
       (laid W.rules so c.premises [] (symbol h.symbol_of h.patterns) l.0 l.1 h.pattern (subst (λ u. Prim W.rules c.premises [] (plain (fill_goal l.0 u))) h.left l.2))
       (only_premises c.premises l.0 h.symbol_of h.patterns l.1 (subst (λ u. Prim W.rules c.premises [] (plain (fill_goal l.0 u))) h.left l.2))
       (subst (λ qs. PremisesHold (λ N x. Prim W.rules N [] x) [] qs) (sym (append-nil c.premises)) (so c.rule (record { premises = c.premises; conclusion = equation_goal c.left c.right c.type }) h.is).0)
-      (each_premise_map (λ q. IsObject q.1 × (determines c.left q.0 ≡ true)) (λ q. IsObject q.1 × (determines (symbol h.symbol_of h.patterns) q.0 ≡ true)) c.premises (λ q d. (d.0, ap (λ u. determines u q.0) (sym h.left) ∙ d.1)) h.determined) n e))
+      (each_map (λ q. IsObject q.1 × (determines c.left q.0 ≡ true)) (λ q. IsObject q.1 × (determines (symbol h.symbol_of h.patterns) q.0 ≡ true)) c.premises (λ q d. (d.0, ap (λ u. determines u q.0) (sym h.left) ∙ d.1)) h.determined) n e))
 
   one_rule : (n : ℕ) (e : Expression) (c : Computation) → Computes W.rules c → (I : ℕ → ℕ → Option Expression) → MatchFact W.rules M n c.premises c.left e (Some I) → Means W.rules M n (NormalFact W.rules M n e) (◌>>=◌ (contracted c I) normal_of)
   one_rule n e c h I m = means_bind W.rules M n (λ r. r ≡ instantiate I c.right) (NormalFact W.rules M n e) (contracted c I) normal_of

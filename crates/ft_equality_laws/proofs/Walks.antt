@@ -29,19 +29,8 @@ use Rattle.ft_equality_laws.proofs.Means.{Means, means_bind, means_weaken}
 use Rattle.ft_equality_laws.proofs.Applications.{Resting, resting, rule_of, congruence_at}
 use Rattle.ft_equality_laws.proofs.Parts.{has_head_fill, no_head_fill, head_fill, means_then}
 use Rattle.ft_equality_laws.proofs.Patterns.{count_bounds, bare_at, Laid, AllLaid}
-
--- P holds of each place
-abbrev pub EachPlace : (ℕ × Statement → Type 0) → List (ℕ × Statement) → Type 0
-EachPlace P [] = Unit {0}
-EachPlace P (p ∷ ps) = P p × EachPlace P ps
-
-pub each_join : (P : ℕ × Statement → Type 0) (xs ys : List (ℕ × Statement)) → EachPlace P xs → EachPlace P ys → EachPlace P (xs ++ ys)
-each_join P [] ys h k = k
-each_join P (x ∷ xs) ys h k = (h.0, each_join P xs ys h.1 k)
-
-pub each_split : (P : ℕ × Statement → Type 0) (xs ys : List (ℕ × Statement)) → EachPlace P (xs ++ ys) → EachPlace P xs × EachPlace P ys
-each_split P [] ys h = (tt, h)
-each_split P (x ∷ xs) ys h = ((h.0, (each_split P xs ys h.1).0), (each_split P xs ys h.1).1)
+use Rattle.ft_equality_laws.specs.Laws.{Each}
+use Rattle.ft_equality_laws.proofs.Each.{each_join, each_split}
 
 -- some place is of the metavariable
 abbrev pub HasPlace : ℕ → List (ℕ × Statement) → Type 0
@@ -85,8 +74,7 @@ abbrev pub PlaceIn : List (ℕ × Statement) → ℕ × Statement → Type 0
 PlaceIn hs p = (has_head p.1 ≡ true) × (b : Statement) × (look_up hs p.0 ≡ Some b) × IsObject b × (domain_count p.1 ≡ domain_count b)
 
 abbrev pub Kinds : List (ℕ × Statement) → Type 0
-Kinds [] = Unit {0}
-Kinds (p ∷ ps) = (IsObject p.1 ⊎ IsEquation p.1) × Kinds ps
+Kinds ps = Each (λ p. IsObject p.1 ⊎ IsEquation p.1) ps
 
 pub kinds_of : (D : List (ℕ × Statement) → Statement → Type 0) (before ps : List (ℕ × Statement)) → PremisesHold D before ps → Kinds ps
 kinds_of D before [] h = tt
@@ -94,32 +82,32 @@ kinds_of D before (p ∷ ps) h = (h.1, kinds_of D (before ++ (p ∷ [])) ps h.3)
 
 module _ (T : List Rule) (M : List (ℕ × Statement)) where
   abbrev pub Goods : List (ℕ × Expression) → List (ℕ × Statement) → Type 0
-  Goods G pl = EachPlace (λ p. Prim T M G p.1) pl
+  Goods G pl = Each (λ p. Prim T M G p.1) pl
 
   -- the instance has something equal for the place
   abbrev pub EqualPlace : List (ℕ × Expression) → (ℕ → ℕ → Option Expression) → ℕ × Statement → Type 0
   EqualPlace G I p = (f : Expression) × (I p.0 (domain_count p.1) ≡ Some f) × Prim T M G (equate (boundary_of p.1) (head p.1) f)
 
   abbrev pub Walked : List (ℕ × Expression) → Statement → Expression → Expression → List (ℕ × Statement) → Type 0
-  Walked G B e u pl = Prim T M G (fill B e) → Goods G pl × ((I : ℕ → ℕ → Option Expression) → HasClosedBodies I → EachPlace (EqualPlace G I) pl → Prim T M G (equate B e (instantiate I u)))
+  Walked G B e u pl = Prim T M G (fill B e) → Goods G pl × ((I : ℕ → ℕ → Option Expression) → HasClosedBodies I → Each (EqualPlace G I) pl → Prim T M G (equate B e (instantiate I u)))
 
   abbrev pub Covers : List ℕ → List (ℕ × Statement) → Type 0
   Covers ms pl = (m : ℕ) → list_any (nat_eq m) ms ≡ true → HasPlace m pl
 
   abbrev pub WalkFact : List (ℕ × Statement) → Expression → Statement → Expression → Option (List (ℕ × Statement)) → Type 0
   WalkFact hs u B e None = Unit {0}
-  WalkFact hs u B e (Some pl) = ((m : ℕ) → determines u m ≡ true → HasPlace m pl) × EachPlace (PlaceIn hs) pl × ((G : List (ℕ × Expression)) → Walked G B e u pl)
+  WalkFact hs u B e (Some pl) = ((m : ℕ) → determines u m ≡ true → HasPlace m pl) × Each (PlaceIn hs) pl × ((G : List (ℕ × Expression)) → Walked G B e u pl)
 
   -- at each goal
   abbrev pub SymbolFact : List (ℕ × Statement) → Expression → Expression → Option (List (ℕ × Statement)) → Type 0
   SymbolFact hs u e None = Unit {0}
-  SymbolFact hs u e (Some pl) = ((m : ℕ) → determines u m ≡ true → HasPlace m pl) × EachPlace (PlaceIn hs) pl × ((c : Claim) → IsObjectGoal c → (G : List (ℕ × Expression)) → Walked G (plain c) e u pl)
+  SymbolFact hs u e (Some pl) = ((m : ℕ) → determines u m ≡ true → HasPlace m pl) × Each (PlaceIn hs) pl × ((c : Claim) → IsObjectGoal c → (G : List (ℕ × Expression)) → Walked G (plain c) e u pl)
 
   abbrev pub ArgsFact : List (ℕ × Statement) → (ℕ → ℕ → Option Expression) → List (ℕ × Statement) → Arguments → Arguments → Option (List (ℕ × Statement)) → Type 0
   ArgsFact hs I ps us a None = Unit {0}
-  ArgsFact hs I ps us a (Some pl) = ((m : ℕ) → list_any (nat_eq m) (metavariables_of_arguments us) ≡ true → HasPlace m pl) × EachPlace (PlaceIn hs) pl
+  ArgsFact hs I ps us a (Some pl) = ((m : ℕ) → list_any (nat_eq m) (metavariables_of_arguments us) ≡ true → HasPlace m pl) × Each (PlaceIn hs) pl
       × ((G : List (ℕ × Expression)) → FitsPremises ps a → FitsPremises ps us → Trees (Step T) (sequents M G (filled_premises I ps a))
-      → Goods G pl × ((K : ℕ → ℕ → Option Expression) → HasClosedBodies K → EachPlace (EqualPlace G K) pl → Trees (Step T) (sequents M G (equated_premises I ps a (act_arguments free K us)))))
+      → Goods G pl × ((K : ℕ → ℕ → Option Expression) → HasClosedBodies K → Each (EqualPlace G K) pl → Trees (Step T) (sequents M G (equated_premises I ps a (act_arguments free K us)))))
 
 module _ (W : Store) (so : Sound W.rules) (M : List (ℕ × Statement)) (hs : List (ℕ × Statement)) where
   T : List Rule
@@ -236,7 +224,7 @@ module _ (W : Store) (so : Sound W.rules) (M : List (ℕ × Statement)) (hs : Li
   bodies_joined : (l k : ℕ) (u : Expression) (us : Arguments) (I : ℕ → ℕ → Option Expression) (p : ℕ × Statement) (ps : List (ℕ × Statement)) (e : Expression) (a : Arguments) (xs ys : List (ℕ × Statement)) (G : List (ℕ × Expression))
       → WalkFact W.rules M hs u (statement_at I p.1) e (Some xs) → ArgsFact W.rules M hs I ps us a (Some ys) → FitsPremises (p ∷ ps) (with_body k e a) → FitsPremises (p ∷ ps) (with_body l u us)
       → Trees (Step W.rules) (sequents M G (filled_premises I (p ∷ ps) (with_body k e a)))
-      → Goods W.rules M G (xs ++ ys) × ((K : ℕ → ℕ → Option Expression) → HasClosedBodies K → EachPlace (EqualPlace W.rules M G K) (xs ++ ys) → Trees (Step W.rules) (sequents M G (equated_premises I (p ∷ ps) (with_body k e a) (act_arguments free K (with_body l u us)))))
+      → Goods W.rules M G (xs ++ ys) × ((K : ℕ → ℕ → Option Expression) → HasClosedBodies K → Each (EqualPlace W.rules M G K) (xs ++ ys) → Trees (Step W.rules) (sequents M G (equated_premises I (p ∷ ps) (with_body k e a) (act_arguments free K (with_body l u us)))))
   unfolding act
   bodies_joined l k u us I p ps e a xs ys G h g f f' (more t ts) = (
     each_join (λ q. Prim W.rules M G q.1) xs ys (h.2 G t).0 (g.2 G f.2 f'.2 ts).0,

@@ -4,7 +4,7 @@ use Rattle.ft_items.specs.Store.{nth, rules_in}
 use Rattle.ft_stated.specs.Lines.{Listing}
 use Rattle.ft_stated.specs.Places.{RuleStands}
 use Rattle.ft_stated.proofs.Indexes.{rule_answered, rule_missing}
-use Rattle.ft_stated.proofs.items.Items.rule_place.Goals as goal
+use Rattle.ft_stated.proofs.items.StatedItems.rule_place.Goals as goal
 
 pub returns-clause-some : goal.returns-clause-some
 returns-clause-some c =

@@ -5,7 +5,7 @@ use Rattle.ft_stated.specs.First.{greatest_number, number_after}
 use Rattle.ft_stated.specs.Lines.{items_in, Listing}
 use Rattle.ft_stated.specs.declared.firsts.Greatest.{Greatest}
 use Rattle.ft_stated.proofs.GreatestNumbers.{greatest_read, parted_places}
-use Rattle.ft_stated.proofs.items.Items.greatest_before.Goals as goal
+use Rattle.ft_stated.proofs.items.StatedItems.greatest_before.Goals as goal
 
 pub returns : goal.returns
 returns c =

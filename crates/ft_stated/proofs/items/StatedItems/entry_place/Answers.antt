@@ -4,7 +4,7 @@ use Rattle.ft_items.specs.Store.{nth, entries_in}
 use Rattle.ft_stated.specs.Lines.{Listing}
 use Rattle.ft_stated.specs.Places.{EntryStands}
 use Rattle.ft_stated.proofs.Indexes.{entry_answered, entry_missing}
-use Rattle.ft_stated.proofs.items.Items.entry_place.Goals as goal
+use Rattle.ft_stated.proofs.items.StatedItems.entry_place.Goals as goal
 
 pub returns-clause-some : goal.returns-clause-some
 returns-clause-some c =

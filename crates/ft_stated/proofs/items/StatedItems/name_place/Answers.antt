@@ -1,9 +1,9 @@
-use Rattle.std.proofs.Common.{rules, ◌≡◌, ◌∙◌, ap, subst}
+use Rattle.std.proofs.Common.{rules, ◌≡◌, ◌∙◌, ap}
 use Rattle.std.specs.Str.{bytes_eq}
 use Rattle.std.specs.Map.{lookup}
 use Rattle.ft_stated.specs.First.{first_place, is_rule_of}
 use Rattle.ft_stated.specs.Lines.{Listing}
-use Rattle.ft_stated.proofs.items.Items.name_place.Goals as goal
+use Rattle.ft_stated.proofs.items.StatedItems.name_place.Goals as goal
 
 pub returns : goal.returns
 returns c =

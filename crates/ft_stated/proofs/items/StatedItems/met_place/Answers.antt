@@ -4,7 +4,7 @@ use Rattle.ft_items.specs.Store.{nth, metavariables_in}
 use Rattle.ft_stated.specs.Lines.{Listing}
 use Rattle.ft_stated.specs.Places.{MetavariableStands}
 use Rattle.ft_stated.proofs.Indexes.{metavariable_answered, metavariable_missing}
-use Rattle.ft_stated.proofs.items.Items.met_place.Goals as goal
+use Rattle.ft_stated.proofs.items.StatedItems.met_place.Goals as goal
 
 pub returns-clause-some : goal.returns-clause-some
 returns-clause-some c =

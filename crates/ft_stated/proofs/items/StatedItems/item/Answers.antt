@@ -1,7 +1,7 @@
 use Rattle.std.proofs.Common.{rules, ◌≡◌, ◌<◌, sym, subst, length, get_or}
 use Rattle.ft_stated.specs.Lines.{Listing, StatedBelow}
 use Rattle.ft_stated.proofs.Indexes.{below_at, place_within}
-use Rattle.ft_stated.proofs.items.Items.item.Goals as goal
+use Rattle.ft_stated.proofs.items.StatedItems.item.Goals as goal
 
 pub returns-clause-below : goal.returns-clause-below
 returns-clause-below c =

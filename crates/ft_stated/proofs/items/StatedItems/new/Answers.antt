@@ -2,7 +2,7 @@ use Rattle.std.proofs.Common.{rules, ◌≡◌, subst}
 use Rattle.ft_stated.specs.First.{AreFirsts}
 use Rattle.ft_stated.specs.Lines.{items_in}
 use Rattle.ft_stated.specs.Places.{AreIndexes}
-use Rattle.ft_stated.proofs.items.Items.new.Goals as goal
+use Rattle.ft_stated.proofs.items.StatedItems.new.Goals as goal
 
 pub invariant_of-result : goal.invariant_of-result
 invariant_of-result c =

@@ -6,5 +6,4 @@ pub mod Answered
 pub mod Naming
 pub mod Closed
 pub mod Extended
-pub mod Example
 pub mod Staying

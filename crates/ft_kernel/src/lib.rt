@@ -6,8 +6,6 @@ mod kernel;
 mod laws;
 mod line;
 mod step;
-#[cfg(test)]
-mod tests;
 mod token;
 
 pub use item::{Item, MetItem, RuleItem, VarItem};

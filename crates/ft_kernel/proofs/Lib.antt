@@ -1,5 +1,6 @@
 pub mod Grows
 pub mod Pushes
+pub mod LineKinds
 pub mod Found
 pub mod Contents
 pub mod Answered

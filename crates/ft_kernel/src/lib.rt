@@ -12,4 +12,7 @@ pub use item::{Item, MetItem, RuleItem, VarItem};
 pub use kernel::Kernel;
 pub use laws::tokens_stay;
 pub use step::{Part, Step};
-pub use token::{B, J, Judgements, M, Metavariables, RuleId, V};
+pub use token::{
+    B, J, Judgements, M, Metavariables, OfBoundary, OfMetavariable, OfRule, OfThesis, OfVariable,
+    RuleId, Token, Tokens, V,
+};

@@ -1,5 +1,5 @@
 -- What a reader finds, in terms of what is seen of the kernel.
-use Rattle.std.proofs.Common.{◌≡◌, ℕ, ◌+◌, ◌-◌, ◌<◌, nat_eq, true, Some, None, List, [], ◌∷◌, refl, sym, ap, ◌∙◌, subst, length, get_or, take, arith, inl, inr}
+use Rattle.std.proofs.Common.{◌≡◌, ℕ, ◌+◌, ◌-◌, ◌<◌, nat_eq, true, Some, None, List, sym, ap, ◌∙◌, subst, length, get_or, take, arith, inl, inr}
 use Rattle.std.specs.Map.{lookup}
 use Rattle.std.specs.Prelude.{option_map}
 use Rattle.std.proofs.lemmas.List.{take-map}

@@ -6,7 +6,7 @@ use Rattle.ft_items.specs.Item.{Name, Item, variable, metavariable, rule, entry,
 use Rattle.ft_items.specs.Store.{variables_in, rules_in}
 use Rattle.ft_items.proofs.SetLemmas.{both, wrong}
 use Rattle.ft_kernel.specs.State.{next_number, rule_names}
-use Rattle.ft_kernel.specs.Lines.{item_in, items_in, ContentBelow, AllLinesBelow, is_entry, is_metavariable, is_rule, places, place_if_numbered, place_numbered, AreNumbered}
+use Rattle.ft_kernel.specs.Lines.{item_in, items_in, ContentBelow, AllLinesBelow, is_rule, places, place_if_numbered, place_numbered, AreNumbered}
 use Rattle.ft_kernel.specs.declared.line.Content.{Content}
 use Rattle.ft_kernel.specs.declared.line.Content.TheVariants.{Variable, Metavariable, Rule, Thesis, Boundary, Shown}
 use Rattle.ft_kernel.specs.declared.line.Line.{Line}

@@ -1,5 +1,5 @@
 -- The first place of a name.
-use Rattle.std.proofs.Common.{◌≡◌, ℕ, suc, nat_eq, Bool, true, false, cond, Option, Some, None, List, [], ◌∷◌, ◌++◌, refl, sym, ap, ap₂, ◌∙◌, length, ◌&&◌}
+use Rattle.std.proofs.Common.{◌≡◌, ℕ, suc, Bool, true, false, cond, Option, Some, None, List, [], ◌∷◌, ◌++◌, refl, sym, ap, ◌∙◌, length, ◌&&◌}
 use Rattle.std.specs.Prelude.{option_map, is_none, not}
 use Rattle.ft_items.specs.Item.{Name}
 use Rattle.ft_items.specs.Good.{equal_names, is_new}

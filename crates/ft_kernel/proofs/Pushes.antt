@@ -5,7 +5,7 @@ use Rattle.std.specs.Str.{bytes_eq}
 use Rattle.std.proofs.lemmas.List.{append-nil, length-map}
 use Rattle.ft_theory.specs.Expressions.{Expression}
 use Rattle.ft_items.specs.Item.{Name, variable, metavariable, rule, shown}
-use Rattle.ft_items.specs.Store.{Assertion, annotated, nth, empty_store, entries_in, variables_in, rules_in}
+use Rattle.ft_items.specs.Store.{annotated, nth, empty_store, entries_in, variables_in, rules_in}
 use Rattle.ft_items.specs.Good.{Allowed, Good, is_next, is_new, equal_names}
 use Rattle.ft_items.proofs.SetLemmas.{wrong}
 use Rattle.ft_items.proofs.Lists.{good_last, store_is, annotated_number}

@@ -1,5 +1,5 @@
 -- A list with one more item has what it had.
-use Rattle.std.proofs.Common.{◌≡◌, ℕ, nat_eq, Bool, true, false, cond, Some, None, List, [], ◌∷◌, ◌++◌, refl, ap, ◌∙◌}
+use Rattle.std.proofs.Common.{◌≡◌, ℕ, nat_eq, Bool, true, false, cond, Some, None, List, [], ◌∷◌, ◌++◌, ap, ◌∙◌}
 use Rattle.ft_items.specs.Item.{Name, Item}
 use Rattle.ft_items.specs.Store.{Assertion, nth, entries_in, variables_in, metavariables_in, rules_in}
 use Rattle.ft_items.proofs.Lists.{nth_before, entries_append, metavariables_append}

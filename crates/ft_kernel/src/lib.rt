@@ -14,5 +14,5 @@ pub use laws::tokens_stay;
 pub use step::{Part, Step};
 pub use token::{
     B, J, Judgements, M, Metavariables, OfBoundary, OfMetavariable, OfRule, OfThesis, OfVariable,
-    RuleId, Token, Tokens, V,
+    RuleId, Token, V,
 };

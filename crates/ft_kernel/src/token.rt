@@ -1,10 +1,9 @@
 //! Tokens: what names a thesis, a boundary, a variable, a metavariable or a rule of a list. They are made by the calls of
 //! the list alone.
 
-ghost use Rattle.std.specs.Prelude.{◌≡◌, ◌++◌, ◌∷◌, [], OnOk, OnErr};
+ghost use Rattle.std.specs.Prelude.{◌≡◌};
 
-use ft_base::Memory;
-use std::alloc::Global;
+use ft_base::Sequence;
 use std::marker::{Model, PhantomData};
 
 /// What a thesis is named by.
@@ -49,6 +48,12 @@ pub type M = Token<OfMetavariable>;
 /// A rule, by its number.
 pub type RuleId = Token<OfRule>;
 
+/// Theses in order, which contracts see as the list of their numbers.
+pub type Judgements = Sequence<J>;
+
+/// Metavariables in order, which contracts see as the list of their numbers.
+pub type Metavariables = Sequence<M>;
+
 impl<K> Model for Token<K> {
     ghost use Rattle.std.specs.Prelude.{ℕ};
 
@@ -74,52 +79,5 @@ impl<K> Token<K> {
         ensures { result ≡ self }
     {
         self.number
-    }
-}
-
-/// A list of tokens of one kind, which contracts see as the list of their numbers.
-#[derive(Debug, Drop)]
-pub struct Tokens<K> {
-    items: Vec<Token<K>>,
-}
-
-/// A list of theses.
-pub type Judgements = Tokens<OfThesis>;
-
-/// A list of metavariables.
-pub type Metavariables = Tokens<OfMetavariable>;
-
-impl<K> Model for Tokens<K> {
-    ghost use Rattle.std.specs.Prelude.{List, ℕ};
-
-    ghost Value = { List ℕ };
-
-    ghost view = { λ l. l.items.items };
-}
-
-impl<K> Tokens<K> {
-    /// The empty list. It takes no memory.
-    pub fn new(alloc: Global) -> Tokens<K>
-        ensures { result ≡ [] }
-    {
-        Tokens {
-            items: Vec::new(alloc),
-        }
-    }
-
-    /// Adds one at the end. After `Memory` the list is as before.
-    pub fn push(&mut self, x: Token<K>) -> Result<(), Memory>
-        ensures ok { OnOk result (self.new ≡ self.old ++ x ∷ []) }
-        ensures err { OnErr result (self.new ≡ self.old) }
-    {
-        self.items.push(x)?;
-        Ok(())
-    }
-
-    /// The items in order. It takes no memory.
-    pub fn items(&self) -> &[Token<K>]
-        ensures { result.now ≡ self.now }
-    {
-        self.items.as_slice()
     }
 }

@@ -1,4 +1,4 @@
-use Rattle.std.proofs.Common.{rules, ◌≡◌, ◌<◌, ◌∙◌, ap, sym, length}
+use Rattle.std.proofs.Common.{rules, ◌<◌, ◌∙◌, ap, sym, length}
 use Rattle.ft_items.specs.Store.{rules_in}
 use Rattle.ft_items.proofs.Lists.{nth_found}
 use Rattle.ft_kernel.specs.Lines.{is_rule, added_rule}

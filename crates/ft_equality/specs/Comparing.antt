@@ -16,12 +16,12 @@ use Rattle.ft_equality.specs.Programs.{Question, types, terms, Program, give, st
 abbrev pub decide : Question → Program Bool
 decide q = asks q give
 
--- what follows a yes; after a no the answer is no
+-- after a yes what follows it; after a no the answer is no
 abbrev pub and_also : Bool → (Unit {0} → Program Bool) → Program Bool
 and_also true next = next tt
 and_also false next = give false
 
--- the program's yes, and then what follows it
+-- the program, and after its yes what follows it
 abbrev pub and_then : Program Bool → (Unit {0} → Program Bool) → Program Bool
 and_then p next = p >>= λ holds. and_also holds next
 

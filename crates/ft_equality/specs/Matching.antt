@@ -23,25 +23,25 @@ Place = ℕ × Statement
 abbrev pub Places : Type 0
 Places = Option (List Place)
 
--- these places, and those after them; where one of both has not the pattern's form there are none
+-- these places with those that follow; there are none where either are not there
 abbrev pub and_places : Places → (Unit {0} → Program Places) → Program Places
 and_places None next = give None
 and_places (Some xs) next = do
   found ← next tt
   give (option_map (λ ys. xs ++ ys) found)
 
--- the places, where the test holds
+-- the places that follow, where the test holds; else there are none
 abbrev pub when : Bool → (Unit {0} → Program Places) → Program Places
 when true next = next tt
 when false next = give None
 
--- the place of a metavariable, which meets the whole argument; for a symbol the places of its walk
+-- a metavariable meets the argument itself, which is its place; a symbol has the places of the walk
 abbrev pub place_or : Expression → Statement → Program Places → Program Places
 place_or (meta m ts) x walked = give (Some ((m, x) ∷ []))
 place_or u x walked = walked
 
--- A symbol at patterns against an expression: it meets its own applications alone, which are visited before their arguments
--- are walked. Patterns against arguments: each against one with its number of binders, and a dummy against an equation.
+-- The places of a symbol at patterns in an expression: it meets its own applications alone, which are visited before their
+-- arguments are walked. And of patterns in arguments: each meets one with its number of binders, and a dummy an equation.
 abbrev mutual
   pub walk : Store → Expression → Expression → Program Places
   walk W (symbol s us) (symbol f a) = when (nat_eq s f) (λ _. visit W (symbol f a) >> walk_arguments W us (arguments_of W (symbol f a)))

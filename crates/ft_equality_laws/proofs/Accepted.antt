@@ -7,8 +7,6 @@ use Rattle.ft_theory.specs.Statements.{Claim, is_type, has_type, equal_types, eq
 use Rattle.ft_theory.specs.Rules.{Rule, rule_at, FitsPremises}
 use Rattle.ft_theory.specs.Steps.{Prim}
 use Rattle.ft_laws.proofs.Finitary.{Sound}
-use Rattle.ft_laws.proofs.Fresh.{Some_injective}
-use Rattle.ft_laws.proofs.Rules.{nothing}
 use Rattle.ft_items.specs.Equal.{equal_expressions, equal_statements, is_object}
 use Rattle.ft_items.proofs.SetLemmas.{wrong, wrong', both, not_true}
 use Rattle.ft_sound.proofs.EqualLemmas.{expression_true, statement_true, object_true}
@@ -22,6 +20,8 @@ use Rattle.ft_equality_laws.proofs.ByType.{Compares}
 use Rattle.ft_equality_laws.specs.Laws.{Each}
 use Rattle.ft_equality_laws.proofs.Each.{each_zip, each_split}
 use Rattle.ft_equality_laws.proofs.Walks.{kinds_of}
+use Rattle.ft_common.proofs.Options.{none_some as nothing}
+use Rattle.std.proofs.lemmas.Option.{same_Some as Some_injective}
 
 -- results in a row
 pub bind_ok : {A B E : Type 0} (m : Result A E) (k : A → Result B E) (b : B) → results.◌>>=◌ m k ≡ Ok b → (a : A) × (m ≡ Ok a) × (k a ≡ Ok b)

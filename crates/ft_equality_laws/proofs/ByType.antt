@@ -8,7 +8,7 @@ use Rattle.ft_theory.specs.Steps.{sequent, IsVariableFree, Prim}
 use Rattle.ft_theory.specs.Derivability.{PremisesHold}
 use Rattle.ft_laws.specs.Instances.{statement_at, StaysOrGiven, given_equation, EquationStaysOrHolds, IsInstance}
 use Rattle.ft_laws.specs.Syntax.{HasClosedBodies, IsObjectPremise}
-use Rattle.ft_laws.proofs.Opens.{same, other, by_test, test_true, Closed_mono}
+use Rattle.ft_laws.proofs.Opens.{by_test, Closed_mono}
 use Rattle.ft_laws.proofs.Steps.{do_symmetric_types, do_convert_term, do_convert_equation}
 use Rattle.ft_laws.proofs.Scope.{scope, Fine, InVariables, InMetavariables}
 use Rattle.ft_laws.proofs.Statements.{equation-map, AllOfStatement_mono, act_statement_agree}
@@ -17,9 +17,8 @@ use Rattle.ft_items.proofs.SetLemmas.{wrong'}
 use Rattle.ft_laws.proofs.Commute.{ScopedTheory, not_both}
 use Rattle.ft_laws.proofs.Sides.{parts, boundary}
 use Rattle.ft_laws.proofs.Substitute.{closed_term}
-use Rattle.ft_laws.proofs.Rules.{nothing, found, past, look_before}
+use Rattle.ft_laws.proofs.Rules.{found, past, look_before}
 use Rattle.ft_laws.proofs.Finitary.{Sound, scoped, first_premises}
-use Rattle.ft_laws.proofs.Fresh.{Some_injective}
 use Rattle.ft_laws.proofs.Instances.{instantiate as at_instance}
 use Rattle.ft_items.specs.Store.{Store}
 use Rattle.ft_sound.proofs.Good.{look_last}
@@ -38,6 +37,10 @@ use Rattle.ft_equality_laws.proofs.Equational.{Met, equation_at}
 use Rattle.ft_equality_laws.proofs.Normal.{only_premises}
 use Rattle.ft_equality_laws.specs.Laws.{Each}
 use Rattle.ft_equality_laws.proofs.Each.{each_map, each_zip, each_join}
+use Rattle.std.proofs.lemmas.Option.{same_Some as Some_injective}
+use Rattle.ft_common.proofs.Options.{none_some as nothing}
+use Rattle.std.proofs.lemmas.Bool.{eq-eqb as test_true}
+use Rattle.ft_common.proofs.Choices.{if_same as same, if_other as other}
 
 -- the premises after the determined ones: those of the sides, and equations
 abbrev pub side_premises : Extensionality → List (ℕ × Statement)

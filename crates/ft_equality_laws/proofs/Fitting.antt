@@ -7,8 +7,6 @@ use Rattle.ft_theory.specs.Steps.{sequent, Prim}
 use Rattle.ft_theory.specs.Derivability.{PremisesHold}
 use Rattle.ft_laws.specs.Instances.{statement_at, given, IsInstance}
 use Rattle.ft_laws.specs.Syntax.{HasClosedBodies}
-use Rattle.ft_laws.proofs.Fresh.{Some_injective}
-use Rattle.ft_laws.proofs.Opens.{test_true}
 use Rattle.ft_laws.proofs.Scope.{scope, Fine, AllOfStatement_head}
 use Rattle.ft_laws.proofs.Statements.{domain_count-map, object-map, object-opened, equate-map}
 use Rattle.ft_laws.proofs.Commute.{ScopedTheory, not_both}
@@ -17,7 +15,6 @@ use Rattle.ft_laws.proofs.Traverse.{under_abstraction}
 use Rattle.ft_laws.proofs.Equal.{reify}
 use Rattle.ft_laws.proofs.EqualTerms.{itself, first_domain, at_fresh}
 use Rattle.ft_laws.proofs.Instances.{instantiate}
-use Rattle.ft_laws.proofs.Rules.{nothing}
 use Rattle.ft_items.specs.Equal.{equal_statements, has_head, head}
 use Rattle.ft_items.proofs.SetLemmas.{both}
 use Rattle.ft_sound.proofs.EqualLemmas.{statement_true, refill, boundary_depth}
@@ -32,6 +29,9 @@ use Rattle.ft_equality_laws.proofs.Parts.{means_true, means_map, means_then}
 use Rattle.ft_equality_laws.proofs.Walks.{HasPlace, PlaceIn, Goods}
 use Rattle.ft_equality_laws.specs.Laws.{Each}
 use Rattle.ft_equality_laws.proofs.Each.{each_map}
+use Rattle.ft_common.proofs.Options.{none_some as nothing}
+use Rattle.std.proofs.lemmas.Bool.{eq-eqb as test_true}
+use Rattle.std.proofs.lemmas.Option.{same_Some as Some_injective}
 
 -- of the places of one metavariable
 pub met_each : (Q : ℕ × Statement → Type 0) (P : Statement → Type 0) (m : ℕ) (pl : List (ℕ × Statement)) → ((p : ℕ × Statement) → m ≡ p.0 → Q p → P p.1) → Each Q pl → Each P (met_by m pl)

@@ -6,8 +6,8 @@ use Rattle.ft_theory.specs.Rules.{look_up, Rule}
 use Rattle.ft_theory.specs.Steps.{Prim}
 use Rattle.ft_theory.specs.Derivability.{PremisesHold}
 use Rattle.ft_laws.specs.Syntax.{HasClosedBodies, IsObjectPremise}
-use Rattle.ft_laws.proofs.Opens.{same, by_test}
-use Rattle.ft_laws.proofs.Rules.{nothing, past}
+use Rattle.ft_laws.proofs.Opens.{by_test}
+use Rattle.ft_laws.proofs.Rules.{past}
 use Rattle.ft_laws.proofs.Finitary.{Sound, scoped, first_premises}
 use Rattle.ft_items.specs.Equal.{has_head, head}
 use Rattle.ft_items.specs.Store.{Store}
@@ -23,6 +23,8 @@ use Rattle.ft_equality_laws.proofs.Walks.{PlaceIn, Goods, EqualPlace, SymbolFact
 use Rattle.ft_equality_laws.proofs.Fitting.{each_place, instance_first, Given, places_closed, FitFact, Determined, met_heads, fits_mean, FirstEquals, RepeatFact, repeats_mean, Fitting}
 use Rattle.ft_equality_laws.specs.Laws.{Each}
 use Rattle.ft_equality_laws.proofs.Each.{each_map, each_zip}
+use Rattle.ft_common.proofs.Options.{none_some as nothing}
+use Rattle.ft_common.proofs.Choices.{if_same as same}
 
 pub look_none : (before xs : List (ℕ × Statement)) (m : ℕ) → look_up before m ≡ None → look_up (before ++ xs) m ≡ look_up xs m
 look_none [] xs m h = refl

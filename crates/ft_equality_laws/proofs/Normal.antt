@@ -16,7 +16,6 @@ use Rattle.ft_laws.proofs.Commute.{ScopedTheory}
 use Rattle.ft_laws.proofs.Sides.{parts}
 use Rattle.ft_laws.proofs.Equal.{sides_of, types_of}
 use Rattle.ft_laws.proofs.EqualTerms.{transitive_flat}
-use Rattle.ft_laws.proofs.Rules.{nothing}
 use Rattle.ft_laws.proofs.Finitary.{Sound, scoped}
 use Rattle.ft_items.specs.Store.{Store}
 use Rattle.ft_equality.specs.Shapes.{Computation, EqualityRules, is_principal, are_patterns, determines}
@@ -34,6 +33,7 @@ use Rattle.ft_equality_laws.proofs.Matches.{MatchFact, match_mean, each_looked}
 use Rattle.ft_equality_laws.proofs.Equational.{Met, equation_at}
 use Rattle.ft_equality_laws.specs.Laws.{Each}
 use Rattle.ft_equality_laws.proofs.Each.{each_map}
+use Rattle.ft_common.proofs.Options.{none_some as nothing}
 
 -- the goal of an equation, at the type where it has one
 abbrev pub equation_goal : Expression → Expression → Option Expression → Claim

@@ -7,7 +7,6 @@ use Rattle.ft_theory.specs.Rules.{look_up, Rule, rule_at, instance_of, FitsPremi
 use Rattle.ft_theory.specs.Steps.{sequent, sequents, Step, Trees, none, more, Prim}
 use Rattle.ft_theory.specs.Derivability.{PremisesHold}
 use Rattle.ft_laws.specs.Instances.{statement_at, both_given, AreEqualInstances}
-use Rattle.ft_laws.proofs.Fresh.{Some_injective}
 use Rattle.ft_laws.proofs.Statements.{domain_count-map, object-map}
 use Rattle.ft_laws.proofs.Commute.{ScopedTheory, not_both}
 use Rattle.ft_laws.proofs.Sides.{boundary-fill, parts, boundary}
@@ -15,7 +14,7 @@ use Rattle.ft_laws.proofs.Steps.{do_convert_term, do_reflexive_type}
 use Rattle.ft_laws.proofs.Substitute.{Extends}
 use Rattle.ft_laws.proofs.Equal.{EqualStatements}
 use Rattle.ft_laws.proofs.Instances.{equal_instances}
-use Rattle.ft_laws.proofs.Rules.{nothing, look_before, given_object_premise, closed_instance, whole_instance, move_head, symmetric_equal}
+use Rattle.ft_laws.proofs.Rules.{look_before, given_object_premise, closed_instance, whole_instance, move_head, symmetric_equal}
 use Rattle.ft_laws.proofs.Finitary.{Sound, scoped}
 use Rattle.ft_items.specs.Equal.{has_head, head}
 use Rattle.ft_items.specs.Store.{Declared, Store, nth}
@@ -30,6 +29,8 @@ use Rattle.ft_equality_laws.proofs.Derive.{reflexive_at}
 use Rattle.ft_equality_laws.proofs.Opening.{if_map, HeadsEqual, means_both, means_same_or, means_alike, heads_mean}
 use Rattle.ft_equality_laws.proofs.Applications.{Well, ForAny, well_at, Resting, resting, rule_of, congruence_at, meta_at}
 use Rattle.ft_equality_laws.proofs.Positions.{AtPlaces, at_places}
+use Rattle.ft_common.proofs.Options.{none_some as nothing}
+use Rattle.std.proofs.lemmas.Option.{same_Some as Some_injective}
 
 -- a boundary filled with a head
 pub has_head_fill : (b : Statement) (e : Expression) → IsObject b → has_head (fill b e) ≡ true

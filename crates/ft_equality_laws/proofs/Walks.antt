@@ -9,12 +9,10 @@ use Rattle.ft_theory.specs.Steps.{sequents, Step, Trees, none, more, Prim}
 use Rattle.ft_theory.specs.Derivability.{PremisesHold}
 use Rattle.ft_laws.specs.Instances.{statement_at}
 use Rattle.ft_laws.specs.Syntax.{HasClosedBodies, IsObjectPremise}
-use Rattle.ft_laws.proofs.Opens.{same}
 use Rattle.ft_laws.proofs.Statements.{object-map, equation-map}
 use Rattle.ft_laws.proofs.Commute.{not_both, FitsPremises-act}
 use Rattle.ft_laws.proofs.Peel.{domain_count-fill}
 use Rattle.ft_laws.proofs.Sides.{boundary-fill}
-use Rattle.ft_laws.proofs.Rules.{nothing}
 use Rattle.ft_laws.proofs.Finitary.{Sound}
 use Rattle.ft_items.specs.Equal.{equal_term_lists, has_head, head}
 use Rattle.ft_items.specs.Store.{Store}
@@ -31,6 +29,8 @@ use Rattle.ft_equality_laws.proofs.Parts.{has_head_fill, no_head_fill, head_fill
 use Rattle.ft_equality_laws.proofs.Patterns.{count_bounds, bare_at, Laid, AllLaid}
 use Rattle.ft_equality_laws.specs.Laws.{Each}
 use Rattle.ft_equality_laws.proofs.Each.{each_join, each_split}
+use Rattle.ft_common.proofs.Options.{none_some as nothing}
+use Rattle.ft_common.proofs.Choices.{if_same as same}
 
 -- some place is of the metavariable
 abbrev pub HasPlace : ℕ → List (ℕ × Statement) → Type 0

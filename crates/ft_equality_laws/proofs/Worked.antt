@@ -1,7 +1,7 @@
 -- Worked answers, by computation.
 use Rattle.std.proofs.Common.{refl}
 use Rattle.ft_theory.specs.Expressions.{act, body_or, count, put, open_at, close_at, rename, lifts, lift, pushes, push}
-use Rattle.ft_equality_laws.specs.Worked.{AreShapes, AreComputationFaults, AreExtensionalityFaults, OneAndOne, NotWithoutTheRule, UnitIsTrivial, FunctionsAreExtensional, ConstantIsAnother, OneAndOneIsNormal, BetaAtEqualTypes, LoopEnds}
+use Rattle.ft_equality_laws.specs.Worked.{AreShapes, AreComputationFaults, AreExtensionalityFaults, OneAndOne, NotWithoutTheRule, UnitIsTrivial, FunctionsAreExtensional, ConstantIsAnother, MetavariableAtEqualTerms, ProductsOfNumbers, OneAndOneIsNormal, BetaAtEqualTypes, LoopEnds}
 
 pub shapes : AreShapes
 shapes = (refl, refl, refl, refl, refl)
@@ -43,3 +43,11 @@ beta_at_equal_types = refl
 pub loop_ends : LoopEnds
 unfolding act body_or count put open_at close_at rename lifts lift pushes push
 loop_ends = refl
+
+pub metavariable_at_equal_terms : MetavariableAtEqualTerms
+unfolding act body_or count put open_at close_at rename lifts lift pushes push
+metavariable_at_equal_terms = refl
+
+pub products_of_numbers : ProductsOfNumbers
+unfolding act body_or count put open_at close_at rename lifts lift pushes push
+products_of_numbers = refl

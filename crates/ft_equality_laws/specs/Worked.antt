@@ -1,14 +1,14 @@
 -- Worked answers: shapes and their faults, equations by computation and by extensionality, normal forms, each with its units.
 use Rattle.std.specs.Prelude.{ℕ, ◌≡◌, ◌+◌, ◌-◌, true, false, Result, Ok, Err, List, [], ◌∷◌}
-use Rattle.ft_theory.specs.Expressions.{Expression, bound, free, symbol, meta, no_arguments, with_body, no_terms}
-use Rattle.ft_theory.specs.Statements.{type_goal, term_goal, type_equation_goal, term_equation_goal, plain, abstracted}
+use Rattle.ft_theory.specs.Expressions.{Expression, bound, free, symbol, meta, no_arguments, with_body, no_terms, also}
+use Rattle.ft_theory.specs.Statements.{type_goal, term_goal, type_equation_goal, term_equation_goal, Statement, plain, abstracted}
 use Rattle.ft_theory.specs.Rules.{Rule}
-use Rattle.ft_items.specs.Store.{Annotation, Store}
+use Rattle.ft_items.specs.Store.{Annotation, Declared, Store}
 use Rattle.ft_laws.specs.Examples.{natural, nought, successor, rule_natural, rule_nought, rule_successor, base, family, function, product, lambda, application, rule_product, rule_lambda, rule_application, rule_beta}
 use Rattle.ft_equality.specs.Results.{◌>>=◌}
 use Rattle.ft_equality.specs.Shapes.{ShapeFault, NotEquation, EquationPremise, BadLeft, Undetermined, EqualityRules, no_rules, computation_of, extensionality_of, add_computation, add_extensionality, is_principal}
 use Rattle.ft_equality.specs.Programs.{Units, Spent}
-use Rattle.ft_equality.specs.Equality.{terms_are_equal, normal_form}
+use Rattle.ft_equality.specs.Equality.{types_are_equal, terms_are_equal, normal_form}
 
 -- The rules: natural numbers and products are the rules 0 to 6, beta the last of them.
 
@@ -16,21 +16,33 @@ use Rattle.ft_equality.specs.Equality.{terms_are_equal, normal_form}
 abbrev pub m : ℕ → Expression
 m n = meta n no_terms
 
+-- the premise of a term of this type
+abbrev pub a_term : ℕ → Expression → ℕ × Statement
+a_term n A = (n, plain (term_goal A))
+
+-- the premise of an equation of two terms of this type
+abbrev pub an_equation : ℕ → Expression → Expression → Expression → ℕ × Statement
+an_equation n s t A = (n, plain (term_equation_goal s t A))
+
+-- the rule with these premises that equates two terms of this type
+abbrev pub equates : List (ℕ × Statement) → Expression → Expression → Expression → Rule
+equates ps s t A = record { premises = ps; conclusion = term_equation_goal s t A }
+
 -- `plus(a, b)`, rule 7
 abbrev pub plus : Expression → Expression → Expression
 plus a b = symbol 7 (with_body 0 a (with_body 0 b no_arguments))
 
 -- `plus (m : Nat) (n : Nat) : Nat`
 abbrev pub rule_plus : Rule
-rule_plus = record { premises = (0, plain (term_goal natural)) ∷ (1, plain (term_goal natural)) ∷ []; conclusion = term_goal natural }
+rule_plus = record { premises = a_term 0 natural ∷ a_term 1 natural ∷ []; conclusion = term_goal natural }
 
 -- `plusO (n : Nat) : plus O n == n : Nat`, rule 8
 abbrev pub rule_plus_nought : Rule
-rule_plus_nought = record { premises = (0, plain (term_goal natural)) ∷ []; conclusion = term_equation_goal (plus nought (m 0)) (m 0) natural }
+rule_plus_nought = equates (a_term 0 natural ∷ []) (plus nought (m 0)) (m 0) natural
 
 -- `plusS (m : Nat) (n : Nat) : plus (S m) n == S (plus m n) : Nat`, rule 9
 abbrev pub rule_plus_successor : Rule
-rule_plus_successor = record { premises = (0, plain (term_goal natural)) ∷ (1, plain (term_goal natural)) ∷ []; conclusion = term_equation_goal (plus (successor (m 0)) (m 1)) (successor (plus (m 0) (m 1))) natural }
+rule_plus_successor = equates (a_term 0 natural ∷ a_term 1 natural ∷ []) (plus (successor (m 0)) (m 1)) (successor (plus (m 0) (m 1))) natural
 
 -- `Unit type`, rule 10
 abbrev pub unit : Expression
@@ -38,7 +50,7 @@ unit = symbol 10 no_arguments
 
 -- `eta (x : Unit) (y : Unit) : x == y : Unit`, rule 11
 abbrev pub rule_eta : Rule
-rule_eta = record { premises = (0, plain (term_goal unit)) ∷ (1, plain (term_goal unit)) ∷ []; conclusion = term_equation_goal (m 0) (m 1) unit }
+rule_eta = equates (a_term 0 unit ∷ a_term 1 unit ∷ []) (m 0) (m 1) unit
 
 -- `ext (A type) ({x : A} B type) (f : Pi A B) (g : Pi A B) ({x : A} app A B f x == app A B g x : B{x}) : f == g : Pi A B`, rule 12
 abbrev pub rule_functions : Rule
@@ -65,7 +77,7 @@ abbrev pub loop : Expression
 loop = symbol 15 no_arguments
 
 abbrev pub rule_loop : Rule
-rule_loop = record { premises = []; conclusion = term_equation_goal loop loop natural }
+rule_loop = equates [] loop loop natural
 
 -- all of them
 abbrev pub rules : List Rule
@@ -79,9 +91,19 @@ rules = rule_natural ∷ rule_nought ∷ rule_successor ∷ rule_product ∷ rul
 abbrev pub of : Expression → Annotation
 of A = record { name = []; annotation = A; set = [] }
 
--- the variables 0 and 1 of type Unit, and 2 of type Pi(Nat, {x} Nat)
+-- a metavariable without a name, `{x : Nat} _ : Nat`
+abbrev pub step : Declared
+step = record { name = []; boundary = abstracted natural (plain (term_goal natural)); set = [] }
+
+-- the variables 0 and 1 of type Unit, 2 of type Pi(Nat, {x} Nat), and this metavariable
 abbrev pub store : Store
-store = record { rules = rules; names = []; metavariables = []; variables = (0, of unit) ∷ (1, of unit) ∷ (2, of (product natural natural)) ∷ []; entries = [] }
+store = record {
+  rules = rules;
+  names = [];
+  metavariables = step ∷ [];
+  variables = (0, of unit) ∷ (1, of unit) ∷ (2, of (product natural natural)) ∷ [];
+  entries = [];
+}
 
 -- the rules that compute, and those that are extensional, in this order
 abbrev pub declared : Result EqualityRules ShapeFault
@@ -105,25 +127,29 @@ spent n = record { used = 3 + n; left = 1000 - n }
 
 -- Shapes.
 
--- all are accepted, and exactly the first argument of `plus` and the third of `app` are principal
+-- All are accepted. The first argument of `plus` is principal and the second is not; of `app` the third is and the fourth is not.
 abbrev pub AreShapes : Type 0
-AreShapes = (declared ≡ Ok (rules_of declared)) × (is_principal (rules_of declared) 7 1 ≡ true) × (is_principal (rules_of declared) 7 2 ≡ false) × (is_principal (rules_of declared) 5 3 ≡ true) × (is_principal (rules_of declared) 5 4 ≡ false)
+AreShapes = (declared ≡ Ok (rules_of declared))
+    × (is_principal (rules_of declared) 7 1 ≡ true)
+    × (is_principal (rules_of declared) 7 2 ≡ false)
+    × (is_principal (rules_of declared) 5 3 ≡ true)
+    × (is_principal (rules_of declared) 5 4 ≡ false)
 
 -- the faults of computation rules: a symbol rule; `(n : Nat) (n == O : Nat) : S n == O : Nat`, `(n : Nat) : n == O : Nat`,
 -- `(m : Nat) (n : Nat) : S m == n : Nat`
 abbrev pub AreComputationFaults : Type 0
 AreComputationFaults = (computation_of 1 rule_nought ≡ Err NotEquation)
-    × (computation_of 17 (record { premises = (0, plain (term_goal natural)) ∷ (1, plain (term_equation_goal (m 0) nought natural)) ∷ []; conclusion = term_equation_goal (successor (m 0)) nought natural }) ≡ Err (EquationPremise 2))
-    × (computation_of 17 (record { premises = (0, plain (term_goal natural)) ∷ []; conclusion = term_equation_goal (m 0) nought natural }) ≡ Err BadLeft)
-    × (computation_of 17 (record { premises = (0, plain (term_goal natural)) ∷ (1, plain (term_goal natural)) ∷ []; conclusion = term_equation_goal (successor (m 0)) (m 1) natural }) ≡ Err (Undetermined 2))
+    × (computation_of 17 (equates (a_term 0 natural ∷ an_equation 1 (m 0) nought natural ∷ []) (successor (m 0)) nought natural) ≡ Err (EquationPremise 2))
+    × (computation_of 17 (equates (a_term 0 natural ∷ []) (m 0) nought natural) ≡ Err BadLeft)
+    × (computation_of 17 (equates (a_term 0 natural ∷ a_term 1 natural ∷ []) (successor (m 0)) (m 1) natural) ≡ Err (Undetermined 2))
 
 -- the faults of extensionality rules: an equation of types; `(O == O : Nat) (x : Unit) (y : Unit) : x == y : Unit`,
 -- `(x : Unit) (y : Unit) : y == x : Unit`, `(n : Nat) (x : Unit) (y : Unit) : x == y : Unit`
 abbrev pub AreExtensionalityFaults : Type 0
 AreExtensionalityFaults = (extensionality_of 14 rule_number ≡ Err NotEquation)
-    × (extensionality_of 17 (record { premises = (0, plain (term_equation_goal nought nought natural)) ∷ (1, plain (term_goal unit)) ∷ (2, plain (term_goal unit)) ∷ []; conclusion = term_equation_goal (m 1) (m 2) unit }) ≡ Err (EquationPremise 1))
-    × (extensionality_of 17 (record { premises = (0, plain (term_goal unit)) ∷ (1, plain (term_goal unit)) ∷ []; conclusion = term_equation_goal (m 1) (m 0) unit }) ≡ Err BadLeft)
-    × (extensionality_of 17 (record { premises = (0, plain (term_goal natural)) ∷ (1, plain (term_goal unit)) ∷ (2, plain (term_goal unit)) ∷ []; conclusion = term_equation_goal (m 1) (m 2) unit }) ≡ Err (Undetermined 1))
+    × (extensionality_of 17 (equates (an_equation 0 nought nought natural ∷ a_term 1 unit ∷ a_term 2 unit ∷ []) (m 1) (m 2) unit) ≡ Err (EquationPremise 1))
+    × (extensionality_of 17 (equates (a_term 0 unit ∷ a_term 1 unit ∷ []) (m 1) (m 0) unit) ≡ Err BadLeft)
+    × (extensionality_of 17 (equates (a_term 0 natural ∷ a_term 1 unit ∷ a_term 2 unit ∷ []) (m 1) (m 2) unit) ≡ Err (Undetermined 1))
 
 -- Equations.
 
@@ -146,6 +172,14 @@ FunctionsAreExtensional = terms_are_equal store (rules_of declared) (lambda natu
 -- not for `lam(Nat, {x} Nat, {x} O)`
 abbrev pub ConstantIsAnother : Type 0
 ConstantIsAnother = terms_are_equal store (rules_of declared) (lambda natural natural nought) (product natural natural) (free 2) (product natural natural) (spent 0) ≡ (Ok false, spent 12)
+
+-- `?(plus(O, O)) == ?(O) : Nat` for the metavariable, term by term
+abbrev pub MetavariableAtEqualTerms : Type 0
+MetavariableAtEqualTerms = terms_are_equal store (rules_of declared) (meta 0 (also (plus nought nought) no_terms)) natural (meta 0 (also nought no_terms)) natural (spent 0) ≡ (Ok true, spent 13)
+
+-- `Pi(Number, {x} Number) == Pi(Nat, {x} Nat)`, argument by argument
+abbrev pub ProductsOfNumbers : Type 0
+ProductsOfNumbers = types_are_equal store (rules_of declared) (product number number) (product natural natural) (spent 0) ≡ (Ok true, spent 15)
 
 -- Normal forms.
 

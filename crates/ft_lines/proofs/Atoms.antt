@@ -3,7 +3,7 @@ use Rattle.std.proofs.Common.{◌≡◌, ◌∙◌, sym, ap, refl, subst, ℕ, z
 use lib.ListN.{length-append}
 use Rattle.std.specs.Prelude.{codes}
 use Rattle.std.specs.Fmt.{decimal}
-use Rattle.std.proofs.lemmas.List.{map-append, take-append-drop}
+use Rattle.std.proofs.lemmas.List.{length-map, map-append, take-append-drop}
 use Rattle.ft_items.specs.Sets.{Atom as AnyAtom, met, var, precedes, same_atom, insert, union, PrecedesAll, Ascending}
 use Rattle.ft_items.specs.Texts.{joined, atom_text, set_text, AtomFits, EachAtomFits}
 use Rattle.ft_items.proofs.SetLemmas.{by_atom, precedes_trans, irreflexive}
@@ -15,7 +15,9 @@ use Rattle.ft_lines.specs.declared.fault.Fault.TheVariants.{Form}
 use Rattle.ft_lines.specs.Reading.{Outcome, Reader, ◌>>=◌, and_then, pure, refuse, sees, sees_digit, passes, expect, number}
 use Rattle.ft_lines.specs.Sets.{atom, follows, atoms_from, listed, set}
 use Rattle.ft_lines.proofs.Numbers.{number_read}
-use Rattle.ft_lines.proofs.Chains.{err_ok, ok_ok, in_turn, after, by_test, taken, not_taken, taken_both, not_taken_both, taken_reader, not_taken_reader, sees_is, expected, numbered, further_length}
+use Rattle.ft_common.proofs.Choices.{by_test, taken, not_taken}
+use Rattle.ft_common.proofs.Results.{err_ok, ok_ok}
+use Rattle.ft_lines.proofs.Chains.{in_turn, after, taken_both, not_taken_both, taken_reader, not_taken_reader, sees_is, expected, numbered, further_length}
 
 -- ---- sets by halves
 before_front : (a : AnyAtom) (X Y : List AnyAtom) → PrecedesAll a (X ++ Y) → PrecedesAll a X
@@ -225,15 +227,11 @@ letter_counts : (a : Atom) → 1 ≤ length (text_of_atom a)
 letter_counts (Met m) = omega arith
 letter_counts (Var v) = omega arith
 
-map_length : {A B : Type 0} (f : A → B) (xs : List A) → length (map f xs) ≡ length xs
-map_length f [] = refl
-map_length f (x ∷ xs) = ap suc (map_length f xs)
-
 listed_few : (a : Atom) (as' : List Atom) (r : List ℕ) → length as' < length ((text_of_atom a ++ further (map text_of_atom as')) ++ r)
 listed_few a as' r =
     let f = further (map text_of_atom as') in
     let l = further_length (map text_of_atom as') r in
-    let n = map_length text_of_atom as' in
+    let n = length-map as' text_of_atom in
     let e : length ((text_of_atom a ++ f) ++ r) ≡ length (text_of_atom a ++ (f ++ r)) = ap length (append_assoc (text_of_atom a) f r) in
     let m = length-append (text_of_atom a) (f ++ r) in
     let k = letter_counts a in

@@ -1,5 +1,5 @@
 -- Readers one after another, and choices by tests.
-use Rattle.std.proofs.Common.{◌≡◌, ◌∙◌, sym, ap, refl, ℕ, ◌≤◌, ◌<◌, List, [], ◌∷◌, ◌++◌, length, drop, Ok, Err, Result, Bool, true, false, if◌then◌else◌, append_assoc, arith}
+use Rattle.std.proofs.Common.{◌≡◌, ◌∙◌, sym, ap, refl, ℕ, ◌≤◌, ◌<◌, List, [], ◌∷◌, ◌++◌, length, drop, Ok, Err, Bool, true, false, if◌then◌else◌, append_assoc, arith}
 use lib.ListN.{length-append}
 use Rattle.std.specs.Prelude.{◌==◌}
 use Rattle.std.specs.Fmt.{decimal}
@@ -8,17 +8,13 @@ use Rattle.std.specs.Char.{is_ascii_digit}
 use Rattle.std.proofs.lemmas.Bool.{eqb-true}
 use Rattle.std.proofs.lemmas.Fmt.{decimal_nonempty}
 use Rattle.ft_items.specs.Texts.{NumberFits}
-use Rattle.ft_lines.proofs.Choices.{and_left}
+use Rattle.ft_common.proofs.Booleans.{and_left, false_true}
+use Rattle.ft_common.proofs.Choices.{by_test, taken, not_taken}
+use Rattle.ft_common.proofs.Results.{err_ok, ok_ok}
 use Rattle.ft_texts.proofs.Expressions.{further}
 use Rattle.ft_lines.specs.declared.fault.Fault.TheVariants.{Form}
 use Rattle.ft_lines.specs.Reading.{Outcome, Reader, and_then, sees, expect, number}
 use Rattle.ft_lines.proofs.Numbers.{number_is, decimal_all}
-
-pub err_ok : {A B : Type 0} (e : B) (a : A) → ◌≡◌ {A = Result A B} (Err e) (Ok a) → ⊥
-err_ok e a h = cc
-
-pub ok_ok : {A B : Type 0} (a b : A) → ◌≡◌ {A = Result A B} (Ok a) (Ok b) → a ≡ b
-ok_ok a b h = cc
 
 -- what was read by two readers in turn was read by the first, and then by the second
 pub in_turn : {A B : Type 0} (o : Outcome A) (f : A → Reader B) (b : B) (cs : List ℕ) → and_then o f ≡ Ok (b, cs)
@@ -30,23 +26,7 @@ in_turn (Err e) f b cs h = absurd (err_ok e (b, cs) h)
 pub after : {A B : Type 0} (o : Outcome A) (a : A) (rest : List ℕ) (f : A → Reader B) → o ≡ Ok (a, rest) → and_then o f ≡ f a rest
 after o a rest f h = ap (λ o. and_then o f) h
 
--- a choice by a test
-pub by_test : {P : Type 0} (b : Bool) → (b ≡ true → P) → (b ≡ false → P) → P
-by_test true f g = f refl
-by_test false f g = g refl
-
-pub false_true : false ≡ true → ⊥
-false_true h = cc
-
-pub taken : {A : Type 0} {r : A} (x y : A) (b : Bool) → b ≡ true → (if b then x else y) ≡ r → x ≡ r
-taken x y true e h = h
-taken x y false e h = absurd (false_true e)
-
-pub not_taken : {A : Type 0} {r : A} (x y : A) (b : Bool) → b ≡ false → (if b then x else y) ≡ r → y ≡ r
-not_taken x y true e h = absurd (false_true (sym e))
-not_taken x y false e h = h
-
--- the same for a reader and what it reads
+-- a choice by a test, of a reader and what it reads
 pub taken_both : {A : Type 0} {r : Outcome A} (x y : Reader A) (u v : List ℕ) (b : Bool) → b ≡ true → (if b then x else y) (if b then u else v) ≡ r → x u ≡ r
 taken_both x y u v true e h = h
 taken_both x y u v false e h = absurd (false_true e)

@@ -11,7 +11,10 @@ use Rattle.ft_lines.specs.declared.fault.Fault.TheVariants.{Form}
 use Rattle.ft_lines.specs.Reading.{Outcome, Reader, ◌>>=◌, pure, sees, sees_digit, expect}
 use Rattle.ft_lines.specs.Expressions.{expression}
 use Rattle.ft_lines.specs.Statements.{one, two, three, type_form, term_form, type_equation, term_equation, equation, form, term_wanted, goal as goal_read, domain, domains_from, over, statement, thesis, boundary}
-use Rattle.ft_lines.proofs.Chains.{err_ok, ok_ok, in_turn, by_test, false_true, taken, not_taken, taken_both, not_taken_both, sees_is, expected}
+use Rattle.ft_common.proofs.Booleans.{false_true}
+use Rattle.ft_common.proofs.Choices.{by_test, taken, not_taken}
+use Rattle.ft_common.proofs.Results.{err_ok, ok_ok}
+use Rattle.ft_lines.proofs.Chains.{in_turn, taken_both, not_taken_both, sees_is, expected}
 use Rattle.ft_lines.proofs.Trees.{expression_read, expression_is}
 use Rattle.ft_lines.proofs.Reading.{domains_on}
 

@@ -13,7 +13,8 @@ use Rattle.ft_lines.specs.Statements.{form, goal as goal_read, statement}
 use Rattle.ft_lines.specs.Steps.{part_of, parts_text, step, IsWritten}
 use Rattle.ft_lines.specs.Words.{spelling_of}
 use Rattle.ft_lines.specs.Entries.{grounds, entry, thesis_entry, boundary_entry, entry_text, IsEntryText}
-use Rattle.ft_lines.proofs.Chains.{ok_ok, in_turn, expected, expect_next}
+use Rattle.ft_common.proofs.Results.{ok_ok}
+use Rattle.ft_lines.proofs.Chains.{in_turn, expected, expect_next}
 use Rattle.ft_lines.proofs.Atoms.{set_is, set_read}
 use Rattle.ft_lines.proofs.Claims.{IsStatement, thesis_is, boundary_is, thesis_back, boundary_back}
 use Rattle.ft_lines.proofs.StepTexts.{step_is, step_back}

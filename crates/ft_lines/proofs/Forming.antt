@@ -1,5 +1,5 @@
 -- Forming expressions in a table, and lists of arguments in one that goes on.
-use Rattle.std.proofs.Common.{◌≡◌, ◌∙◌, sym, ap, refl, subst, ℕ, ◌<◌, List, [], ◌∷◌, ◌++◌, length, map, Result, Ok, Err, IfOk, IfErr, false, arith}
+use Rattle.std.proofs.Common.{◌≡◌, ◌∙◌, sym, ap, refl, subst, ℕ, ◌<◌, List, [], ◌∷◌, ◌++◌, length, map, Result, Ok, Err, IfOk, IfErr, false}
 use Rattle.std.proofs.lemmas.List.{map-append}
 use Rattle.ft_theory.specs.Expressions.{Expression}
 use Rattle.ft_theory.specs.Small.{IsSmall, is_small}
@@ -8,7 +8,7 @@ use Rattle.ft_syntax.specs.Table.{tree, Extends, argument_in, terms_in, BodyBelo
 use Rattle.ft_syntax.specs.declared.syntax.Arg.{Arg}
 use Rattle.ft_syntax.specs.declared.syntax.SynFault.{SynFault}
 use Rattle.ft_syntax.specs.declared.syntax.SynFault.TheVariants as refusal
-use Rattle.ft_lines.proofs.Extending.{args_extend, below_longer, below_push, length_extends, tree_extends}
+use Rattle.ft_syntax.specs.Laws.{all_below_extends, all_push, arguments_below_extends, arguments_extend, arguments_push, trees_extend}
 use Rattle.ft_lines.specs.declared.fault.Fault.{Fault}
 use Rattle.ft_lines.specs.Expressions.{terms_of, IsFormed, outcome_of, small, ReadsTree}
 use Rattle.ft_items.proofs.Smallness.{small_true, true_small}
@@ -41,25 +41,15 @@ formed_reads e table (Err f) cs h = λ no. rw ((h no).1) (ap Err (sym (h no).0))
 -- one more argument, where the table goes on
 pub arguments_more : (ts us : List Expression) (found : List Arg) (x : Arg) → Extends ts us → ArgumentsBelow (length ts) found
     → map (argument_in us) (found ++ x ∷ []) ≡ map (argument_in ts) found ++ argument_in us x ∷ []
-arguments_more ts us found x goes_on below = map-append (argument_in us) found (x ∷ []) ∙ ap (λ ps. ps ++ argument_in us x ∷ []) (args_extend ts us found goes_on below)
+arguments_more ts us found x goes_on below = map-append (argument_in us) found (x ∷ []) ∙ ap (λ ps. ps ++ argument_in us x ∷ []) (arguments_extend ts us found goes_on below)
 
 pub arguments_below : (ts us : List Expression) (found : List Arg) (x : Arg) → Extends ts us → ArgumentsBelow (length ts) found → BodyBelow (length us) x.body
     → ArgumentsBelow (length us) (found ++ x ∷ [])
-arguments_below ts us found x goes_on below body = below_push (length us) found x (below_longer (length ts) (length us) found (length_extends ts us goes_on) below) body
-
-pub terms_extend : (ts us : List Expression) (es : List ℕ) → Extends ts us → AllBelow (length ts) es → map (tree us) es ≡ map (tree ts) es
-terms_extend ts us [] goes_on below = refl
-terms_extend ts us (e ∷ es) goes_on below =
-    ap (λ t. t ∷ map (tree us) es) (tree_extends ts us e goes_on below.0) ∙ ap (λ xs. tree ts e ∷ xs) (terms_extend ts us es goes_on below.1)
+arguments_below ts us found x goes_on below body = arguments_push (length us) found x (arguments_below_extends ts us found goes_on below) body
 
 pub terms_more : (ts us : List Expression) (found : List ℕ) (e : ℕ) → Extends ts us → AllBelow (length ts) found
     → map (tree us) (found ++ e ∷ []) ≡ map (tree ts) found ++ tree us e ∷ []
-terms_more ts us found e goes_on below = map-append (tree us) found (e ∷ []) ∙ ap (λ ps. ps ++ tree us e ∷ []) (terms_extend ts us found goes_on below)
+terms_more ts us found e goes_on below = map-append (tree us) found (e ∷ []) ∙ ap (λ ps. ps ++ tree us e ∷ []) (trees_extend ts us found goes_on below)
 
 pub terms_below : (ts us : List Expression) (found : List ℕ) (e : ℕ) → Extends ts us → AllBelow (length ts) found → e < length us → AllBelow (length us) (found ++ e ∷ [])
-terms_below ts us [] e goes_on below body = (body, tt)
-terms_below ts us (d ∷ found) e goes_on below body = (omega (arith, below.0, length_extends ts us goes_on), terms_below ts us found e goes_on below.1 body)
-
-pub all_longer : (ts us : List Expression) (es : List ℕ) → Extends ts us → AllBelow (length ts) es → AllBelow (length us) es
-all_longer ts us [] goes_on below = tt
-all_longer ts us (e ∷ es) goes_on below = (omega (arith, below.0, length_extends ts us goes_on), all_longer ts us es goes_on below.1)
+terms_below ts us found e goes_on below body = all_push (length us) found e (all_below_extends ts us found goes_on below) body

@@ -24,7 +24,10 @@ use Rattle.ft_lines.specs.Steps.{part_of, parts_text, IsWritten}
 use Rattle.ft_lines.specs.Written.{Told, step_of}
 use Rattle.ft_lines.specs.Entries.{thesis_entry, boundary_entry, entry_text, IsEntryText}
 use Rattle.ft_lines.specs.Lines.{variable, metavariable, rule, mark, told, thesis_item, boundary_item, declared, item, ended, whole, ReadsItem}
-use Rattle.ft_lines.proofs.Chains.{ok_ok, err_ok, in_turn, after, by_test, false_true, taken, not_taken}
+use Rattle.ft_common.proofs.Booleans.{false_true}
+use Rattle.ft_common.proofs.Choices.{by_test, taken, not_taken}
+use Rattle.ft_common.proofs.Results.{ok_ok, err_ok}
+use Rattle.ft_lines.proofs.Chains.{in_turn, after}
 use Rattle.ft_lines.proofs.EntryTexts.{thesis_entry_is, boundary_entry_is, thesis_entry_back, boundary_entry_back}
 use Rattle.ft_lines.proofs.StepsOf.{no_word, step_is_written, written_is_told}
 use Rattle.ft_lines.proofs.LineTexts.{plain_bytes, variable_line, metavariable_line, rule_line, mark_line, variable_is, variable_back, metavariable_is, metavariable_back, rule_is, rule_back, mark_is, mark_back}

@@ -2,7 +2,7 @@
 use Rattle.std.proofs.Common.{◌≡◌, ◌∙◌, sym, ap, refl, ℕ, suc, ◌+◌, ◌-◌, ◌<◌, List, [], ◌∷◌, ◌++◌, drop, Ok, Bool, true, false, if◌then◌else◌}
 use Rattle.ft_lines.specs.Reading.{Outcome, Reader, pure, sees}
 use Rattle.ft_lines.specs.Expressions.{items_from}
-use Rattle.ft_lines.proofs.Turns.{one_more}
+use Rattle.ft_common.proofs.Turns.{one_more}
 
 pub items_turn : {A : Type 0} (item : Reader A) (k : ℕ) (found : List A) (a : A) (cs ds : List ℕ) → item cs ≡ Ok (a, ds)
     → items_from item (suc k) found cs ≡ (if sees 44 ds then items_from item k (found ++ a ∷ []) else pure (found ++ a ∷ [])) (if sees 44 ds then drop 1 ds else ds)

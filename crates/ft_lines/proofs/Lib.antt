@@ -1,7 +1,5 @@
-pub mod Choices
-pub mod Turns
+pub mod Runs
 pub mod Numbers
-pub mod Extending
 pub mod Forming
 pub mod Items
 pub mod Chains

@@ -17,7 +17,9 @@ use Rattle.ft_lines.specs.Names.{name}
 use Rattle.ft_lines.specs.Lines.{variable, metavariable, premises_from, premises, rule, mark}
 use Rattle.ft_lines.proofs.Numbers.{number_is, number_read}
 use Rattle.ft_lines.proofs.NameTexts.{name_is, name_read}
-use Rattle.ft_lines.proofs.Chains.{ok_ok, err_ok, in_turn, after, by_test, taken_both, not_taken_both, sees_is, sees_none, expected, expect_next}
+use Rattle.ft_common.proofs.Choices.{by_test}
+use Rattle.ft_common.proofs.Results.{ok_ok, err_ok}
+use Rattle.ft_lines.proofs.Chains.{in_turn, after, taken_both, not_taken_both, sees_is, sees_none, expected, expect_next}
 
 -- ---- the bytes of lines
 pub byte_then : (c : ℕ) (x y : List ℕ) → c < 128 → encode_utf8_all x ≡ y → encode_utf8_all (c ∷ x) ≡ c ∷ y

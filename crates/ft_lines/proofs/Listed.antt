@@ -2,17 +2,16 @@
 use Rattle.std.proofs.Common.{◌≡◌, ◌∙◌, sym, ap, refl, subst, ℕ, zero, suc, ◌≤◌, ◌<◌, List, [], ◌∷◌, ◌++◌, length, map, drop, Ok, false, if◌then◌else◌, append_assoc, append-nil, arith}
 use lib.ListN.{length-append}
 use Rattle.std.specs.Prelude.{codes}
+use Rattle.std.proofs.lemmas.List.{length-map}
 use Rattle.ft_items.specs.Texts.{joined}
 use Rattle.ft_texts.proofs.Expressions.{further}
 use Rattle.ft_lines.specs.declared.fault.Fault.TheVariants.{Form}
 use Rattle.ft_lines.specs.Reading.{Reader, ◌>>=◌, pure, sees, sees_digit, passes, expect}
 use Rattle.ft_lines.specs.Expressions.{items_from, in_parentheses}
-use Rattle.ft_lines.proofs.Chains.{err_ok, ok_ok, in_turn, by_test, taken_both, not_taken_both, sees_is, expected, further_length}
+use Rattle.ft_common.proofs.Choices.{by_test}
+use Rattle.ft_common.proofs.Results.{err_ok, ok_ok}
+use Rattle.ft_lines.proofs.Chains.{in_turn, taken_both, not_taken_both, sees_is, expected, further_length}
 use Rattle.ft_lines.proofs.Items.{items_turn}
-
-pub map_length : {A B : Type 0} (f : A → B) (xs : List A) → length (map f xs) ≡ length xs
-map_length f [] = refl
-map_length f (x ∷ xs) = ap suc (map_length f xs)
 
 module _ {A : Type 0} (item : Reader A) (text : A → List ℕ) where
   -- the items' texts with commas
@@ -108,7 +107,7 @@ module _ {A : Type 0} (item : Reader A) (text : A → List ℕ) where
   few_items a as' r k =
       let f = further (map text as') in
       let l = further_length (map text as') r in
-      let n = map_length text as' in
+      let n = length-map as' text in
       let e : length ((text a ++ f) ++ r) ≡ length (text a ++ (f ++ r)) = ap length (append_assoc (text a) f r) in
       let m = length-append (text a) (f ++ r) in
       omega (arith, l, n, e, m, k)

@@ -14,8 +14,8 @@ use Rattle.ucd_table.proofs.Stepped.{Stepped, zip_stepped, of_ranges}
 use Rattle.ucd_derived.proofs.BinaryLemmas.{is_xid_continue_stepped}
 use Rattle.ft_base.specs.Names.{is_name_token, starts_name, is_lone_underscore}
 use Rattle.ft_texts.specs.Laws.{Visible}
-use Rattle.ft_lines.proofs.Choices.{and_left, and_right}
-use Rattle.ft_lines.proofs.Chains.{by_test}
+use Rattle.ft_common.proofs.Booleans.{and_left, and_right}
+use Rattle.ft_common.proofs.Choices.{by_test}
 
 -- the characters of Unicode after the space
 abbrev printed : List Range

@@ -3,27 +3,23 @@ use Rattle.std.proofs.Common.{◌≡◌, ◌∙◌, sym, ap, refl, ℕ, suc, ◌
 use Rattle.std.specs.Prelude.{IfOk}
 use Rattle.std.specs.List.{list_all}
 use Rattle.std.specs.Str.{IsUtf8, is_utf8, chars, encode_utf8_all, NonePass}
+use Rattle.std.proofs.Math.Seq.{take-append_seam, drop-append_seam}
 use Rattle.std.proofs.lemmas.List.{take-append-drop}
+use Rattle.std.proofs.lemmas.Option.{same_Some}
 use Rattle.std.proofs.lemmas.Str.{IsUtf8-from_is_utf8, is_utf8-from_IsUtf8, encodes-chars, chars-encodes, NoCharPasses-byte}
 use Rattle.std.proofs.lemmas.Bool.{eqb-true}
 use Rattle.ft_base.specs.Names.{is_name_token}
 use Rattle.ft_base.specs.declared.memory.Memory.{Memory}
 use Rattle.ft_items.specs.Item.{Name}
-use Rattle.ft_lexer.specs.Fronts.{run}
+use Rattle.ft_common.specs.Digits.{run}
 use Rattle.ft_texts.specs.Laws.{Visible}
 use Rattle.ft_lines.specs.Names.{is_no_space, name_in, name_then, name, ends_name}
-use Rattle.ft_lines.proofs.Choices.{and_left, and_right}
-use Rattle.ft_lines.proofs.Chains.{by_test, taken, not_taken, ok_ok, err_ok}
+use Rattle.ft_common.proofs.Booleans.{and_left, and_right}
+use Rattle.ft_common.proofs.Choices.{by_test, taken, not_taken}
+use Rattle.ft_common.proofs.Options.{none_some}
+use Rattle.ft_common.proofs.Results.{ok_ok, err_ok}
 use Rattle.ft_lines.proofs.NameLetters.{names_visible, names_scalars}
-
-some_same : (m n : Name) → ◌≡◌ {A = Option Name} (Some m) (Some n) → m ≡ n
-some_same m n h = cc
-
-none_some : {P : Type 0} (n : Name) → ◌≡◌ {A = Option Name} None (Some n) → P
-none_some {P} n h = absurd (clash h)
-  where
-    clash : ◌≡◌ {A = Option Name} None (Some n) → ⊥
-    clash e = cc
+use Rattle.ft_lines.proofs.Runs.{run_past}
 
 name_in_is : (bytes : List ℕ) (n : Name) → name_in bytes ≡ Some n → (bytes ≡ encode_utf8_all n) × (is_name_token n ≡ true)
 name_in_is bytes n h =
@@ -31,11 +27,11 @@ name_in_is bytes n h =
     let yes : Option Name = Some (chars bytes) in
     let no : Option Name = None in
     by_test test
-    (λ y. let same : chars bytes ≡ n = some_same (chars bytes) n (taken yes no test y h) in (
+    (λ y. let same : chars bytes ≡ n = same_Some (chars bytes) n (taken yes no test y h) in (
       sym (encodes-chars bytes (IsUtf8-from_is_utf8 bytes (and_left (is_utf8 bytes) (is_name_token (chars bytes)) y))) ∙ ap encode_utf8_all same,
       ap is_name_token (sym same) ∙ and_right (is_utf8 bytes) (is_name_token (chars bytes)) y,
     ))
-    (λ m. none_some n (not_taken yes no test m h))
+    (λ m. none_some (not_taken yes no test m h))
 
 then_is : (o : Option Name) (cs rest : List ℕ) (n : Name) → name_then o cs ≡ Ok (n, rest) → (o ≡ Some n) × (cs ≡ rest)
 then_is None cs rest n h = absurd (err_ok _ (n, rest) h)
@@ -79,19 +75,9 @@ no_spaces : (n : Name) → is_name_token n ≡ true → list_all is_no_space (en
 no_spaces n h = all_at is_no_space (encode_utf8_all n)
     (λ i l. no_space_at _ (λ low. NoCharPasses-byte (λ c. nat_eq c 32) (encode_utf8_all n) i (n, refl, none_space n (names_visible n h)) l low))
 
-run_then : (ds rest : List ℕ) → list_all is_no_space ds ≡ true → ends_name rest ≡ true → run is_no_space (ds ++ rest) ≡ length ds
-run_then [] [] all ends = refl
-run_then [] (c ∷ rest) all ends = rw ends refl
-run_then (d ∷ ds) rest all ends =
-    rw (and_left (is_no_space d) (list_all is_no_space ds) all) (ap suc (run_then ds rest (and_right (is_no_space d) (list_all is_no_space ds) all) ends))
-
-take_front : (xs ys : List ℕ) → take (length xs) (xs ++ ys) ≡ xs
-take_front [] ys = refl
-take_front (x ∷ xs) ys = ap (λ zs. x ∷ zs) (take_front xs ys)
-
-drop_front : (xs ys : List ℕ) → drop (length xs) (xs ++ ys) ≡ ys
-drop_front [] ys = refl
-drop_front (x ∷ xs) ys = drop_front xs ys
+name_stops : (rest : List ℕ) → ends_name rest ≡ true → run is_no_space rest ≡ 0
+name_stops [] h = refl
+name_stops (c ∷ rest) h = rw h refl
 
 name_in_back : (n : Name) → is_name_token n ≡ true → name_in (encode_utf8_all n) ≡ Some n
 name_in_back n h =
@@ -107,8 +93,8 @@ unfolding name
 name_read n rest h ends =
     let ds = encode_utf8_all n in
     let all = ds ++ rest in
-    let k : run is_no_space all ≡ length ds = run_then ds rest (no_spaces n h) ends in
+    let k : run is_no_space all ≡ length ds = run_past is_no_space ds rest (no_spaces n h) (name_stops rest ends) in
     ap (λ j. name_then (name_in (take j all)) (drop j all)) k
-    ∙ ap (λ x. name_then (name_in x) (drop (length ds) all)) (take_front ds rest)
+    ∙ ap (λ x. name_then (name_in x) (drop (length ds) all)) (take-append_seam ds rest)
     ∙ ap (λ o. name_then o (drop (length ds) all)) (name_in_back n h)
-    ∙ ap (λ x. Ok (n, x)) (drop_front ds rest)
+    ∙ ap (λ x. Ok (n, x)) (drop-append_seam ds rest)

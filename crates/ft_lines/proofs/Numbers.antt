@@ -1,17 +1,21 @@
 -- Numbers: what is read is the decimal text.
-use Rattle.std.proofs.Common.{rules, ◌≡◌, ◌∙◌, sym, ap, refl, subst, ℕ, suc, ◌+◌, ◌-◌, ◌*◌, ◌^◌, ◌≤◌, ◌<◌, List, [], ◌∷◌, ◌++◌, length, take, drop, Option, Some, None, Ok, Bool, true, false, ◌||◌, nat_le, if◌then◌else◌, get_or, zero, arith}
-use Rattle.std.specs.Prelude.{slice_index}
+use Rattle.std.proofs.Common.{◌≡◌, ◌∙◌, sym, ap, refl, subst, ℕ, suc, ◌+◌, ◌-◌, ◌*◌, ◌^◌, ◌≤◌, ◌<◌, List, [], ◌∷◌, ◌++◌, length, take, drop, Option, Some, None, Ok, Bool, true, false, ◌||◌, nat_le, if◌then◌else◌, get_or, zero, arith}
 use Rattle.std.specs.Fmt.{decimal}
 use Rattle.std.specs.List.{list_all}
 use Rattle.std.specs.Char.{is_ascii_digit}
 use Rattle.std.specs.Str.{all_ascii_digits}
+use Rattle.std.proofs.Math.Seq.{take-append_seam, drop-append_seam}
 use Rattle.std.proofs.lemmas.List.{take-append-drop, drop_more, drop_all}
+use Rattle.std.proofs.lemmas.Option.{same_Some}
 use Rattle.std.proofs.lemmas.Fmt.{decimal-digits_value, digits_decimal, digits_value-decimal, decimal_digit, decimal_nonempty, first_decimal}
-use Rattle.std.proofs.lemmas.Str.Parse.{IsNumeralModel, numerals_by_fold}
 use Rattle.ft_items.specs.Texts.{NumberFits}
-use Rattle.ft_lexer.specs.Fronts.{run, decimal_value, has_leading_zero}
-use Rattle.ft_lines.proofs.Choices.{if_both, and_left, and_right, or_left, or_right, list_all-take-run, decimal_value-le}
-use Rattle.ft_lines.specs.Reading.{Outcome, spelled, number_then, number, sees_digit}
+use Rattle.ft_common.specs.Digits.{run, decimal_value, has_leading_zero}
+use Rattle.ft_common.proofs.Booleans.{or_left, or_right}
+use Rattle.ft_common.proofs.Choices.{if_both}
+use Rattle.ft_common.proofs.Digits.{all_digits, decimal_value-is_numeral, decimal_value-le, digits_all, list_all-take-run, no_leading_zero}
+use Rattle.ft_common.proofs.Results.{ok_ok}
+use Rattle.ft_lines.specs.Reading.{spelled, number_then, number, sees_digit}
+use Rattle.ft_lines.proofs.Runs.{run_past}
 
 -- a number that is too great stays so with more digits
 pub stays_great : (first value : ℕ) (rest ds : List ℕ) → decimal_value first rest ≡ decimal_value value ds → 2 ^ 64 ≤ value
@@ -39,27 +43,6 @@ value_some value i digits done e small =
     rw (whole, fits) refl
 
 -- ---- what is read is the text
-own : IsNumeralModel (λ ds. all_ascii_digits ds ≡ true) (decimal_value 0)
-own = numerals_by_fold _ (search rules) decimal_value (search rules)
-
-digits_all : (ds : List ℕ) → list_all is_ascii_digit ds ≡ true → all_ascii_digits ds ≡ true
-digits_all [] all = refl
-digits_all (d ∷ ds) all =
-    rw (and_left (is_ascii_digit d) (list_all is_ascii_digit ds) all) (digits_all ds (and_right (is_ascii_digit d) (list_all is_ascii_digit ds) all))
-
-all_digits : (ds : List ℕ) → all_ascii_digits ds ≡ true → list_all is_ascii_digit ds ≡ true
-all_digits [] all = refl
-all_digits (d ∷ ds) all =
-    rw (and_left (is_ascii_digit d) (all_ascii_digits ds) all) (all_digits ds (and_right (is_ascii_digit d) (all_ascii_digits ds) all))
-
-no_leading_zero : (ds : List ℕ) → has_leading_zero ds ≡ false → slice_index ds 0 ≡ 48 → length ds ≡ 1
-no_leading_zero [] none first = cc
-no_leading_zero (d ∷ []) none first = refl
-no_leading_zero (d ∷ e ∷ ds) none first = grind (arith, none, first)
-
-some_same : (m n : ℕ) → ◌≡◌ {A = Option ℕ} (Some m) (Some n) → m ≡ n
-some_same m n h = cc
-
 spelled_is : (ds : List ℕ) (n : ℕ) → all_ascii_digits ds ≡ true → spelled ds ≡ Some n → (ds ≡ decimal n) × NumberFits n
 spelled_is [] n all h = cc
 spelled_is (d ∷ ds) n all h =
@@ -67,14 +50,11 @@ spelled_is (d ∷ ds) n all h =
     if_both (λ o. o ≡ Some n → (digits ≡ decimal n) × NumberFits n) (has_leading_zero digits || nat_le (2 ^ 64) (decimal_value 0 digits)) None (Some (decimal_value 0 digits))
     (λ e g. cc)
     (λ e g.
-    let value : decimal_value 0 digits ≡ n = some_same (decimal_value 0 digits) n g in
+    let value : decimal_value 0 digits ≡ n = same_Some (decimal_value 0 digits) n g in
     let fits : decimal_value 0 digits < 2 ^ 64 = grind (arith, or_right (has_leading_zero digits) (nat_le (2 ^ 64) (decimal_value 0 digits)) e) in
     let text : decimal (decimal_value 0 digits) ≡ digits =
-    decimal-digits_value own digits all (omega arith) (no_leading_zero digits (or_left (has_leading_zero digits) (nat_le (2 ^ 64) (decimal_value 0 digits)) e)) fits in
+    decimal-digits_value decimal_value-is_numeral digits all (omega arith) (no_leading_zero digits (or_left (has_leading_zero digits) (nat_le (2 ^ 64) (decimal_value 0 digits)) e)) fits in
     (sym text ∙ ap decimal value, subst NumberFits value fits)) h
-
-ok_ok : (p q : ℕ × List ℕ) → ◌≡◌ {A = Outcome ℕ} (Ok p) (Ok q) → p ≡ q
-ok_ok p q h = cc
 
 then_is : (o : Option ℕ) (cs rest : List ℕ) (n : ℕ) → number_then o cs ≡ Ok (n, rest) → (o ≡ Some n) × (cs ≡ rest)
 then_is None cs rest n h = cc
@@ -89,19 +69,9 @@ number_is n cs rest h =
     (sym (take-append-drop k cs) ∙ ap (λ x. x ++ drop k cs) s.0 ∙ ap (λ x. decimal n ++ x) t.1, s.1)
 
 -- ---- a number's text is read
-run_then : (ds rest : List ℕ) → list_all is_ascii_digit ds ≡ true → sees_digit rest ≡ false → run is_ascii_digit (ds ++ rest) ≡ length ds
-run_then [] [] all stops = refl
-run_then [] (c ∷ rest) all stops = rw stops refl
-run_then (d ∷ ds) rest all stops =
-    rw (and_left (is_ascii_digit d) (list_all is_ascii_digit ds) all) (ap suc (run_then ds rest (and_right (is_ascii_digit d) (list_all is_ascii_digit ds) all) stops))
-
-take_front : (xs ys : List ℕ) → take (length xs) (xs ++ ys) ≡ xs
-take_front [] ys = refl
-take_front (x ∷ xs) ys = ap (λ zs. x ∷ zs) (take_front xs ys)
-
-drop_front : (xs ys : List ℕ) → drop (length xs) (xs ++ ys) ≡ ys
-drop_front [] ys = refl
-drop_front (x ∷ xs) ys = drop_front xs ys
+digits_stop : (rest : List ℕ) → sees_digit rest ≡ false → run is_ascii_digit rest ≡ 0
+digits_stop [] h = refl
+digits_stop (c ∷ rest) h = rw h refl
 
 unpadded : (ds : List ℕ) → 48 < get_or ds 0 0 → has_leading_zero ds ≡ false
 unpadded [] h = refl
@@ -122,12 +92,12 @@ pub number_read : (n : ℕ) (rest : List ℕ) → NumberFits n → sees_digit re
 unfolding number
 number_read n rest fits stops =
     let ds = decimal n in
-    let k : run is_ascii_digit (ds ++ rest) ≡ length ds = run_then ds rest (all_digits ds (digits_decimal own n fits)) stops in
-    let s : spelled ds ≡ Some n = spelled_digits ds n (decimal_nonempty n fits) (decimal_unpadded n fits) (digits_value-decimal own n fits) fits in
+    let k : run is_ascii_digit (ds ++ rest) ≡ length ds = run_past is_ascii_digit ds rest (all_digits ds (digits_decimal decimal_value-is_numeral n fits)) (digits_stop rest stops) in
+    let s : spelled ds ≡ Some n = spelled_digits ds n (decimal_nonempty n fits) (decimal_unpadded n fits) (digits_value-decimal decimal_value-is_numeral n fits) fits in
     ap (λ j. number_then (spelled (take j (ds ++ rest))) (drop j (ds ++ rest))) k
-    ∙ ap (λ x. number_then (spelled x) (drop (length ds) (ds ++ rest))) (take_front ds rest)
+    ∙ ap (λ x. number_then (spelled x) (drop (length ds) (ds ++ rest))) (take-append_seam ds rest)
     ∙ ap (λ o. number_then o (drop (length ds) (ds ++ rest))) s
-    ∙ ap (λ x. Ok (n, x)) (drop_front ds rest)
+    ∙ ap (λ x. Ok (n, x)) (drop-append_seam ds rest)
 
 pub decimal_all : (n : ℕ) → NumberFits n → list_all is_ascii_digit (decimal n) ≡ true
-decimal_all n fits = all_digits (decimal n) (digits_decimal own n fits)
+decimal_all n fits = all_digits (decimal n) (digits_decimal decimal_value-is_numeral n fits)

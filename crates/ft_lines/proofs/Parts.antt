@@ -7,7 +7,9 @@ use Rattle.ft_lines.specs.declared.steps.Part.TheVariants.{Number, Slash}
 use Rattle.ft_lines.specs.Reading.{Outcome, Reader, ◌>>=◌, and_then, pure, sees, sees_digit, number}
 use Rattle.ft_lines.specs.Steps.{part_of, part, parts_from, parts, parts_text}
 use Rattle.ft_lines.proofs.Numbers.{number_read}
-use Rattle.ft_lines.proofs.Chains.{ok_ok, in_turn, by_test, taken, not_taken, taken_both, not_taken_both, sees_is, sees_none, numbered}
+use Rattle.ft_common.proofs.Choices.{by_test, taken, not_taken}
+use Rattle.ft_common.proofs.Results.{ok_ok}
+use Rattle.ft_lines.proofs.Chains.{in_turn, taken_both, not_taken_both, sees_is, sees_none, numbered}
 
 abbrev text_of_part : Part → List ℕ
 text_of_part p = part_text (part_of p)

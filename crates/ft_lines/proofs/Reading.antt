@@ -3,14 +3,13 @@ use Rattle.std.proofs.Common.{◌≡◌, ◌∙◌, sym, ap, refl, ℕ, suc, ◌
 use Rattle.ft_theory.specs.Expressions.{Expression}
 use Rattle.ft_theory.specs.Statements.{Claim, plain, abstracted}
 use Rattle.ft_syntax.specs.Table.{tree, Extends, AllBelow}
-use Rattle.ft_lines.proofs.Extending.{tree_extends, length_extends}
+use Rattle.ft_syntax.specs.Laws.{all_below_extends, length_extends, tree_extends, trees_extend}
 use Rattle.ft_judge.specs.Meaning.{claim_in, goal_in, under, thesis_in, boundary_in, FormBelow, GoalBelow, ThesisBelow, BoundaryBelow}
 use Rattle.ft_judge.specs.declared.judgement.Form.{Form}
 use Rattle.ft_judge.specs.declared.judgement.Goal.{Goal}
 use Rattle.ft_lines.specs.Reading.{Outcome, Reader, sees}
 use Rattle.ft_lines.specs.Statements.{one, two, three, domain, domains_from, over, statement, form, goal as goal_read, thesis, boundary}
-use Rattle.ft_lines.proofs.Turns.{one_more}
-use Rattle.ft_lines.proofs.Forming.{terms_extend, all_longer}
+use Rattle.ft_common.proofs.Turns.{one_more}
 
 pub two_read : (ts us : List Expression) (a b : ℕ) (cs ds es : List ℕ) → Extends ts us → (a < length ts) × (one cs ≡ Ok (tree ts a, ds)) → (b < length us) × (one ds ≡ Ok (tree us b, es))
     → ((a < length us) × (b < length us)) × (two cs ≡ Ok ((tree us a, tree us b), es))
@@ -57,17 +56,17 @@ statement_read : (claim : Reader Claim) (ts us : List Expression) (As : List ℕ
     → domains_from (length cs) [] cs ≡ Ok (map (tree ts) As, ds) → claim ds ≡ Ok (c, es) → statement claim cs ≡ Ok (under us As (plain c), es)
 statement_read claim ts us As c cs ds es on below h k =
     statement_are claim cs ds es (map (tree ts) As) c h k
-    ∙ ap (λ Bs. Ok (over Bs c, es)) (sym (terms_extend ts us As on below))
+    ∙ ap (λ Bs. Ok (over Bs c, es)) (sym (trees_extend ts us As on below))
     ∙ ap (λ x. Ok (x, es)) (sym (under_is us As c))
 
 pub thesis_read : (ts us : List Expression) (As : List ℕ) (f : Form) (cs ds es : List ℕ) → Extends ts us → AllBelow (length ts) As × (domains_from (length cs) [] cs ≡ Ok (map (tree ts) As, ds))
     → FormBelow (length us) f × (form ds ≡ Ok (claim_in us f, es))
     → ThesisBelow (length us) (record { domains = As; form = f }) × (thesis cs ≡ Ok (thesis_in us (record { domains = As; form = f }), es))
 thesis_read ts us As f cs ds es on h k =
-    ((all_longer ts us As on h.0, k.0), statement_read form ts us As (claim_in us f) cs ds es on h.0 h.1 k.1)
+    ((all_below_extends ts us As on h.0, k.0), statement_read form ts us As (claim_in us f) cs ds es on h.0 h.1 k.1)
 
 pub boundary_read : (ts us : List Expression) (As : List ℕ) (g : Goal) (cs ds es : List ℕ) → Extends ts us → AllBelow (length ts) As × (domains_from (length cs) [] cs ≡ Ok (map (tree ts) As, ds))
     → GoalBelow (length us) g × (goal_read ds ≡ Ok (goal_in us g, es))
     → BoundaryBelow (length us) (record { domains = As; goal = g }) × (boundary cs ≡ Ok (boundary_in us (record { domains = As; goal = g }), es))
 boundary_read ts us As g cs ds es on h k =
-    ((all_longer ts us As on h.0, k.0), statement_read goal_read ts us As (goal_in us g) cs ds es on h.0 h.1 k.1)
+    ((all_below_extends ts us As on h.0, k.0), statement_read goal_read ts us As (goal_in us g) cs ds es on h.0 h.1 k.1)

@@ -1,39 +1,28 @@
 -- Steps: what is read is the text, and the text is read.
-use Rattle.std.proofs.Common.{◌≡◌, ◌∙◌, sym, ap, ap₂, refl, subst, ℕ, suc, List, [], ◌∷◌, ◌++◌, length, map, take, drop, Ok, Option, Some, None, Bool, true, false, ◌==◌, if◌then◌else◌, find, append_assoc}
+use Rattle.std.proofs.Common.{◌≡◌, ◌∙◌, sym, ap, ap₂, refl, subst, ℕ, List, [], ◌∷◌, ◌++◌, length, map, take, drop, Ok, Option, Some, None, true, false, append_assoc}
 use Rattle.std.specs.List.{list_all}
 use Rattle.std.specs.Str.{bytes_eq}
-use Rattle.std.proofs.lemmas.Bool.{eqb-true}
+use Rattle.std.proofs.Math.Seq.{take-append_seam, drop-append_seam}
 use Rattle.std.proofs.lemmas.List.{take-append-drop}
+use Rattle.std.proofs.lemmas.Slice.Eq.{bytes_eq-Decides}
 use Rattle.ft_items.specs.Item.{Stated, by_var, by_generic, by_meta, by_metacong, by_abs, by_subst, by_substeq, by_refl, by_sym, by_trans, by_conv, by_conveq, by_left, by_right, by_typeof, by_domain, by_boundary, by_widen, by_btype, by_bterm, by_beqty, by_beqtm, by_rule, by_rulewith, by_inst, by_cong, by_convprem, by_convback, by_arg, by_natural, by_metainst}
 use Rattle.ft_items.specs.Texts.{Part as AnyPart, number as any_number, slash, PartsFit, written, step_text, IsOfVersion1}
-use Rattle.ft_lexer.specs.Fronts.{run}
+use Rattle.ft_common.specs.Digits.{run}
 use Rattle.ft_lines.specs.declared.words.Word.{Word}
 use Rattle.ft_lines.specs.declared.words.Word.TheVariants as word
 use Rattle.ft_lines.specs.declared.steps.Part.{Part}
 use Rattle.ft_lines.specs.declared.steps.Part.TheVariants.{Number, Slash}
 use Rattle.ft_lines.specs.Words.{words, spelling_of, word_of}
-use Rattle.ft_lines.specs.Reading.{Outcome, Reader, ◌>>=◌, pure, sees, sees_digit}
+use Rattle.ft_lines.specs.Reading.{◌>>=◌, pure, sees, sees_digit}
 use Rattle.ft_lines.specs.Steps.{part_of, parts, parts_text, is_letter, sees_letter, word_then, step_word, step, IsWritten}
-use Rattle.ft_lines.proofs.Choices.{and_left, and_right}
-use Rattle.ft_lines.proofs.Chains.{ok_ok, in_turn}
+use Rattle.ft_common.proofs.Lists.{find_passes}
+use Rattle.ft_common.proofs.Results.{ok_ok}
+use Rattle.ft_lines.proofs.Chains.{in_turn}
 use Rattle.ft_lines.proofs.Parts.{parts_is, parts_back}
-
-bytes_same : (xs ys : List ℕ) → bytes_eq xs ys ≡ true → xs ≡ ys
-bytes_same [] [] e = refl
-bytes_same [] (y ∷ ys) e = cc
-bytes_same (x ∷ xs) [] e = cc
-bytes_same (x ∷ xs) (y ∷ ys) e =
-    let first : x ≡ y = eqb-true x y (and_left (x == y) (bytes_eq xs ys) e) in
-    let others = bytes_same xs ys (and_right (x == y) (bytes_eq xs ys) e) in
-    ap (λ n. n ∷ xs) first ∙ ap (λ ns. y ∷ ns) others
-
-find_passes : (passes : Word → Bool) (ws : List Word) (w : Word) → find passes ws ≡ Some w → passes w ≡ true
-find_passes passes [] w e = cc
-find_passes passes (v ∷ ws) w e = elim (passes v) as (λ b. passes v ≡ b → (if b then Some v else find passes ws) ≡ Some w → passes w ≡ true)
-    [ true ↦ (λ is found. subst (λ x. passes x ≡ true) (cc) is) | false ↦ (λ is found. find_passes passes ws w found) ] refl e
+use Rattle.ft_lines.proofs.Runs.{run_past}
 
 word_of_is : (letters : List ℕ) (w : Word) → word_of letters ≡ Some w → spelling_of w ≡ letters
-word_of_is letters w e = bytes_same (spelling_of w) letters (find_passes (λ v. bytes_eq (spelling_of v) letters) words w e)
+word_of_is letters w e = (bytes_eq-Decides (spelling_of w) letters).0 (find_passes (λ v. bytes_eq (spelling_of v) letters) words w e)
 
 pub word_of_spelling : (w : Word) → word_of (spelling_of w) ≡ Some w
 word_of_spelling word.Var = refl
@@ -122,29 +111,19 @@ step_is w ps cs rest h =
     (f ∙ ap (λ x. spelling_of p.0.0 ++ x) g.0 ∙ sym (append_assoc (spelling_of p.0.0) (parts_text (map part_of q.0.0)) q.0.1), g.1)
 
 -- ---- the text is read
-run_then : (ds rest : List ℕ) → list_all is_letter ds ≡ true → sees_letter rest ≡ false → run is_letter (ds ++ rest) ≡ length ds
-run_then [] [] all stops = refl
-run_then [] (c ∷ rest) all stops = rw stops refl
-run_then (d ∷ ds) rest all stops =
-    rw (and_left (is_letter d) (list_all is_letter ds) all) (ap suc (run_then ds rest (and_right (is_letter d) (list_all is_letter ds) all) stops))
-
-take_front : (xs ys : List ℕ) → take (length xs) (xs ++ ys) ≡ xs
-take_front [] ys = refl
-take_front (x ∷ xs) ys = ap (λ zs. x ∷ zs) (take_front xs ys)
-
-drop_front : (xs ys : List ℕ) → drop (length xs) (xs ++ ys) ≡ ys
-drop_front [] ys = refl
-drop_front (x ∷ xs) ys = drop_front xs ys
+letters_stop : (rest : List ℕ) → sees_letter rest ≡ false → run is_letter rest ≡ 0
+letters_stop [] h = refl
+letters_stop (c ∷ rest) h = rw h refl
 
 step_word_read : (w : Word) (rest : List ℕ) → sees_letter rest ≡ false → step_word (spelling_of w ++ rest) ≡ Ok (w, rest)
 unfolding step_word
 step_word_read w rest stops =
     let ds = spelling_of w in
-    let k = run_then ds rest (all_letters w) stops in
+    let k = run_past is_letter ds rest (all_letters w) (letters_stop rest stops) in
     ap (λ j. word_then (word_of (take j (ds ++ rest))) (drop j (ds ++ rest))) k
-    ∙ ap (λ x. word_then (word_of x) (drop (length ds) (ds ++ rest))) (take_front ds rest)
+    ∙ ap (λ x. word_then (word_of x) (drop (length ds) (ds ++ rest))) (take-append_seam ds rest)
     ∙ ap (λ o. word_then o (drop (length ds) (ds ++ rest))) (word_of_spelling w)
-    ∙ ap (λ x. Ok (w, x)) (drop_front ds rest)
+    ∙ ap (λ x. Ok (w, x)) (drop-append_seam ds rest)
 
 no_letter : (ps : List AnyPart) (rest : List ℕ) → sees_letter rest ≡ false → sees_letter (parts_text ps ++ rest) ≡ false
 no_letter [] rest h = h

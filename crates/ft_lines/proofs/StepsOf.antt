@@ -13,8 +13,8 @@ use Rattle.ft_lines.specs.declared.steps.Part.{Part}
 use Rattle.ft_lines.specs.declared.steps.Part.TheVariants.{Number, Slash}
 use Rattle.ft_lines.specs.Words.{spelling_of, word_of}
 use Rattle.ft_lines.specs.Steps.{part_of, IsWritten}
-use Rattle.ft_lines.specs.Written.{Told, Tells, first_numbers, behind_numbers, with_nothing, made, with_list, with_none, with_one, with_two, with_three, with_numbers, listed, with_second, moved_by, with_third, moved, slashed, after_number, step_of}
-use Rattle.ft_lines.proofs.Chains.{ok_ok, err_ok}
+use Rattle.ft_lines.specs.Written.{Told, Tells, first_numbers, behind_numbers, with_nothing, made, with_list, with_none, with_one, with_two, with_three, with_numbers, listed, with_second, moved_by, with_third, moved_argument, slashed, after_number, step_of}
+use Rattle.ft_common.proofs.Results.{ok_ok, err_ok}
 use Rattle.ft_lines.proofs.StepTexts.{word_of_spelling, value_of_part}
 
 none_told : {P : Type 0} (s : Stated) → ◌≡◌ {A = Told Stated} (Err Form) (Ok s) → P
@@ -268,7 +268,7 @@ third_is w r ns es (Slash ∷ Slash ∷ ps) s h = none_told s h
 third_is w r ns es (Slash ∷ Number q ∷ []) s h = moved_is w r ns es q s h
 third_is w r ns es (Slash ∷ Number q ∷ p ∷ ps) s h = none_told s h
 
-both_is : (w : Word) (r : ℕ) (ns : List ℕ) (ps : List Part) (s : Stated) → moved w r ns ps ≡ Ok s → IsWritten s w (Number r ∷ (map Number ns ++ ps))
+both_is : (w : Word) (r : ℕ) (ns : List ℕ) (ps : List Part) (s : Stated) → moved_argument w r ns ps ≡ Ok s → IsWritten s w (Number r ∷ (map Number ns ++ ps))
 both_is w r ns [] s h = none_told s h
 both_is w r ns (Number n ∷ ps) s h = none_told s h
 both_is w r ns (Slash ∷ ps) s h =
@@ -400,13 +400,13 @@ second_told r ns es =
     ∙ list_told (by_cong r ns) es
 
 third_told : (w : Word) (r : ℕ) (ns es : List ℕ) (q : ℕ)
-    → moved w r (first_numbers (map value_of_part (map number ns ++ (slash ∷ (map number es ++ (slash ∷ number q ∷ []))))))
+    → moved_argument w r (first_numbers (map value_of_part (map number ns ++ (slash ∷ (map number es ++ (slash ∷ number q ∷ []))))))
     (behind_numbers (map value_of_part (map number ns ++ (slash ∷ (map number es ++ (slash ∷ number q ∷ [])))))) ≡ moved_by w r ns es q
 third_told w r ns es q =
     let last = slash ∷ number q ∷ [] in
     let qs = map number es ++ last in
-    ap (moved w r (first_numbers (map value_of_part (map number ns ++ (slash ∷ qs))))) (behind_of ns qs)
-    ∙ ap (λ ms. moved w r ms (Slash ∷ map value_of_part qs)) (first_of ns qs)
+    ap (moved_argument w r (first_numbers (map value_of_part (map number ns ++ (slash ∷ qs))))) (behind_of ns qs)
+    ∙ ap (λ ms. moved_argument w r ms (Slash ∷ map value_of_part qs)) (first_of ns qs)
     ∙ ap (with_third w r ns (first_numbers (map value_of_part qs))) (behind_of es (number q ∷ []))
     ∙ ap (λ ms. with_third w r ns ms (Slash ∷ Number q ∷ [])) (first_of es (number q ∷ []))
 

@@ -8,12 +8,15 @@ use Rattle.ft_theory.specs.Small.{depth, depth_of_arguments, depth_of_terms, siz
 use Rattle.ft_items.specs.Texts.{joined, expression_text, argument_texts, term_texts, NumberFits, ItsNumbersFit, ArgumentNumbersFit, TermNumbersFit}
 use Rattle.ft_texts.proofs.Pieces.{wrapped}
 use Rattle.ft_syntax.specs.Arguments.{Argument, list_of_arguments, as_arguments}
+use Rattle.ft_syntax.specs.Laws.{arguments_listed}
 use Rattle.ft_lines.specs.declared.fault.Fault.TheVariants.{Form}
 use Rattle.ft_lines.specs.Reading.{Outcome, Reader, ◌>>=◌, and_then, pure, refuse, sees, sees_digit, passes, expect, number}
 use Rattle.ft_lines.specs.Expressions.{in_parentheses, small, terms_of, argument, bound_variable, free_variable, symbol_applied, meta_applied, application, level, expression_within, expression}
 use Rattle.ft_lines.proofs.Numbers.{number_is, number_read}
 use Rattle.ft_items.proofs.Smallness.{small_true, true_small}
-use Rattle.ft_lines.proofs.Chains.{err_ok, ok_ok, in_turn, by_test, taken, not_taken, taken_both, not_taken_both, taken_reader, not_taken_reader, sees_is, expected, sees_none}
+use Rattle.ft_common.proofs.Choices.{by_test, taken, not_taken}
+use Rattle.ft_common.proofs.Results.{err_ok, ok_ok}
+use Rattle.ft_lines.proofs.Chains.{in_turn, taken_both, not_taken_both, taken_reader, not_taken_reader, sees_is, expected, sees_none}
 use Rattle.ft_lines.proofs.Listed.{enclosed, Each, in_parentheses_is, IsReadBack, AreReadBack, in_parentheses_read}
 
 -- the text of an argument
@@ -182,11 +185,6 @@ pub expression_is : (e : Expression) (cs rest : List ℕ) → expression cs ≡ 
 expression_is e cs rest h = within_is 1000 e cs rest h
 
 -- ---- the text is read
-arguments_listed : (a : Arguments) → as_arguments (list_of_arguments a) ≡ a
-arguments_listed no_arguments = refl
-arguments_listed (with_body n e a) = ap (with_body n e) (arguments_listed a)
-arguments_listed (dummy n a) = ap (dummy n) (arguments_listed a)
-
 abbrev listed_terms : Terms → List Expression
 listed_terms no_terms = []
 listed_terms (also t a) = t ∷ listed_terms a

@@ -3,7 +3,7 @@ use Rattle.std.specs.Prelude.{ℕ, ◌==◌, ◌&&◌, not, Bool, true, if◌the
 use Rattle.std.specs.Str.{is_utf8, chars}
 use Rattle.ft_base.specs.Names.{is_name_token}
 use Rattle.ft_items.specs.Item.{Name}
-use Rattle.ft_lexer.specs.Fronts.{run}
+use Rattle.ft_common.specs.Digits.{run}
 use Rattle.ft_lines.specs.declared.fault.Fault.TheVariants.{Form}
 use Rattle.ft_lines.specs.Reading.{Outcome, Reader}
 

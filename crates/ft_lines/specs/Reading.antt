@@ -2,7 +2,7 @@
 -- ASCII but for names, so that a character is a byte.
 use Rattle.std.specs.Prelude.{ℕ, ◌^◌, ◌≡◌, ◌≢◌, ◌==◌, ◌||◌, nat_le, Bool, false, if◌then◌else◌, List, [], ◌∷◌, take, drop, Result, Ok, Err, Option, Some, None}
 use Rattle.std.specs.Char.{is_ascii_digit}
-use Rattle.ft_lexer.specs.Fronts.{run, decimal_value, has_leading_zero}
+use Rattle.ft_common.specs.Digits.{run, decimal_value, has_leading_zero}
 use Rattle.ft_lines.specs.declared.fault.Fault.{Fault}
 use Rattle.ft_lines.specs.declared.fault.Fault.TheVariants.{Form, Memory}
 

@@ -3,7 +3,7 @@ use Rattle.std.specs.Prelude.{ℕ, zero, suc, if◌then◌else◌, nat_le, ◌�
 use Rattle.std.specs.List.{flat_map}
 use Rattle.ft_items.specs.Item.{Stated}
 use Rattle.ft_items.specs.Texts.{Part as AnyPart, number as any_number, slash, part_text, written}
-use Rattle.ft_lexer.specs.Fronts.{run}
+use Rattle.ft_common.specs.Digits.{run}
 use Rattle.ft_lines.specs.declared.fault.Fault.TheVariants.{Form}
 use Rattle.ft_lines.specs.declared.words.Word.{Word}
 use Rattle.ft_lines.specs.declared.steps.Part.{Part}

@@ -117,14 +117,14 @@ abbrev pub with_third : Word → ℕ → List ℕ → List ℕ → List Part →
 with_third w r ns es (Slash ∷ Number q ∷ []) = moved_by w r ns es q
 with_third w r ns es ps = Err Form
 
-abbrev pub moved : Word → ℕ → List ℕ → List Part → Told Stated
-moved w r ns (Slash ∷ ps) = with_third w r ns (first_numbers ps) (behind_numbers ps)
-moved w r ns ps = Err Form
+abbrev pub moved_argument : Word → ℕ → List ℕ → List Part → Told Stated
+moved_argument w r ns (Slash ∷ ps) = with_third w r ns (first_numbers ps) (behind_numbers ps)
+moved_argument w r ns ps = Err Form
 
 -- a number and lists with slashes between them
 abbrev pub slashed : Word → ℕ → List Part → Told Stated
 slashed word.Cong r ps = with_second r (first_numbers ps) (behind_numbers ps)
-slashed w r ps = moved w r (first_numbers ps) (behind_numbers ps)
+slashed w r ps = moved_argument w r (first_numbers ps) (behind_numbers ps)
 
 -- a number, and what is told by what stands after it
 abbrev pub after_number : (ℕ → List Part → Told Stated) → List Part → Told Stated

@@ -2,7 +2,7 @@
 
 ghost use Rattle.std.specs.Prelude.{◌≡◌, ◌≤◌, ◌+◌, ◌*◌, ◌-◌, ◌^◌, drop, take, length, nat_le, Some, None, IfOk, if◌then◌else◌};
 ghost use Rattle.std.specs.Char.{is_ascii_digit};
-ghost use Rattle.ft_lexer.specs.Fronts.{run, decimal_value, has_leading_zero};
+ghost use Rattle.ft_common.specs.Digits.{run, decimal_value, has_leading_zero};
 ghost use Rattle.ft_lines.specs.Reading as spec;
 ghost use Rattle.ft_lines.specs.Lines.{ended};
 ghost use Rattle.ft_lines.specs.Names as names;

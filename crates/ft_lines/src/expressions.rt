@@ -8,19 +8,17 @@ ghost use Rattle.ft_lines.specs.Expressions.{ReadsTree, ReadsArgument, ReadsArgu
 
 use crate::cursor::Cursor;
 use crate::fault::Fault;
+use ft_base::limits::MAX_DEPTH;
 use ft_syntax::{Arg, E, SynFault, Terms};
 use sqlite_items::Items;
 use std::alloc::Global;
-
-// The greatest depth of a small expression.
-const DEPTH: usize = 1000;
 
 /// The expression that is next, in the table.
 pub fn expression(alloc: Global, terms: &mut Terms, text: &mut Cursor<'_>) -> Result<E, Fault>
     ensures reads { ReadsTree (spec.expression text.old) terms.new result text.new }
     ensures goes_on { Extends terms.old terms.new }
 {
-    expression_within(alloc, terms, text, DEPTH)
+    expression_within(alloc, terms, text, MAX_DEPTH as usize)
 }
 
 // The expression that is next, of no more than this depth.

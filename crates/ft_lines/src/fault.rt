@@ -3,21 +3,13 @@
 ghost use Rattle.std.specs.Prelude.{◌≡◌};
 ghost use Rattle.ft_lines.specs.declared.fault.Fault.TheVariants.{Memory};
 
-use std::alloc::{AllocError, AllocFailed};
+use std::alloc::AllocError;
 
 /// What stands here is not of the form, or memory was refused.
 #[derive(Clone, Copy, Debug, PartialEq, Eq, Drop)]
 pub enum Fault {
     Form,
     Memory,
-}
-
-impl From<ft_base::Memory> for Fault {
-    ghost from_gives = { λ _ e. e ≡ Memory };
-
-    fn from(_: ft_base::Memory) -> Fault {
-        Fault::Memory
-    }
 }
 
 impl From<AllocError> for Fault {
@@ -28,10 +20,10 @@ impl From<AllocError> for Fault {
     }
 }
 
-impl<T: Drop> From<AllocFailed<T>> for Fault {
+impl From<ft_base::Memory> for Fault {
     ghost from_gives = { λ _ e. e ≡ Memory };
 
-    fn from(_: AllocFailed<T>) -> Fault {
+    fn from(_: ft_base::Memory) -> Fault {
         Fault::Memory
     }
 }

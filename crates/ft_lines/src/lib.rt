@@ -6,14 +6,10 @@ pub mod entries;
 pub mod expressions;
 pub mod fault;
 pub mod laws;
-#[cfg(test)]
-mod line_tests;
 mod lines;
 pub mod sets;
 pub mod statements;
 pub mod steps;
-#[cfg(test)]
-mod tests;
 pub mod words;
 mod written;
 

@@ -165,7 +165,7 @@ fn one(alloc: Global, terms: &mut Terms, text: &mut Cursor<'_>) -> Result<E, Fau
 }
 
 // Two expressions, with a space before each.
-#[tactic(auto, using(crate::proofs::Reading::two_read, crate::proofs::Extending::extends_trans), unfolding(crate::specs::Statements::two))]
+#[tactic(auto, using(crate::proofs::Reading::two_read, ft_syntax::specs::Laws::extends_trans), unfolding(crate::specs::Statements::two))]
 fn two(alloc: Global, terms: &mut Terms, text: &mut Cursor<'_>) -> Result<(E, E), Fault>
     ensures reads { ReadsPair (spec.two text.old) terms.new result text.new }
     ensures goes_on { Extends terms.old terms.new }
@@ -176,7 +176,7 @@ fn two(alloc: Global, terms: &mut Terms, text: &mut Cursor<'_>) -> Result<(E, E)
 }
 
 // Three expressions, with a space before each.
-#[tactic(auto, using(crate::proofs::Reading::three_read, crate::proofs::Extending::extends_trans), unfolding(crate::specs::Statements::three))]
+#[tactic(auto, using(crate::proofs::Reading::three_read, ft_syntax::specs::Laws::extends_trans), unfolding(crate::specs::Statements::three))]
 fn three(alloc: Global, terms: &mut Terms, text: &mut Cursor<'_>) -> Result<(E, E, E), Fault>
     ensures reads { ReadsTriple (spec.three text.old) terms.new result text.new }
     ensures goes_on { Extends terms.old terms.new }

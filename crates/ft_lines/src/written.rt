@@ -172,7 +172,7 @@ fn slashed(alloc: Global, word: Word, r: u64, parts: &[Part]) -> Result<StatedSt
     let others = behind_numbers(parts);
     match word {
         Word::Cong => with_second(alloc, r, listed, others),
-        _ => moved(alloc, word, r, listed, others),
+        _ => moved_argument(alloc, word, r, listed, others),
     }
 }
 
@@ -185,14 +185,14 @@ fn with_second(alloc: Global, r: u64, listed: Numbers, parts: &[Part]) -> Result
     }
 }
 
-fn moved(
+fn moved_argument(
     alloc: Global,
     word: Word,
     r: u64,
     listed: Numbers,
     parts: &[Part],
 ) -> Result<StatedStep, Fault>
-    ensures { Tells stated_step (spec.moved word r listed parts.now) result }
+    ensures { Tells stated_step (spec.moved_argument word r listed parts.now) result }
 {
     match parts {
         [Part::Slash, others @ ..] => {

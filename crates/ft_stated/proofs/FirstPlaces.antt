@@ -1,26 +1,14 @@
 -- The first item that passes a test, as a list grows.
-use Rattle.std.proofs.Common.{◌≡◌, ℕ, zero, suc, ◌+◌, ◌<◌, nat_eq, ◌&&◌, Bool, true, false, cond, Option, Some, None, List, [], ◌∷◌, ◌++◌, refl, sym, ap, ap₂, ◌∙◌, length, arith}
+use Rattle.std.proofs.Common.{◌≡◌, ℕ, suc, ◌+◌, Bool, true, false, cond, Option, Some, None, List, [], ◌∷◌, ◌++◌, refl, sym, ap, ◌∙◌, length}
 use Rattle.std.specs.Prelude.{option_map, is_some}
 use Rattle.std.specs.Str.{bytes_eq}
 use Rattle.std.specs.Map.{lookup}
-use Rattle.std.proofs.lemmas.Bool.{eqb-true}
+use Rattle.std.proofs.lemmas.Slice.Eq.{bytes_eq-Decides}
 use Rattle.ft_items.specs.Item.{Name, Item}
 use Rattle.ft_items.specs.Good.{equal_names}
-use Rattle.ft_items.proofs.SetLemmas.{both, wrong}
+use Rattle.ft_items.proofs.Names.{bytes_eq-names}
+use Rattle.ft_items.proofs.SetLemmas.{wrong}
 use Rattle.ft_stated.specs.First.{first_place, or_place}
-
--- the test of the program is that of the definitions
-pub bytes_eq-names : (m n : Name) → bytes_eq m n ≡ equal_names m n
-bytes_eq-names [] [] = refl
-bytes_eq-names [] (d ∷ n) = refl
-bytes_eq-names (c ∷ m) [] = refl
-bytes_eq-names (c ∷ m) (d ∷ n) = ap (λ b. nat_eq c d && b) (bytes_eq-names m n)
-
-same_name : (m n : Name) → bytes_eq m n ≡ true → m ≡ n
-same_name [] [] t = refl
-same_name [] (d ∷ n) t = wrong t
-same_name (c ∷ m) [] t = wrong t
-same_name (c ∷ m) (d ∷ n) t = let b = both (nat_eq c d) (bytes_eq m n) t in ap₂ (λ c m. c ∷ m) (eqb-true c d b.0) (same_name m n b.1)
 
 -- the first place in a list with one more
 pub first_more : (p : Item → Bool) (items : List Item) (i : Item) → first_place p (items ++ i ∷ []) ≡ or_place (first_place p items) (p i) (length items)
@@ -58,7 +46,7 @@ name_new m old new k none h n = h n ∙ go (bytes_eq m n) refl
     placed (Some j) e = wrong (sym e)
 
     go : (b : Bool) → bytes_eq m n ≡ b → cond b (Some k) (lookup (bytes_eq n) old) ≡ or_place (lookup (bytes_eq n) old) (equal_names m n) k
-    go true t = placed (lookup (bytes_eq n) old) (ap (λ q. is_some (lookup (bytes_eq q) old)) (sym (same_name m n t)) ∙ none) ∙ ap (λ b. or_place (lookup (bytes_eq n) old) b k) (sym t ∙ bytes_eq-names m n)
+    go true t = placed (lookup (bytes_eq n) old) (ap (λ q. is_some (lookup (bytes_eq q) old)) (sym ((bytes_eq-Decides m n).0 t)) ∙ none) ∙ ap (λ b. or_place (lookup (bytes_eq n) old) b k) (sym t ∙ bytes_eq-names m n)
     go false f = kept (lookup (bytes_eq n) old) ∙ ap (λ b. or_place (lookup (bytes_eq n) old) b k) (sym f ∙ bytes_eq-names m n)
 
 -- where the name is there nothing changes
@@ -75,5 +63,5 @@ name_there m old k some n = go (bytes_eq m n) refl
     stays (Some j) e = refl
 
     go : (b : Bool) → bytes_eq m n ≡ b → lookup (bytes_eq n) old ≡ or_place (lookup (bytes_eq n) old) (equal_names m n) k
-    go true t = stays (lookup (bytes_eq n) old) (ap (λ q. is_some (lookup (bytes_eq q) old)) (sym (same_name m n t)) ∙ some) ∙ ap (λ b. or_place (lookup (bytes_eq n) old) b k) (sym t ∙ bytes_eq-names m n)
+    go true t = stays (lookup (bytes_eq n) old) (ap (λ q. is_some (lookup (bytes_eq q) old)) (sym ((bytes_eq-Decides m n).0 t)) ∙ some) ∙ ap (λ b. or_place (lookup (bytes_eq n) old) b k) (sym t ∙ bytes_eq-names m n)
     go false f = kept (lookup (bytes_eq n) old) ∙ ap (λ b. or_place (lookup (bytes_eq n) old) b k) (sym f ∙ bytes_eq-names m n)

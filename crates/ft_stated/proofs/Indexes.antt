@@ -1,34 +1,19 @@
 -- Indexes of items, and what is found by them.
 use Rattle.std.proofs.Common.{◌≡◌, ℕ, zero, suc, ◌+◌, ◌<◌, ◌≤◌, Bool, true, false, cond, Option, Some, None, List, [], ◌∷◌, ◌++◌, refl, sym, ap, ◌∙◌, subst, length, get_or, take, arith}
 use Rattle.std.specs.Prelude.{IfSome, IfNone}
-use Rattle.std.proofs.lemmas.List.{take-append-le, length-append, length-map}
+use Rattle.std.proofs.lemmas.List.{take-append-le, take_all, take_at, take_more, length-append, length-map, length-take-le, map-append}
 use Rattle.ft_theory.specs.Expressions.{Expression}
 use Rattle.ft_items.specs.Item.{Item, variable, metavariable, rule, entry, shown}
 use Rattle.ft_items.specs.Store.{nth, entries_in, metavariables_in, rules_in}
 use Rattle.ft_items.proofs.SetLemmas.{wrong}
-use Rattle.ft_items.proofs.Lists.{nth_before}
-use Rattle.ft_stated.specs.Lines.{item_in, items_in, StatedBelow, AllBelow}
+use Rattle.ft_items.proofs.Lists.{nth_before, nth_end, nth_there, nth_within}
+use Rattle.ft_stated.specs.Lines.{item_in, items_in, StatedBelow, AllStatedBelow}
 use Rattle.ft_stated.specs.Places.{is_entry, is_metavariable, is_rule, number_of, Stands, with_place, IsIndexOf, AreIndexes, EntryStands, MetavariableStands, RuleStands}
 use Rattle.ft_stated.specs.declared.stated.Stated.{Stated}
 
--- what stands at a place of a list
-pub nth_within : {A : Type 0} (xs : List A) (n : ℕ) (x : A) → nth xs n ≡ Some x → n < length xs
-nth_within [] n x h = let clash : None ≡ Some x = h in cc
-nth_within (y ∷ xs) zero x h = omega arith
-nth_within (y ∷ xs) (suc n) x h = let lt : n < length xs = nth_within xs n x h in omega (arith, lt)
-
-pub nth_there : {A : Type 0} (xs : List A) (n : ℕ) (d : A) → n < length xs → nth xs n ≡ Some (get_or xs n d)
-nth_there [] n d h = absurd (omega (arith, h))
-nth_there (y ∷ xs) zero d h = refl
-nth_there (y ∷ xs) (suc n) d h = nth_there xs n d (omega (arith, h))
-
+-- what is read at a place of a list
 pub nth_read : {A : Type 0} (xs : List A) (n : ℕ) (x : A) → n < length xs → x ≡ get_or xs n x → Some x ≡ nth xs n
 nth_read xs n x h e = ap Some e ∙ sym (nth_there xs n x h)
-
-pub nth_past : {A : Type 0} (xs : List A) (n : ℕ) → length xs ≤ n → nth xs n ≡ None
-nth_past [] n h = refl
-nth_past (y ∷ xs) zero h = absurd (omega (arith, h))
-nth_past (y ∷ xs) (suc n) h = nth_past xs n (omega (arith, h))
 
 nth_none : {A : Type 0} (xs : List A) (n : ℕ) → None ≡ nth xs n → length xs ≤ n
 nth_none [] n h = omega arith
@@ -41,14 +26,6 @@ nth_last P [] x old new zero y h = let same : x ≡ y = cc in subst (P 0) same n
 nth_last P [] x old new (suc n) y h = let clash : None ≡ Some y = h in cc
 nth_last P (z ∷ xs) x old new zero y h = old zero y h
 nth_last P (z ∷ xs) x old new (suc n) y h = nth_last (λ n. P (suc n)) xs x (λ n y e. old (suc n) y e) new n y h
-
-nth_end : {A : Type 0} (xs : List A) (x : A) → nth (xs ++ x ∷ []) (length xs) ≡ Some x
-nth_end [] x = refl
-nth_end (y ∷ xs) x = nth_end xs x
-
-take_end : {A : Type 0} (xs : List A) (x : A) → take (length xs) (xs ++ x ∷ []) ≡ xs
-take_end [] x = refl
-take_end (y ∷ xs) x = ap (λ z. y ∷ z) (take_end xs x)
 
 number_last : (p : Item → Bool) (items : List Item) (i : Item) → number_of p (items ++ i ∷ []) ≡ number_of p items + cond (p i) 1 0
 number_last p [] i = go (p i)
@@ -75,7 +52,7 @@ index_more p items i ks h = go (p i) refl
     go : (b : Bool) → p i ≡ b → IsIndexOf p (items ++ i ∷ []) (with_place b ks (length items))
     go true e = record {
       many = length-append ks (length items ∷ []) ∙ ap (λ n. n + 1) h.many ∙ sym (number_last p items i ∙ ap (λ b. number_of p items + cond b 1 0) e);
-      at = nth_last (Stands p (items ++ i ∷ [])) ks (length items) (λ n k s. stands_more p items i n k (h.at n k s)) (i, nth_end items i, e, ap (number_of p) (take_end items i) ∙ sym h.many);
+      at = nth_last (Stands p (items ++ i ∷ [])) ks (length items) (λ n k s. stands_more p items i n k (h.at n k s)) (i, nth_end items i, e, ap (number_of p) (take_at items (i ∷ []) (length items) refl) ∙ sym h.many);
     }
     go false e =
         let none : number_of p items + 0 ≡ number_of p items = omega arith in
@@ -84,41 +61,15 @@ index_more p items i ks h = go (p i) refl
           at = λ n k s. stands_more p items i n k (h.at n k s);
         }
 
-empty_index : (p : Item → Bool) → IsIndexOf p [] []
-empty_index p = record { many = refl; at = λ n k h. let clash : None ≡ Some k = h in cc }
-
-pub indexes_start : (ts : List Expression) (xs : List Stated) → AreIndexes (items_in ts (take 0 xs)) [] [] []
-indexes_start ts xs = (empty_index is_entry, empty_index is_metavariable, empty_index is_rule)
-
-take_next : {A : Type 0} (xs : List A) (k : ℕ) (d : A) → k < length xs → take (k + 1) xs ≡ take k xs ++ get_or xs k d ∷ []
-take_next [] k d h = absurd (omega (arith, h))
-take_next (x ∷ xs) zero d h = refl
-take_next (x ∷ xs) (suc k) d h = let e : suc k + 1 ≡ suc (k + 1) = omega arith in ap (λ n. take n (x ∷ xs)) e ∙ ap (λ z. x ∷ z) (take_next xs k d (omega (arith, h)))
-
-take_all : {A : Type 0} (xs : List A) (k : ℕ) → length xs ≤ k → take k xs ≡ xs
-take_all [] zero h = refl
-take_all [] (suc k) h = refl
-take_all (x ∷ xs) zero h = absurd (omega (arith, h))
-take_all (x ∷ xs) (suc k) h = ap (λ z. x ∷ z) (take_all xs k (omega (arith, h)))
-
-length_taken : {A : Type 0} (xs : List A) (k : ℕ) → k ≤ length xs → length (take k xs) ≡ k
-length_taken xs zero h = refl
-length_taken [] (suc k) h = absurd (omega (arith, h))
-length_taken (x ∷ xs) (suc k) h = ap suc (length_taken xs k (omega (arith, h)))
-
-items_last : (ts : List Expression) (xs : List Stated) (x : Stated) → items_in ts (xs ++ x ∷ []) ≡ items_in ts xs ++ item_in ts x ∷ []
-items_last ts [] x = refl
-items_last ts (y ∷ xs) x = ap (λ z. item_in ts y ∷ z) (items_last ts xs x)
-
 -- the items up to the next place
 pub taken_next : (ts : List Expression) (xs : List Stated) (k : ℕ) (x : Stated) → k < length xs → x ≡ get_or xs k x → items_in ts (take (k + 1) xs) ≡ items_in ts (take k xs) ++ item_in ts x ∷ []
-taken_next ts xs k x lt at = ap (items_in ts) (take_next xs k x lt ∙ ap (λ y. take k xs ++ y ∷ []) (sym at)) ∙ items_last ts (take k xs) x
+taken_next ts xs k x lt at = ap (items_in ts) (take_more xs k x lt ∙ ap (λ y. take k xs ++ y ∷ []) (sym at)) ∙ map-append (item_in ts) (take k xs) (x ∷ [])
 
 pub taken_many : (ts : List Expression) (xs : List Stated) (k : ℕ) → k < length xs → length (items_in ts (take k xs)) ≡ k
-taken_many ts xs k lt = length-map (take k xs) (item_in ts) ∙ length_taken xs k (omega (arith, lt))
+taken_many ts xs k lt = length-map (take k xs) (item_in ts) ∙ length-take-le k xs (omega (arith, lt))
 
 pub taken_all : (ts : List Expression) (xs : List Stated) (k : ℕ) → length xs ≤ k → items_in ts (take k xs) ≡ items_in ts xs
-taken_all ts xs k le = ap (items_in ts) (take_all xs k le)
+taken_all ts xs k le = ap (items_in ts) (take_all k xs le)
 
 -- the indexes of one more item
 pub indexes_next : (ts : List Expression) (xs : List Stated) (k place : ℕ) (x : Stated) (es ms rs es' ms' rs' : List ℕ)
@@ -244,7 +195,7 @@ item_at ts [] i d h = absurd (omega (arith, h))
 item_at ts (x ∷ xs) zero d h = refl
 item_at ts (x ∷ xs) (suc i) d h = item_at ts xs i d (omega (arith, h))
 
-pub below_at : (n : ℕ) (xs : List Stated) (i : ℕ) (d : Stated) → AllBelow n xs → i < length xs → StatedBelow n (get_or xs i d)
+pub below_at : (n : ℕ) (xs : List Stated) (i : ℕ) (d : Stated) → AllStatedBelow n xs → i < length xs → StatedBelow n (get_or xs i d)
 below_at n [] i d h lt = absurd (omega (arith, lt))
 below_at n (x ∷ xs) zero d h lt = h.0
 below_at n (x ∷ xs) (suc i) d h lt = below_at n xs i d h.1 (omega (arith, lt))

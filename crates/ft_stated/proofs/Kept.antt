@@ -1,11 +1,11 @@
 -- What is kept of a list of items, as it grows.
-use Rattle.std.proofs.Common.{◌≡◌, ℕ, ◌+◌, ◌<◌, ◌≤◌, nat_eq, Option, None, List, [], ◌∷◌, ◌++◌, refl, sym, ap, ap₂, ◌∙◌, subst, length, get_or, take}
+use Rattle.std.proofs.Common.{◌≡◌, ℕ, ◌+◌, ◌<◌, ◌≤◌, nat_eq, List, [], ◌∷◌, ◌++◌, sym, ap, ap₂, ◌∙◌, subst, length, get_or, take}
 use Rattle.std.specs.Str.{bytes_eq}
 use Rattle.std.specs.Map.{lookup}
 use Rattle.ft_theory.specs.Expressions.{Expression}
 use Rattle.ft_items.specs.Item.{Name, Item}
 use Rattle.ft_stated.specs.Lines.{item_in, items_in}
-use Rattle.ft_stated.specs.First.{first_place, greatest_up_to, is_variable_of, is_rule_of, number_after_all, or_place, AreFirsts}
+use Rattle.ft_stated.specs.First.{greatest_up_to, is_variable_of, is_rule_of, number_after_all, or_place, AreFirsts}
 use Rattle.ft_stated.specs.declared.firsts.Greatest.{Greatest}
 use Rattle.ft_stated.specs.declared.stated.Stated.{Stated}
 use Rattle.ft_stated.proofs.FirstPlaces.{first_more}
@@ -36,6 +36,3 @@ firsts_next ts xs k place x vs vs' rs rs' gs gs' h lt at is v r g =
 
 pub firsts_end : (ts : List Expression) (xs : List Stated) (k : ℕ) (vs : List (ℕ × ℕ)) (rs : List (Name × ℕ)) (gs : List Greatest) → AreFirsts (items_in ts (take k xs)) vs rs gs → length xs ≤ k → AreFirsts (items_in ts xs) vs rs gs
 firsts_end ts xs k vs rs gs h le = subst (λ X. AreFirsts X vs rs gs) (taken_all ts xs k le) h
-
-pub firsts_start : AreFirsts [] [] [] []
-firsts_start = record { variables_are = λ w. refl; rules_are = λ n. refl; greatest_are = refl }

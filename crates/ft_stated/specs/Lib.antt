@@ -1,4 +1,5 @@
 pub mod First
-pub mod Steps
+pub mod Laws
 pub mod Lines
 pub mod Places
+pub mod Steps

@@ -35,6 +35,6 @@ StatedBelow n (Boundary x S s) = BoundaryBelow n x
 StatedBelow n (Shown p) = Unit {0}
 
 -- each expression of all that is stated is among the first n trees
-abbrev pub AllBelow : ℕ → List Stated → Type 0
-AllBelow n [] = Unit {0}
-AllBelow n (x ∷ xs) = StatedBelow n x × AllBelow n xs
+abbrev pub AllStatedBelow : ℕ → List Stated → Type 0
+AllStatedBelow n [] = Unit {0}
+AllStatedBelow n (x ∷ xs) = StatedBelow n x × AllStatedBelow n xs

@@ -89,14 +89,12 @@ impl Firsts {
         ensures greatest { (ts : List Expression) → OnOk result (self.new.greatest.items ≡ self.old.greatest.items ++ greatest_up_to place (number_after_all self.old.greatest.items) (item_in ts x.now ∷ [])) }
     {
         match x {
-            Stated::Var(number, _, _) => self.note_variable(place, *number)?,
-            Stated::Met(..) => {}
-            Stated::Rule(name, _, _) => self.note_rule(place, name)?,
-            Stated::Thesis(..) => {}
-            Stated::Boundary(..) => {}
-            Stated::Shown(_) => {}
+            Stated::Var(number, _, _) => self.note_variable(place, *number),
+            Stated::Rule(name, _, _) => self.note_rule(place, name),
+            Stated::Met(..) | Stated::Thesis(..) | Stated::Boundary(..) | Stated::Shown(_) => Ok(
+                (),
+            ),
         }
-        Ok(())
     }
 
     // What is kept of what is stated.

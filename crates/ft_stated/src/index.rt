@@ -25,12 +25,10 @@ impl Index {
         ensures rules { (ts : List Expression) → OnOk result (self.new.rules.items ≡ with_place (is_rule (item_in ts x.now)) self.old.rules.items place) }
     {
         match x {
-            Stated::Var(..) => {}
+            Stated::Thesis(..) | Stated::Boundary(..) => self.entries.push(place)?,
             Stated::Met(..) => self.metavariables.push(place)?,
             Stated::Rule(..) => self.rules.push(place)?,
-            Stated::Thesis(..) => self.entries.push(place)?,
-            Stated::Boundary(..) => self.entries.push(place)?,
-            Stated::Shown(_) => {}
+            Stated::Var(..) | Stated::Shown(_) => {}
         }
         Ok(())
     }

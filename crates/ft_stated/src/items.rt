@@ -2,7 +2,7 @@
 
 ghost use Rattle.std.specs.Prelude.{◌≡◌, ◌<◌, ◌≤◌, length, take, Some, IfOk, IfSome, IfNone};
 ghost use Rattle.ft_items.specs.Store.{nth, entries_in, variables_in, metavariables_in, rules_in};
-ghost use Rattle.ft_stated.specs.Lines.{item_in, items_in, StatedBelow, AllBelow};
+ghost use Rattle.ft_stated.specs.Lines.{item_in, items_in, StatedBelow, AllStatedBelow};
 ghost use Rattle.ft_stated.specs.Places.{EntryStands, MetavariableStands, RuleStands};
 ghost use Rattle.ft_stated.specs.First.{first_place, greatest_number, is_rule_of, is_variable_of};
 
@@ -16,14 +16,14 @@ use std::marker::Model;
 /// The items that a file states, with the table of their expressions. Contracts see the trees of the table and the list of
 /// items, of which nothing is known but that their expressions are in the table.
 #[derive(Drop)]
-pub struct Items {
+pub struct StatedItems {
     terms: Terms,
     stated: Vec<Stated>,
     index: Index,
     firsts: Firsts,
 }
 
-impl Model for Items {
+impl Model for StatedItems {
     ghost use Rattle.std.specs.Coded.{codes};
     ghost use Rattle.ft_syntax.specs.Code.{coded_expression};
     ghost use Rattle.ft_judge.specs.Code.{coded_statement};
@@ -34,24 +34,24 @@ impl Model for Items {
     ghost coded = { Prim.hlevel (codes, coded_expression, coded_statement) };
 
     ghost use Rattle.std.specs.Prelude.{length};
-    ghost use Rattle.ft_stated.specs.Lines.{items_in, AllBelow};
+    ghost use Rattle.ft_stated.specs.Lines.{items_in, AllStatedBelow};
     ghost use Rattle.ft_stated.specs.Places.{AreIndexes};
     ghost use Rattle.ft_stated.specs.First.{AreFirsts};
 
     ghost view = { λ x. record { trees = x.terms; items = items_in x.terms x.stated.items } };
 
-    ghost invariant = { λ x. AllBelow (length x.terms) x.stated.items × AreIndexes (items_in x.terms x.stated.items) x.index.entries.items x.index.metavariables.items x.index.rules.items × AreFirsts (items_in x.terms x.stated.items) x.firsts.variables.entries x.firsts.rules.entries x.firsts.greatest.items };
+    ghost invariant = { λ x. AllStatedBelow (length x.terms) x.stated.items × AreIndexes (items_in x.terms x.stated.items) x.index.entries.items x.index.metavariables.items x.index.rules.items × AreFirsts (items_in x.terms x.stated.items) x.firsts.variables.entries x.firsts.rules.entries x.firsts.greatest.items };
 }
 
-impl Items {
+impl StatedItems {
     /// The items that are stated over the table.
-    pub fn new(terms: Terms, stated: Vec<Stated>) -> Result<Items, Memory>
-        requires { AllBelow (length terms) stated.items }
+    pub fn new(terms: Terms, stated: Vec<Stated>) -> Result<StatedItems, Memory>
+        requires { AllStatedBelow (length terms) stated.items }
         ensures { IfOk result (λ x. x ≡ record { trees = terms; items = items_in terms stated.items }) }
     {
         let index = Index::of(*stated.allocator(), &stated)?;
         let firsts = Firsts::of(*stated.allocator(), &stated)?;
-        Ok(Items {
+        Ok(StatedItems {
             terms,
             stated,
             index,
@@ -130,7 +130,7 @@ impl Items {
 }
 
 // The place of the item of a number in an index.
-#[tactic(auto, using(crate::proofs::Indexes::nth_read, crate::proofs::Indexes::nth_past))]
+#[tactic(auto, using(crate::proofs::Indexes::nth_read, ft_items::proofs::Lists::nth_past))]
 fn place_at(places: &[u64], n: u64) -> Option<u64>
     ensures { result ≡ nth places.now n }
 {

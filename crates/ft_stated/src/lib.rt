@@ -7,10 +7,8 @@ mod items;
 mod numbers;
 mod stated;
 mod step;
-#[cfg(test)]
-mod tests;
 
-pub use items::Items;
+pub use items::StatedItems;
 pub use numbers::Numbers;
 pub use stated::Stated;
 pub use step::StatedStep;

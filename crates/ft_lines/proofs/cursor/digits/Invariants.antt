@@ -1,6 +1,6 @@
 use Rattle.std.proofs.Common.{◌≡◌, ◌+◌, drop}
 use Rattle.std.specs.Char.{is_ascii_digit}
-use Rattle.ft_lexer.specs.Fronts.{run}
+use Rattle.ft_common.specs.Digits.{run}
 use Rattle.ft_lines.proofs.cursor.digits.Given as goal
 
 abbrev pub invariant-loop-c : goal.invariant-loop-c

@@ -1,5 +1,5 @@
 use Rattle.std.proofs.Common.{◌≡◌, ◌+◌, drop}
-use Rattle.ft_lexer.specs.Fronts.{run}
+use Rattle.ft_common.specs.Digits.{run}
 use Rattle.ft_lines.specs.Steps.{is_letter}
 use Rattle.ft_lines.proofs.cursor.letters.Given as goal
 

@@ -1,5 +1,5 @@
 use Rattle.std.proofs.Common.{◌≡◌, ◌<◌, ◌^◌, drop}
-use Rattle.ft_lexer.specs.Fronts.{decimal_value}
+use Rattle.ft_common.specs.Digits.{decimal_value}
 use Rattle.ft_lines.proofs.cursor.value.Given as goal
 
 abbrev pub invariant-loop-c : goal.invariant-loop-c

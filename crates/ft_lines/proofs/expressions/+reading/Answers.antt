@@ -1,9 +1,9 @@
 use Rattle.std.proofs.Common.{◌≡◌, ◌∙◌, ◌++◌, ◌∷◌, [], sym, subst, ap, arith, length, map}
 use Rattle.ft_syntax.specs.Table.{tree, argument_in, ArgumentsBelow, AllBelow}
 use Rattle.ft_syntax.specs.declared.syntax.Arg.{Arg}
-use Rattle.ft_lines.proofs.Extending.{extends_trans}
+use Rattle.ft_syntax.specs.Laws.{extends_trans}
 use Rattle.ft_lines.specs.Expressions.{expression_within, argument}
-use Rattle.ft_lines.proofs.Turns.{deeper}
+use Rattle.ft_common.proofs.Turns.{deeper}
 use Rattle.ft_lines.proofs.Items.{items_more, items_last}
 use Rattle.ft_lines.proofs.Forming.{arguments_more, arguments_below, terms_more, terms_below}
 use Rattle.ft_lines.proofs.expressions.+reading.Goals as goal

@@ -1,7 +1,7 @@
 use Rattle.std.proofs.Common.{rules, arith}
 use Rattle.std.proofs.lemmas.Grind.{common_steps}
 use Rattle.ft_lines.specs.Sets.{atoms_from}
-use Rattle.ft_lines.proofs.Turns.{one_more}
+use Rattle.ft_common.proofs.Turns.{one_more}
 use Rattle.ft_lines.proofs.sets.atoms.Goals as goal
 
 pub loop-turn-preserved : goal.loop-turn-preserved

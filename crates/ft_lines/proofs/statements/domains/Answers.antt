@@ -1,6 +1,6 @@
 use Rattle.std.proofs.Common.{◌≡◌, ◌∙◌, ◌++◌, ◌∷◌, [], sym, subst, ap, length, map}
 use Rattle.ft_syntax.specs.Table.{tree, AllBelow}
-use Rattle.ft_lines.proofs.Extending.{extends_trans}
+use Rattle.ft_syntax.specs.Laws.{extends_trans}
 use Rattle.ft_lines.proofs.Forming.{terms_more, terms_below}
 use Rattle.ft_lines.proofs.Reading.{domains_more}
 use Rattle.ft_lines.proofs.statements.domains.Goals as goal

@@ -2,7 +2,6 @@ use Rattle.std.proofs.Common.{rules, ◌≡◌, true, false, Some, cond, subst}
 use Rattle.std.specs.Prelude.{is_some}
 use Rattle.std.specs.Str.{bytes_eq}
 use Rattle.std.specs.Map.{lookup}
-use Rattle.ft_items.specs.Item.{Name}
 use Rattle.ft_stated.proofs.FirstPlaces.{name_new, name_there}
 use Rattle.ft_stated.proofs.firsts.Firsts.note_rule.Goals as goal
 

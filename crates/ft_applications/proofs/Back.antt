@@ -2,9 +2,9 @@
 use Rattle.std.proofs.Common.{◌≡◌, ◌∙◌, sym, ap, refl, ℕ, zero, suc, ◌≤◌, ◌<◌, List, [], ◌∷◌, ◌++◌, Ok, Err, Result, Some, None, append_assoc, append-nil, length, false, if◌then◌else◌, arith}
 use lib.ListN.{length-append}
 use Rattle.ft_base.specs.declared.word.Word.TheVariants as word
-use Rattle.ft_lexer.specs.declared.token.Mark.TheVariants as mark
-use Rattle.ft_lexer.specs.declared.token.Kind.{Kind}
-use Rattle.ft_lexer.specs.declared.token.Kind.TheVariants as kind
+use Rattle.ft_grammar.specs.declared.token.Mark.TheVariants as mark
+use Rattle.ft_grammar.specs.declared.token.Kind.{Kind}
+use Rattle.ft_grammar.specs.declared.token.Kind.TheVariants as kind
 use Rattle.ft_applications.specs.declared.fault.Fault.{Fault}
 use Rattle.ft_applications.specs.declared.syntax.Application.{Application}
 use Rattle.ft_applications.specs.declared.syntax.Application.TheVariants as application

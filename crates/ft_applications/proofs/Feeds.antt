@@ -3,11 +3,12 @@ use Rattle.std.proofs.Common.{◌≡◌, ◌∙◌, sym, ap, refl, ℕ, zero, su
 use Rattle.std.specs.List.{list_all}
 use Rattle.std.proofs.Math.Utf8.{encode}
 use Rattle.std.proofs.lemmas.Str.{encode_ascii}
-use Rattle.std.proofs.lemmas.Bool.{eqb-true}
+use Rattle.std.proofs.lemmas.Bool.{eqb-true, and_from}
 use Rattle.std.proofs.lemmas.List.Folds.{list_all-append}
 use Rattle.unicode_ident.specs.Ident.{is_xid_start, is_xid_continue}
 use Rattle.unicode_ident.proofs.Computing.{unicode_ident}
 use Rattle.ft_base.specs.Names.{is_name_token, starts_name}
+use Rattle.ft_common.proofs.Booleans.{and_left, and_right}
 use Rattle.ft_theory.specs.Expressions.{Expression, bound, free, symbol, meta, Arguments, no_arguments, with_body, dummy}
 use Rattle.ft_theory.specs.Statements.{Claim, is_type, has_type, equal_types, equal_terms, type_goal, term_goal, type_equation_goal, term_equation_goal}
 use Rattle.ft_applications.specs.Texts.{name_text, symbol_text, expression_text, rest_text, claim_text}
@@ -16,25 +17,14 @@ use Rattle.ft_applications.specs.OneLine.{has_no_line_feed, IsLine}
 
 -- ---- tests
 
-pub left_of : (a b : Bool) → (a && b) ≡ true → a ≡ true
-left_of true b h = refl
-left_of false b h = cc
-
-pub right_of : (a b : Bool) → (a && b) ≡ true → b ≡ true
-right_of true b h = h
-right_of false b h = cc
-
-both_of : (a b : Bool) → a ≡ true → b ≡ true → (a && b) ≡ true
-both_of a b h k = cc
-
 pub joined : (p : ℕ → Bool) (a b : List ℕ) → list_all p a ≡ true → list_all p b ≡ true → list_all p (a ++ b) ≡ true
-joined p a b h k = list_all-append p a b ∙ both_of (list_all p a) (list_all p b) h k
+joined p a b h k = list_all-append p a b ∙ and_from (list_all p a) (list_all p b) h k
 
 pub joined_left : (p : ℕ → Bool) (a b : List ℕ) → list_all p (a ++ b) ≡ true → list_all p a ≡ true
-joined_left p a b h = left_of _ _ (sym (list_all-append p a b) ∙ h)
+joined_left p a b h = and_left _ _ (sym (list_all-append p a b) ∙ h)
 
 pub joined_right : (p : ℕ → Bool) (a b : List ℕ) → list_all p (a ++ b) ≡ true → list_all p b ≡ true
-joined_right p a b h = right_of _ _ (sym (list_all-append p a b) ∙ h)
+joined_right p a b h = and_right _ _ (sym (list_all-append p a b) ∙ h)
 
 -- ---- names
 
@@ -58,23 +48,23 @@ plain_low : (c : ℕ) → is_plain_character c ≡ true → nat_lt c 128 ≡ tru
 plain_low c h = grind arith
 
 pub continues_name : (c : ℕ) → is_plain_character c ≡ true → is_xid_continue c ≡ true → in_name c ≡ true
-continues_name c plain h = both_of _ _ (plain_low c plain) (unless_ten c _ refl (λ e. let no : true ≡ false = sym h ∙ ap is_xid_continue e ∙ no_feed_continues in cc))
+continues_name c plain h = and_from _ _ (plain_low c plain) (unless_ten c _ refl (λ e. let no : true ≡ false = sym h ∙ ap is_xid_continue e ∙ no_feed_continues in cc))
 
 starts_no_feed : (c : ℕ) → starts_name c ≡ true → c ≡ 10 → ⊥
 starts_no_feed c h e = let no : true ≡ false = sym h ∙ ap starts_name e ∙ no_feed_starts in cc
 
 pub starts_a_name : (c : ℕ) → is_plain_character c ≡ true → starts_name c ≡ true → in_name c ≡ true
-starts_a_name c plain h = both_of _ _ (plain_low c plain) (unless_ten c _ refl (starts_no_feed c h))
+starts_a_name c plain h = and_from _ _ (plain_low c plain) (unless_ten c _ refl (starts_no_feed c h))
 
 all_continue : (cs : List ℕ) → list_all is_plain_character cs ≡ true → list_all is_xid_continue cs ≡ true → list_all in_name cs ≡ true
 all_continue [] plain h = refl
-all_continue (c ∷ cs) plain h = both_of _ _ (continues_name c (left_of _ _ plain) (left_of _ _ h)) (all_continue cs (right_of _ _ plain) (right_of _ _ h))
+all_continue (c ∷ cs) plain h = and_from _ _ (continues_name c (and_left _ _ plain) (and_left _ _ h)) (all_continue cs (and_right _ _ plain) (and_right _ _ h))
 
 pub name_clean : (n : List ℕ) → list_all is_plain_character n ≡ true → is_name_token n ≡ true → list_all in_name n ≡ true
 name_clean [] plain h = refl
 name_clean (c ∷ cs) plain h =
-    let two = left_of (starts_name c && list_all is_xid_continue cs) _ (left_of _ _ h) in
-    both_of _ _ (starts_a_name c (left_of _ _ plain) (left_of (starts_name c) _ two)) (all_continue cs (right_of _ _ plain) (right_of (starts_name c) _ two))
+    let two = and_left (starts_name c && list_all is_xid_continue cs) _ (and_left _ _ h) in
+    and_from _ _ (starts_a_name c (and_left _ _ plain) (and_left (starts_name c) _ two)) (all_continue cs (and_right _ _ plain) (and_right (starts_name c) _ two))
 
 below_128 : (c : ℕ) → nat_lt c 128 ≡ true → c < 128
 below_128 c h = grind arith
@@ -84,8 +74,8 @@ pub name_free : (n : List ℕ) → list_all in_name n ≡ true → has_no_line_f
 name_free [] h = refl
 name_free (c ∷ cs) h =
     joined _ (encode c) (name_text cs)
-    (ap has_no_line_feed (encode_ascii c (below_128 c (left_of _ _ (left_of (in_name c) _ h)))) ∙ both_of _ _ (right_of (nat_lt c 128) _ (left_of (in_name c) _ h)) refl)
-    (name_free cs (right_of (in_name c) _ h))
+    (ap has_no_line_feed (encode_ascii c (below_128 c (and_left _ _ (and_left (in_name c) _ h)))) ∙ and_from _ _ (and_right (nat_lt c 128) _ (and_left (in_name c) _ h)) refl)
+    (name_free cs (and_right (in_name c) _ h))
 
 -- ---- claims
 

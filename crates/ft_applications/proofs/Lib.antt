@@ -1,4 +1,3 @@
-pub mod Turns
 pub mod Back
 pub mod Sound
 pub mod SoundCommands

@@ -5,11 +5,11 @@ use Rattle.std.specs.Str.{chars}
 use Rattle.std.proofs.lemmas.Str.{chars-IsAscii}
 use Rattle.ft_theory.specs.Rules.{Rule}
 use Rattle.ft_theory.specs.Statements.{Claim}
-use Rattle.ft_lexer.specs.declared.token.Kind.{Kind}
-use Rattle.ft_lexer.specs.declared.token.Kind.TheVariants as kind
-use Rattle.ft_lexer.specs.declared.token.Token.{Token}
-use Rattle.ft_lexer.specs.Tokens.{tokens_of}
-use Rattle.ft_lexer.specs.Made.{IsMadeOf, IsSpelled}
+use Rattle.ft_grammar.specs.declared.token.Kind.{Kind}
+use Rattle.ft_grammar.specs.declared.token.Kind.TheVariants as kind
+use Rattle.ft_grammar.specs.declared.token.Token.{Token}
+use Rattle.ft_grammar.specs.Tokens.{tokens_of}
+use Rattle.ft_grammar.specs.Made.{IsMadeOf, IsSpelled}
 use Rattle.ft_applications.specs.declared.syntax.Command.{Command}
 use Rattle.ft_applications.specs.declared.syntax.Command.TheVariants as command
 use Rattle.ft_applications.specs.Reading.{kinds}
@@ -17,11 +17,13 @@ use Rattle.ft_applications.specs.Grammar.{IsCommand, AreCommands}
 use Rattle.ft_items.specs.Good.{is_new}
 use Rattle.ft_applications.specs.Building.{Declaration, names, claim_of, declared, with_rule}
 use Rattle.ft_applications.specs.Events.{Event, accepts, repeats, shows, event_of_rule, done, events, run_of}
-use Rattle.ft_applications.specs.Transcript.{IsSource, is_plain_character, repeated_line, text_of, status_of}
+use Rattle.ft_applications.specs.Transcript.{IsPlainSource, is_plain_character, repeated_line, text_of, status_of}
 use Rattle.ft_applications.specs.OneLine.{IsLine, AreLines}
 use Rattle.ft_applications.proofs.Plain.{plain_is_ascii}
-use Rattle.ft_applications.proofs.Lines.{some_same, none_some, first_then, not_both}
-use Rattle.ft_applications.proofs.Feeds.{in_name, joined_left, joined_right, right_of, name_clean, AreClean, accepted_is_line, repeated_is_line, shown_is_line}
+use Rattle.std.proofs.lemmas.Option.{none-some, same_Some}
+use Rattle.ft_common.proofs.Booleans.{and_right}
+use Rattle.ft_applications.proofs.Lines.{first_then}
+use Rattle.ft_applications.proofs.Feeds.{in_name, joined_left, joined_right, name_clean, AreClean, accepted_is_line, repeated_is_line, shown_is_line}
 
 -- ---- names among tokens
 
@@ -44,7 +46,7 @@ spelled_clean kind.End spelling is plain = tt
 
 made_clean : (at : ℕ) (text : List ℕ) (tokens : List Token) → IsMadeOf at text tokens → list_all is_plain_character text ≡ true → AreCleanKinds (kinds tokens)
 made_clean _ _ _ (IsMadeOf.at_end at) plain = (tt, tt)
-made_clean _ _ _ (IsMadeOf.space at c rest tokens is made) plain = made_clean _ rest tokens made (right_of (is_plain_character c) _ plain)
+made_clean _ _ _ (IsMadeOf.space at c rest tokens is made) plain = made_clean _ rest tokens made (and_right (is_plain_character c) _ plain)
 made_clean _ _ _ (IsMadeOf.comment at line rest tokens all ends made) plain = made_clean _ rest tokens made (joined_right is_plain_character (codes "--" ++ line) rest plain)
 made_clean _ _ _ (IsMadeOf.token at k c cs rest tokens is made) plain =
     (spelled_clean k (c ∷ cs) is (joined_left is_plain_character (c ∷ cs) rest plain), made_clean _ rest tokens made (joined_right is_plain_character (c ∷ cs) rest plain))
@@ -96,13 +98,13 @@ rule_clean ds n R h k = go (is_new (names ds) n)
 
 declared_clean : (ds : List Declaration) (n : List ℕ) (o : Option Rule) (s : List Declaration × Event) → AreClean (names ds) → list_all in_name n ≡ true
     → option_map (λ R. (with_rule ds n R, event_of_rule ds n R)) o ≡ Some s → IsStep s
-declared_clean ds n None s h k e = absurd (none_some s e)
-declared_clean ds n (Some R) s h k e = subst IsStep (some_same _ s e) (rule_clean ds n R h k)
+declared_clean ds n None s h k e = absurd (none-some s e)
+declared_clean ds n (Some R) s h k e = subst IsStep (same_Some _ s e) (rule_clean ds n R h k)
 
 shown_clean : (ds : List Declaration) (o : Option Claim) (s : List Declaration × Event) → AreClean (names ds)
     → option_map (λ c. (ds, shows ds c)) o ≡ Some s → IsStep s
-shown_clean ds None s h e = absurd (none_some s e)
-shown_clean ds (Some c) s h e = subst IsStep (some_same _ s e) (h, h)
+shown_clean ds None s h e = absurd (none-some s e)
+shown_clean ds (Some c) s h e = subst IsStep (same_Some _ s e) (h, h)
 
 done_clean : (ds : List Declaration) (c : Command) (s : List Declaration × Event) → AreClean (names ds) → IsCleanCommand c → done ds c ≡ Some s → IsStep s
 done_clean ds (command.Rule n ps c) s h k e = declared_clean ds n (declared ds ps c) s h k e
@@ -114,7 +116,7 @@ AreCleanEvents [] = Unit {0}
 AreCleanEvents (e ∷ es) = IsCleanEvent e × AreCleanEvents es
 
 events_clean : (ds : List Declaration) (cs : List Command) (es : List Event) → AreClean (names ds) → AreCleanCommands cs → events ds cs ≡ Some es → AreCleanEvents es × (length es ≡ length cs)
-events_clean ds [] es h k e = subst (λ es. AreCleanEvents es × (length es ≡ zero)) (some_same [] es e) (tt, refl)
+events_clean ds [] es h k e = subst (λ es. AreCleanEvents es × (length es ≡ zero)) (same_Some [] es e) (tt, refl)
 events_clean ds (c ∷ cs) es h k e =
     let one = first_then (λ ds. events ds cs) (done ds c) es e in
     let step = done_clean ds c one.0 h k.0 one.1.1.0 in
@@ -124,29 +126,29 @@ events_clean ds (c ∷ cs) es h k e =
 lines_of_all : (es : List Event) → AreCleanEvents es → status_of es ≡ 0 → AreLines (length es) (text_of es)
 lines_of_all [] h z = AreLines.no_line
 lines_of_all (accepts d ∷ es) h z = AreLines.next_line (accepted_is_line d.name h.0) (lines_of_all es h.1 z)
-lines_of_all (repeats n ∷ es) h z = absurd (not_both 9 refl z)
+lines_of_all (repeats n ∷ es) h z = absurd (omega (arith, z))
 lines_of_all (shows ds c ∷ es) h z = AreLines.next_line (shown_is_line (names ds) c h.0) (lines_of_all es h.1 z)
 
 one_line : (line : List ℕ) → IsLine line → AreLines 1 line
 one_line line h = subst (AreLines 1) (append-nil line) (AreLines.next_line h AreLines.no_line)
 
 lines_of_run : (es : List Event) → AreCleanEvents es → status_of es ≡ 9 → AreLines (suc (length (run_of es))) (text_of es)
-lines_of_run [] h z = absurd (not_both 0 z refl)
+lines_of_run [] h z = absurd (omega (arith, z))
 lines_of_run (accepts d ∷ es) h z = AreLines.next_line (accepted_is_line d.name h.0) (lines_of_run es h.1 z)
 lines_of_run (repeats n ∷ es) h z = one_line (repeated_line n) (repeated_is_line n h.0)
 lines_of_run (shows ds c ∷ es) h z = AreLines.next_line (shown_is_line (names ds) c h.0) (lines_of_run es h.1 z)
 
-clean_of : ((text : List ℕ) → IsMadeOf 0 text (tokens_of text)) → (bs : List ℕ) (cs : List Command) (es : List Event) → IsSource bs cs → events [] cs ≡ Some es → AreCleanEvents es × (length es ≡ length cs)
+clean_of : ((text : List ℕ) → IsMadeOf 0 text (tokens_of text)) → (bs : List ℕ) (cs : List Command) (es : List Event) → IsPlainSource bs cs → events [] cs ≡ Some es → AreCleanEvents es × (length es ≡ length cs)
 clean_of made bs cs es s e =
     let plain : list_all is_plain_character (chars bs) ≡ true = ap (list_all is_plain_character) (chars-IsAscii bs (plain_is_ascii bs s.characters)) ∙ s.characters in
     events_clean [] cs es tt (commands_clean cs (kinds (tokens_of (chars bs))) s.grammar (made_clean 0 (chars bs) (tokens_of (chars bs)) (made (chars bs)) plain)) e
 
-pub one_line_each : ((text : List ℕ) → IsMadeOf 0 text (tokens_of text)) → (bs : List ℕ) (cs : List Command) (es : List Event) → IsSource bs cs → events [] cs ≡ Some es → status_of es ≡ 0 → AreLines (length cs) (text_of es)
+pub one_line_each : ((text : List ℕ) → IsMadeOf 0 text (tokens_of text)) → (bs : List ℕ) (cs : List Command) (es : List Event) → IsPlainSource bs cs → events [] cs ≡ Some es → status_of es ≡ 0 → AreLines (length cs) (text_of es)
 one_line_each made bs cs es s e z =
     let clean = clean_of made bs cs es s e in
     subst (λ n. AreLines n (text_of es)) clean.1 (lines_of_all es clean.0 z)
 
-pub one_line_each_run : ((text : List ℕ) → IsMadeOf 0 text (tokens_of text)) → (bs : List ℕ) (cs : List Command) (es : List Event) → IsSource bs cs → events [] cs ≡ Some es → status_of es ≡ 9
+pub one_line_each_run : ((text : List ℕ) → IsMadeOf 0 text (tokens_of text)) → (bs : List ℕ) (cs : List Command) (es : List Event) → IsPlainSource bs cs → events [] cs ≡ Some es → status_of es ≡ 9
     → AreLines (length (run_of es) + 1) (text_of es)
 one_line_each_run made bs cs es s e z =
     let one : suc (length (run_of es)) ≡ length (run_of es) + 1 = omega arith in

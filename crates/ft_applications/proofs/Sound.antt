@@ -1,13 +1,16 @@
 -- What is read is in the grammar.
-use Rattle.std.proofs.Common.{◌≡◌, ◌∙◌, sym, ap, refl, subst, ℕ, zero, suc, List, [], ◌∷◌, ◌++◌, Ok, Err, Result, Option, Some, None, append_assoc, append-nil, length, drop, true, false, Bool, if◌then◌else◌}
+use Rattle.std.proofs.Common.{◌≡◌, ◌∙◌, sym, ap, refl, subst, ℕ, zero, suc, List, [], ◌∷◌, ◌++◌, Ok, Err, Option, Some, None, append_assoc, append-nil, length, drop, true, if◌then◌else◌}
 use Rattle.ft_base.specs.declared.word.Word.{Word}
 use Rattle.ft_base.specs.declared.word.Word.TheVariants as word
 use Rattle.ft_base.specs.contracts.word.WordPartialEq.TheImpl as word_eq
-use Rattle.ft_lexer.specs.declared.token.Mark.{Mark}
-use Rattle.ft_lexer.specs.declared.token.Mark.TheVariants as mark
-use Rattle.ft_lexer.specs.contracts.token.MarkPartialEq.TheImpl as mark_eq
-use Rattle.ft_lexer.specs.declared.token.Kind.{Kind}
-use Rattle.ft_lexer.specs.declared.token.Kind.TheVariants as kind
+use Rattle.ft_common.proofs.Booleans.{false_true}
+use Rattle.ft_common.proofs.Choices.{by_test, taken, not_taken}
+use Rattle.ft_common.proofs.Results.{ok_ok, err_ok}
+use Rattle.ft_grammar.specs.declared.token.Mark.{Mark}
+use Rattle.ft_grammar.specs.declared.token.Mark.TheVariants as mark
+use Rattle.ft_grammar.specs.contracts.token.MarkPartialEq.TheImpl as mark_eq
+use Rattle.ft_grammar.specs.declared.token.Kind.{Kind}
+use Rattle.ft_grammar.specs.declared.token.Kind.TheVariants as kind
 use Rattle.ft_applications.specs.declared.fault.Fault.TheVariants.{NotYet}
 use Rattle.ft_applications.specs.declared.syntax.Application.{Application}
 use Rattle.ft_applications.specs.declared.syntax.Application.TheVariants as application
@@ -16,33 +19,11 @@ use Rattle.ft_applications.specs.declared.syntax.Premise.TheVariants as premise
 use Rattle.ft_applications.specs.Reading.{◌>>=◌, go_on, Outcome, Reader, and_then, expression, level, name, one_argument, arguments_from, expect_mark, sees_mark, sees_name, sees_word, premise_inside}
 use Rattle.ft_applications.specs.Grammar.{left, right, colon, type_word, IsApplication, AreArguments, applied, no_argument, name_alone, in_parentheses, IsPremise, type_premise, term_premise}
 
-pub err_ok : {A B : Type 0} (e : B) (a : A) → ◌≡◌ {A = Result A B} (Err e) (Ok a) → ⊥
-err_ok e a h = cc
-
-pub ok_ok : {A B : Type 0} (a b : A) → ◌≡◌ {A = Result A B} (Ok a) (Ok b) → a ≡ b
-ok_ok a b h = cc
-
 -- what was read by two readers in turn was read by the first, and then by the second
 pub in_turn : {A B : Type 0} (o : Outcome A) (f : A → Reader B) (b : B) (ts : List Kind) → and_then o f ≡ Ok (b, ts)
     → (p : A × List Kind) × (o ≡ Ok p) × (f p.0 p.1 ≡ Ok (b, ts))
 in_turn (Ok p) f b ts h = (p, refl, h)
 in_turn (Err e) f b ts h = absurd (err_ok e (b, ts) h)
-
--- a choice by a test
-pub by_test : {P : Type 0} (b : Bool) → (b ≡ true → P) → (b ≡ false → P) → P
-by_test true f g = f refl
-by_test false f g = g refl
-
-pub false_true : false ≡ true → ⊥
-false_true h = cc
-
-pub taken : {A : Type 0} {r : A} (x y : A) (b : Bool) → b ≡ true → (if b then x else y) ≡ r → x ≡ r
-taken x y true e h = h
-taken x y false e h = absurd (false_true e)
-
-pub not_taken : {A : Type 0} {r : A} (x y : A) (b : Bool) → b ≡ false → (if b then x else y) ≡ r → y ≡ r
-not_taken x y true e h = absurd (false_true (sym e))
-not_taken x y false e h = h
 
 pub name_is : (ts : List Kind) (n : List ℕ) (rest : List Kind) → name ts ≡ Ok (n, rest) → ts ≡ kind.Name n ∷ rest
 unfolding name

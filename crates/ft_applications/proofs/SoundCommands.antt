@@ -1,9 +1,9 @@
 -- What is read of a whole source is in the grammar.
 use Rattle.std.proofs.Common.{◌≡◌, ◌∙◌, sym, ap, refl, subst, ℕ, zero, suc, List, [], ◌∷◌, ◌++◌, Ok, Err, Option, Some, None, append_assoc, append-nil, length, drop, true, if◌then◌else◌}
 use Rattle.ft_base.specs.declared.word.Word.TheVariants as word
-use Rattle.ft_lexer.specs.declared.token.Mark.TheVariants as mark
-use Rattle.ft_lexer.specs.declared.token.Kind.{Kind}
-use Rattle.ft_lexer.specs.declared.token.Kind.TheVariants as kind
+use Rattle.ft_grammar.specs.declared.token.Mark.TheVariants as mark
+use Rattle.ft_grammar.specs.declared.token.Kind.{Kind}
+use Rattle.ft_grammar.specs.declared.token.Kind.TheVariants as kind
 use Rattle.ft_applications.specs.declared.fault.Fault.TheVariants.{NotYet}
 use Rattle.ft_applications.specs.declared.syntax.Premise.{Premise}
 use Rattle.ft_applications.specs.declared.syntax.Conclusion.{Conclusion}
@@ -12,7 +12,10 @@ use Rattle.ft_applications.specs.declared.syntax.Command.{Command}
 use Rattle.ft_applications.specs.declared.syntax.Command.TheVariants as command
 use Rattle.ft_applications.specs.Reading.{◌>>=◌, go_on, Outcome, Reader, and_then, expression, name, expect_mark, sees_mark, sees_word, sees_end, premise_inside, one_premise, premises_from, concluded, rule, show, one_command, commands_from, source, value_of}
 use Rattle.ft_applications.specs.Grammar.{left, right, colon, type_word, ArePremises, no_premise, next_premise, IsConclusion, type_conclusion, term_conclusion, IsCommand, a_rule, a_show, AreCommands, the_end, next_command}
-use Rattle.ft_applications.proofs.Sound.{err_ok, ok_ok, in_turn, by_test, false_true, taken, not_taken, name_is, left_only, right_only, colon_only, type_only, rule_only, show_only, mark_is, expected, word_is, application_is, PremiseAnswer, inside_is}
+use Rattle.ft_common.proofs.Booleans.{false_true}
+use Rattle.ft_common.proofs.Choices.{by_test, taken, not_taken}
+use Rattle.ft_common.proofs.Results.{ok_ok, err_ok}
+use Rattle.ft_applications.proofs.Sound.{in_turn, name_is, left_only, right_only, colon_only, type_only, rule_only, show_only, mark_is, expected, word_is, application_is, PremiseAnswer, inside_is}
 
 premise_closed : (us rest : List Kind) (o : Option Premise)
     → (premise_inside >>= (λ given. expect_mark mark.RightParen >>= (λ _. λ us. Ok (Some given, us)))) us ≡ Ok (o, rest) → PremiseAnswer o (left ∷ us) rest

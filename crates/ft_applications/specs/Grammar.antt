@@ -2,9 +2,9 @@
 -- a command has nesting 1, and one in parentheses has nesting 1 greater than the expression around it.
 use Rattle.std.specs.Prelude.{ℕ, suc, List, [], ◌∷◌, ◌++◌}
 use Rattle.ft_base.specs.declared.word.Word.TheVariants as word
-use Rattle.ft_lexer.specs.declared.token.Mark.TheVariants as mark
-use Rattle.ft_lexer.specs.declared.token.Kind.{Kind}
-use Rattle.ft_lexer.specs.declared.token.Kind.TheVariants as kind
+use Rattle.ft_grammar.specs.declared.token.Mark.TheVariants as mark
+use Rattle.ft_grammar.specs.declared.token.Kind.{Kind}
+use Rattle.ft_grammar.specs.declared.token.Kind.TheVariants as kind
 use Rattle.ft_applications.specs.declared.syntax.Application.{Application}
 use Rattle.ft_applications.specs.declared.syntax.Application.TheVariants as application
 use Rattle.ft_applications.specs.declared.syntax.Premise.{Premise}

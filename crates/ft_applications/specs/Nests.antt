@@ -2,7 +2,7 @@
 use Rattle.std.specs.Prelude.{ℕ, Result, List}
 use Rattle.std.specs.declared.alloc.Global.{Global}
 use denote.Ref.{MutBor}
-use Rattle.ft_lexer.specs.declared.token.Kind.{Kind}
+use Rattle.ft_grammar.specs.declared.token.Kind.{Kind}
 use Rattle.ft_applications.specs.declared.fault.Fault.{Fault}
 use Rattle.ft_applications.specs.declared.syntax.Application.{Application}
 use Rattle.ft_applications.specs.Reading.{Reads, expression}

@@ -3,12 +3,12 @@ use Rattle.std.specs.Prelude.{ℕ, zero, suc, ◌≡◌, ◌≢◌, Bool, true, 
 use Rattle.ft_base.specs.declared.word.Word.{Word}
 use Rattle.ft_base.specs.declared.word.Word.TheVariants as word
 use Rattle.ft_base.specs.contracts.word.WordPartialEq.TheImpl as word_eq
-use Rattle.ft_lexer.specs.declared.token.Mark.{Mark}
-use Rattle.ft_lexer.specs.declared.token.Mark.TheVariants as mark
-use Rattle.ft_lexer.specs.contracts.token.MarkPartialEq.TheImpl as mark_eq
-use Rattle.ft_lexer.specs.declared.token.Kind.{Kind}
-use Rattle.ft_lexer.specs.declared.token.Kind.TheVariants as kind
-use Rattle.ft_lexer.specs.declared.token.Token.{Token}
+use Rattle.ft_grammar.specs.declared.token.Mark.{Mark}
+use Rattle.ft_grammar.specs.declared.token.Mark.TheVariants as mark
+use Rattle.ft_grammar.specs.contracts.token.MarkPartialEq.TheImpl as mark_eq
+use Rattle.ft_grammar.specs.declared.token.Kind.{Kind}
+use Rattle.ft_grammar.specs.declared.token.Kind.TheVariants as kind
+use Rattle.ft_grammar.specs.declared.token.Token.{Token}
 use Rattle.ft_applications.specs.declared.fault.Fault.{Fault}
 use Rattle.ft_applications.specs.declared.fault.Fault.TheVariants.{NotYet, Memory}
 use Rattle.ft_applications.specs.declared.syntax.Application.{Application}

@@ -5,7 +5,7 @@ use Rattle.std.specs.List.{list_all}
 use Rattle.ft_theory.specs.Statements.{Claim, plain}
 use Rattle.ft_theory.specs.Rules.{Rule}
 use Rattle.ft_theory.specs.Steps.{Prim}
-use Rattle.ft_lexer.specs.Tokens.{tokens_of}
+use Rattle.ft_grammar.specs.Tokens.{tokens_of}
 use Rattle.ft_applications.specs.declared.syntax.Command.{Command}
 use Rattle.ft_applications.specs.Reading.{kinds}
 use Rattle.ft_applications.specs.Grammar.{AreCommands}
@@ -20,7 +20,7 @@ is_plain_character c =
     || c == 32 || c == 10 || c == 40 || c == 41 || c == 58
 
 -- the bytes are the source of these commands: plain characters, and tokens of the grammar
-pub record IsSource (bytes : List ℕ) (cs : List Command) : Type 0 where
+pub record IsPlainSource (bytes : List ℕ) (cs : List Command) : Type 0 where
   pub characters : list_all is_plain_character bytes ≡ true
   pub grammar : AreCommands cs (kinds (tokens_of (chars bytes)))
 
@@ -86,5 +86,5 @@ not_yet_line = codes "error not yet" ++ line_feed
 -- The transcript of a source: where its commands are built, the lines of their run, with its status; else one line, with
 -- status 7.
 pub data IsTranscript (bytes : List ℕ) : List ℕ → ℕ → Type 0 where
-  of_commands : (cs : List Command) (es : List Event) → IsSource bytes cs → events [] cs ≡ Some es → IsTranscript bytes (text_of es) (status_of es)
-  of_another : ((cs : List Command) (es : List Event) → IsSource bytes cs → events [] cs ≡ Some es → ⊥) → IsTranscript bytes not_yet_line 7
+  of_commands : (cs : List Command) (es : List Event) → IsPlainSource bytes cs → events [] cs ≡ Some es → IsTranscript bytes (text_of es) (status_of es)
+  of_another : ((cs : List Command) (es : List Event) → IsPlainSource bytes cs → events [] cs ≡ Some es → ⊥) → IsTranscript bytes not_yet_line 7

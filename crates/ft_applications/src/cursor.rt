@@ -5,7 +5,7 @@ ghost use Rattle.ft_applications.specs.Reading.{Reads};
 
 use crate::fault::Fault;
 use ft_base::{Name, Word};
-use ft_lexer::{Kind, Mark, Token};
+use ft_grammar::{Kind, Mark, Token};
 use std::marker::Model;
 
 #[derive(Drop)]
@@ -14,7 +14,7 @@ pub struct Cursor<'a> {
 }
 
 impl<'a> Model for Cursor<'a> {
-    ghost use Rattle.ft_lexer.specs.declared.token.Kind.{Kind};
+    ghost use Rattle.ft_grammar.specs.declared.token.Kind.{Kind};
     ghost use Rattle.std.specs.Prelude.{List};
     ghost use Rattle.ft_applications.specs.Reading.{kinds};
 

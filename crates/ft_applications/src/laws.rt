@@ -1,13 +1,13 @@
 //! Laws of the grammar and of the transcript.
 ghost use Rattle.std.specs.Prelude.{◌≡◌, ◌++◌, ◌+◌, ℕ, List, [], Ok, Some, length};
-ghost use Rattle.ft_lexer.specs.declared.token.Kind.{Kind as TokenKind};
+ghost use Rattle.ft_grammar.specs.declared.token.Kind.{Kind as TokenKind};
 ghost use Rattle.ft_applications.specs.declared.syntax.Command.{Command as Tree};
 ghost use Rattle.ft_applications.specs.Reading as spec;
 ghost use Rattle.ft_applications.specs.Grammar.{AreCommands};
 ghost use Rattle.ft_applications.specs.Building.{Declaration};
 ghost use Rattle.ft_applications.specs.Events.{Event, events, run_of};
 ghost use Rattle.ft_applications.specs.OneLine.{AreLines};
-ghost use Rattle.ft_applications.specs.Transcript.{IsSource, IsTranscript, text_of, status_of};
+ghost use Rattle.ft_applications.specs.Transcript.{IsPlainSource, IsTranscript, text_of, status_of};
 
 use ft_lexer::laws::a_text_is_made_of_its_tokens;
 
@@ -41,8 +41,8 @@ pub fn lines_go_on()
 /// Where the commands of a source are built, there is one line for each; or, where a rule has the name of an earlier one, for
 /// each of the commands before it, and one more.
 pub fn one_line_for_each_command()
-    ensures all { (bytes : List ℕ) (cs : List Tree) (es : List Event) → IsSource bytes cs → events [] cs ≡ Some es → status_of es ≡ 0 → AreLines (length cs) (text_of es) }
-    ensures ended { (bytes : List ℕ) (cs : List Tree) (es : List Event) → IsSource bytes cs → events [] cs ≡ Some es → status_of es ≡ 9 → AreLines (length (run_of es) + 1) (text_of es) }
+    ensures all { (bytes : List ℕ) (cs : List Tree) (es : List Event) → IsPlainSource bytes cs → events [] cs ≡ Some es → status_of es ≡ 0 → AreLines (length cs) (text_of es) }
+    ensures ended { (bytes : List ℕ) (cs : List Tree) (es : List Event) → IsPlainSource bytes cs → events [] cs ≡ Some es → status_of es ≡ 9 → AreLines (length (run_of es) + 1) (text_of es) }
 {
     a_text_is_made_of_its_tokens();
 }

@@ -7,8 +7,6 @@ mod laws;
 mod reader;
 mod source;
 mod syntax;
-#[cfg(test)]
-mod tests;
 
 pub use fault::Fault;
 pub use laws::{

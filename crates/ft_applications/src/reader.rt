@@ -8,12 +8,13 @@ use crate::cursor::Cursor;
 use crate::fault::Fault;
 use crate::syntax::{Application, Command, Conclusion, Premise};
 use ft_base::Word;
-use ft_lexer::{Mark, Token};
+use ft_base::limits::MAX_NESTING;
+use ft_grammar::{Mark, Token};
 use sqlite_items::Items;
 use std::alloc::Global;
 
 // The deepest nesting of a source's applications.
-const NESTING: usize = 200;
+const NESTING: usize = MAX_NESTING as usize;
 
 // The rules for applications take the reader of applications one level deeper, so that each is proved by itself.
 #[derive(Clone, Copy)]

@@ -2,9 +2,9 @@
 ghost use Rattle.std.specs.Prelude.{◌≡◌, IfOk, IfSome, IfNone, IsErrOf, List, true, false};
 ghost use Rattle.std.specs.List.{list_all};
 ghost use Rattle.std.specs.Str.{chars as chars_of};
-ghost use Rattle.ft_lexer.specs.Tokens.{tokens_of};
+ghost use Rattle.ft_grammar.specs.Tokens.{tokens_of};
 ghost use Rattle.ft_applications.specs.Reading.{kinds, source, ReadsAll};
-ghost use Rattle.ft_applications.specs.Transcript.{IsSource, is_plain_character};
+ghost use Rattle.ft_applications.specs.Transcript.{IsPlainSource, is_plain_character};
 ghost use Rattle.ft_applications.specs.declared.fault.Fault.TheVariants as fault;
 ghost use Rattle.ft_applications.specs.declared.syntax.Command.{Command as Tree};
 
@@ -53,9 +53,9 @@ fn plain_text(bytes: &[u8]) -> Option<&str>
 /// The commands of a source, or `NotYet` where it is the source of none in this language.
 #[tactic(auto, using(crate::proofs::Plain::source_is, crate::proofs::Plain::only_source, crate::proofs::Plain::no_source))]
 pub fn read_source(alloc: Global, bytes: &[u8]) -> Result<Items<Command>, Fault>
-    ensures commands { IfOk result (λ cs. IsSource bytes.now cs) }
-    ensures only { IfOk result (λ cs. (ds : List Tree) → IsSource bytes.now ds → ds ≡ cs) }
-    ensures none { IsErrOf result fault.NotYet → (cs : List Tree) → IsSource bytes.now cs → ⊥ }
+    ensures commands { IfOk result (λ cs. IsPlainSource bytes.now cs) }
+    ensures only { IfOk result (λ cs. (ds : List Tree) → IsPlainSource bytes.now ds → ds ≡ cs) }
+    ensures none { IsErrOf result fault.NotYet → (cs : List Tree) → IsPlainSource bytes.now cs → ⊥ }
 {
     match plain_text(bytes) {
         None => Err(Fault::NotYet),

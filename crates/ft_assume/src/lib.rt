@@ -3,8 +3,6 @@
 
 mod assume;
 mod atom;
-#[cfg(test)]
-mod tests;
 
 pub use assume::Assume;
 pub use atom::Atom;

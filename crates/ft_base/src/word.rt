@@ -1,6 +1,6 @@
 //! The words that are no names.
 
-ghost use Rattle.std.specs.Prelude.{◌≡◌, find};
+ghost use Rattle.std.specs.Prelude.{◌≡◌, ◌∷◌, ℕ, List, find};
 ghost use Rattle.std.specs.Str.{bytes_eq};
 ghost use Rattle.ft_base.specs.Words.{word_of, spelling_of};
 
@@ -57,58 +57,6 @@ pub enum Word {
     Principal,
     Derive,
 }
-
-// All words.
-const WORDS: [Word; 48] = [
-    Word::Rule,
-    Word::TypeWord,
-    Word::Let,
-    Word::In,
-    Word::If,
-    Word::Then,
-    Word::Else,
-    Word::Match,
-    Word::With,
-    Word::End,
-    Word::Handle,
-    Word::Val,
-    Word::Perform,
-    Word::Operation,
-    Word::Computation,
-    Word::Extensionality,
-    Word::Show,
-    Word::By,
-    Word::TrueWord,
-    Word::FalseWord,
-    Word::SomeWord,
-    Word::NoneWord,
-    Word::Nil,
-    Word::Judgement,
-    Word::Boundary,
-    Word::Unit,
-    Word::Bool,
-    Word::List,
-    Word::Option,
-    Word::Refl,
-    Word::Sym,
-    Word::Trans,
-    Word::Convert,
-    Word::Left,
-    Word::Right,
-    Word::Typeof,
-    Word::Domain,
-    Word::Natural,
-    Word::Normal,
-    Word::Boundaryof,
-    Word::Equal,
-    Word::Widen,
-    Word::Rewrite,
-    Word::Fill,
-    Word::Argument,
-    Word::Congruence,
-    Word::Principal,
-    Word::Derive,
-];
 
 impl Word {
     /// The characters of the word, all of them letters of ASCII.
@@ -171,7 +119,45 @@ impl Word {
     pub fn of(spelling: &[char]) -> Option<Word>
         ensures { result ≡ word_of spelling.now }
     {
-        first_spelled(&WORDS, spelling)
+        match spelling {
+            [] => None,
+            [first, ..] => first_spelled(words_from(*first), spelling),
+        }
+    }
+}
+
+// The words that begin with the letter.
+fn words_from(letter: char) -> &'static [Word]
+    ensures { (rest : List ℕ) → find (λ w. bytes_eq (spelling_of w) (letter ∷ rest)) result.now ≡ word_of (letter ∷ rest) }
+{
+    match letter {
+        'a' => &[Word::Argument],
+        'b' => &[Word::By, Word::Boundary, Word::Bool, Word::Boundaryof],
+        'c' => &[Word::Computation, Word::Convert, Word::Congruence],
+        'd' => &[Word::Domain, Word::Derive],
+        'e' => &[Word::Else, Word::End, Word::Extensionality, Word::Equal],
+        'f' => &[Word::FalseWord, Word::Fill],
+        'h' => &[Word::Handle],
+        'i' => &[Word::In, Word::If],
+        'j' => &[Word::Judgement],
+        'l' => &[Word::Let, Word::List, Word::Left],
+        'm' => &[Word::Match],
+        'n' => &[Word::NoneWord, Word::Nil, Word::Natural, Word::Normal],
+        'o' => &[Word::Operation, Word::Option],
+        'p' => &[Word::Perform, Word::Principal],
+        'r' => &[Word::Rule, Word::Refl, Word::Right, Word::Rewrite],
+        's' => &[Word::Show, Word::SomeWord, Word::Sym],
+        't' => &[
+            Word::TypeWord,
+            Word::Then,
+            Word::TrueWord,
+            Word::Trans,
+            Word::Typeof,
+        ],
+        'u' => &[Word::Unit],
+        'v' => &[Word::Val],
+        'w' => &[Word::With, Word::Widen],
+        _ => &[],
     }
 }
 

@@ -5,18 +5,15 @@ use Rattle.std.proofs.lemmas.Str.{encodes-append, encodes-IsAscii, encode_ascii}
 use Rattle.std.proofs.lemmas.Fmt.{IsAscii-decimal}
 use Rattle.ft_base.specs.Names.{is_name_token}
 use Rattle.ft_theory.specs.Expressions.{Expression}
-use Rattle.ft_theory.specs.Statements.{Statement, plain}
+use Rattle.ft_theory.specs.Statements.{Statement}
 use Rattle.ft_items.specs.Sets.{Atom, Ascending}
-use Rattle.ft_items.specs.Equal.{is_thesis, is_thesis_claim}
+use Rattle.ft_items.specs.Equal.{is_thesis}
 use Rattle.ft_items.specs.Item.{Stated, Name, Entry, variable, metavariable, rule, entry, shown}
 use Rattle.ft_items.specs.Texts.{spaced, statement_text, set_text, step_text, line_text, Part, number, written, NumberFits, EachNumberFits, StatementFits, EachAtomFits, PartsFit, EntryFits}
 use Rattle.ft_texts.proofs.Pieces.{Each}
 use Rattle.ft_texts.proofs.Characters.{line_each}
-use Rattle.ft_judge.specs.Meaning.{claim_in, goal_in, under, thesis_in, boundary_in}
-use Rattle.ft_judge.specs.declared.judgement.Form.{Form}
-use Rattle.ft_judge.specs.declared.judgement.Form.TheVariants as form
-use Rattle.ft_judge.specs.declared.judgement.Goal.{Goal}
-use Rattle.ft_judge.specs.declared.judgement.Goal.TheVariants as goal
+use Rattle.ft_judge.specs.Meaning.{thesis_in, boundary_in}
+use Rattle.ft_judge.specs.Laws.{thesis_is, boundary_is}
 use Rattle.ft_judge.specs.declared.judgement.Thesis.{Thesis}
 use Rattle.ft_judge.specs.declared.judgement.Boundary.{Boundary}
 use Rattle.ft_kernel.specs.Steps.{step_of}
@@ -164,28 +161,6 @@ entry_line x S s b old a d new h t ea ed e =
     let o1 = more after_space l (statement_text x ∷ []) (set_text S ∷ []) old d (codes " " ++ set_text S) f o (sym (append-nil (codes " " ++ set_text S))) (append_assoc d (codes " ") (set_text S)) in
     let o2 = more after_space l (statement_text x ∷ set_text S ∷ []) (step_text s ∷ []) old f (codes " " ++ step_text s) new o1 (sym (append-nil (codes " " ++ step_text s))) (e ∙ append_assoc f (codes " ") (step_text s)) in
     (h, o2 ∙ ap (λ b. old ++ spaced (letter_of b ∷ statement_text x ∷ set_text S ∷ step_text s ∷ [])) (sym t) ∙ ap (λ z. old ++ z) (sym (entry_plain (record { statement = x; set = S; step = s }) h)))
-
-under_same : (ts : List Expression) (ds : List ℕ) (x : Statement) → is_thesis (under ts ds x) ≡ is_thesis x
-under_same ts [] x = refl
-under_same ts (d ∷ ds) x = under_same ts ds x
-
-thesis_is : (ts : List Expression) (x : Thesis) → is_thesis (thesis_in ts x) ≡ true
-thesis_is ts x = under_same ts x.domains (plain (claim_in ts x.form)) ∙ go x.form
-  where
-    go : (f : Form) → is_thesis_claim (claim_in ts f) ≡ true
-    go (form.Ty A) = refl
-    go (form.Tm t A) = refl
-    go (form.EqTy A B) = refl
-    go (form.EqTm s t A) = refl
-
-boundary_is : (ts : List Expression) (x : Boundary) → is_thesis (boundary_in ts x) ≡ false
-boundary_is ts x = under_same ts x.domains (plain (goal_in ts x.goal)) ∙ go x.goal
-  where
-    go : (g : Goal) → is_thesis_claim (goal_in ts g) ≡ false
-    go goal.Ty = refl
-    go (goal.Tm A) = refl
-    go (goal.EqTy A B) = refl
-    go (goal.EqTm s t A) = refl
 
 pub thesis_line : (ts : List Expression) (x : Thesis) (S : List Atom) (s : Step) (old a d new : List ℕ) → StatementFits (thesis_in ts x) → Ascending S → EachAtomFits S → PartsFit (written (step_of s)).1
     → a ≡ old ++ codes "J " → d ≡ a ++ statement_text (thesis_in ts x) → new ≡ d ++ codes " " ++ set_text S ++ codes " " ++ step_text (step_of s)

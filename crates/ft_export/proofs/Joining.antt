@@ -25,10 +25,6 @@ joined_next f s (y ∷ ys) (suc i) x b g first next =
     let later : b ≡ s = next (λ z. absurd (omega (arith, z))) in
     ap (λ z. f y ++ z) (further_next f s ys i x g) ∙ glue (f y) r s (f x) ∙ ap (λ b. (f y ++ r) ++ b ++ f x) (sym later)
 
-pub on_ok : {A E P Q : Type 0} (x : Result A E) → (P → Q) → OnOk x P → OnOk x Q
-on_ok (Ok a) f h = f h
-on_ok (Err e) f h = tt
-
 -- the next of the joined texts, after what was written before it
 pub written_next : {A : Type 0} (f : A → List ℕ) (s : List ℕ) (xs : List A) (i : ℕ) (x : A) (b start out mid new : List ℕ) → slice_get xs i ≡ Some x → (i ≡ 0 → b ≡ []) → (i ≢ 0 → b ≡ s)
     → out ≡ start ++ joined s (map f (take i xs)) → mid ≡ out ++ b → new ≡ mid ++ f x → new ≡ start ++ joined s (map f (take (suc i) xs))
@@ -43,10 +39,6 @@ flat_next f (y ∷ ys) (suc i) x g = ap (λ z. f y ++ z) (flat_next f ys i x g) 
 -- an element that was read
 pub read_at : {A : Type 0} (xs : List A) (i : ℕ) (x : A) → i < length xs → x ≡ get_or xs i x → slice_get xs i ≡ Some x
 read_at xs i x l e = slice_get_read xs (length xs) i x refl l e
-
-pub on_any : {A E P : Type 0} (x : Result A E) → P → OnOk x P
-on_any (Ok a) h = h
-on_any (Err e) h = tt
 
 pub on_both : {A E P Q R S T : Type 0} (x : Result A E) → (P → Q → R → S → T) → OnOk x P → OnOk x Q → OnOk x R → OnOk x S → OnOk x T
 on_both (Ok a) f p q r s = f p q r s

@@ -5,5 +5,3 @@ pub mod Numbers
 pub mod Encoding
 pub mod Places
 pub mod Whole
-pub mod Lengths
-pub mod Pushed

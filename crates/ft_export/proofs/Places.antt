@@ -6,17 +6,10 @@ use Rattle.ft_theory.specs.Statements.{Statement}
 use Rattle.ft_items.specs.Item.{Stated, Name, Entry, Item, variable, metavariable, rule, entry, shown}
 use Rattle.ft_items.specs.Store.{Assertion, nth, empty_store, annotated, entries_in, variables_in, metavariables_in, rules_in}
 use Rattle.ft_items.specs.Good.{Good, is_next}
-use Rattle.ft_items.proofs.Lists.{good_split, store_is}
+use Rattle.ft_common.proofs.Options.{one_value}
+use Rattle.ft_items.proofs.Lists.{good_split, store_is, annotated_number}
 use Rattle.ft_items.proofs.SetLemmas.{both}
 use Rattle.ft_kernel.specs.State.{variable_numbered}
-
-pub nth_within : {A : Type 0} (xs : List A) (n : ℕ) (x : A) → nth xs n ≡ Some x → n < length xs
-nth_within [] n x h = absurd (clash h)
-  where
-    clash : {A : Type 0} {x : A} → None ≡ Some x → ⊥
-    clash e = cc
-nth_within (y ∷ xs) zero x h = omega arith
-nth_within (y ∷ xs) (suc n) x h = omega (arith, nth_within xs n x h)
 
 pub entry_place : (items : List Item) (i : ℕ) (e : Entry) → nth items i ≡ Some (entry e) → nth (entries_in items) (length (entries_in (take i items))) ≡ Some (record { statement = e.statement; set = e.set })
 entry_place [] i e h = cc
@@ -75,11 +68,7 @@ all_before es [] v h = tt
 all_before es (x ∷ xs) v h =
     let rest = map (λ (x : ℕ × Name × ℕ). annotated x (nth es x.2)) xs in
     let k : (nat_lt (annotated x (nth es x.2)).0 v ≡ true) × (is_next rest v ≡ true) = both (nat_lt (annotated x (nth es x.2)).0 v) (is_next rest v) h in
-    (ltb-true x.0 v (ap (λ u. nat_lt u v) (sym (its_number (nth es x.2))) ∙ k.0), all_before es xs v k.1)
-  where
-    its_number : (o : Option Assertion) → (annotated x o).0 ≡ x.0
-    its_number None = refl
-    its_number (Some a) = refl
+    (ltb-true x.0 v (ap (λ u. nat_lt u v) (sym (annotated_number x (nth es x.2))) ∙ k.0), all_before es xs v k.1)
 
 -- the variable at a place of a good list is that of its number
 variable_place : (items : List Item) (i v : ℕ) (n : Name) (p : ℕ) → Good items → nth items i ≡ Some (variable v n p) → variable_numbered (variables_in items) v ≡ Some (n, p)
@@ -112,29 +101,23 @@ variable_there items i v n p h =
     go [] = here true (eq-eqb v v refl)
     go (x ∷ xs) = by (nat_eq x.0 v) (x.1, x.2) (variable_numbered (xs ++ ((v, n, p) ∷ more)) v) (go xs)
 
-same_some : {A : Type 0} (o : Option A) (x y : A) → o ≡ Some x → o ≡ Some y → x ≡ y
-same_some o x y h k = go (sym h ∙ k)
-  where
-    go : Some x ≡ Some y → x ≡ y
-    go e = cc
-
 -- the items, by what their readers answer
 pub variable_read : (items : List Item) (i v : ℕ) (n : Name) (p w : ℕ) (m : Name) (q : ℕ) → Good items → nth items i ≡ Some (variable v n p) → w ≡ v → variable_numbered (variables_in items) v ≡ Some (m, q)
     → nth items i ≡ Some (variable w m q)
 variable_read items i v n p w m q g h e r =
-    let same : (n, p) ≡ (m, q) = same_some (variable_numbered (variables_in items) v) (n, p) (m, q) (variable_place items i v n p g h) r in
+    let same : (n, p) ≡ (m, q) = one_value (variable_numbered (variables_in items) v) (n, p) (m, q) (variable_place items i v n p g h) r in
     h ∙ ap₂ (λ v (x : Name × ℕ). Some (variable v x.0 x.1)) (sym e) same
 
 pub metavariable_read : (items : List Item) (i v : ℕ) (n : Name) (p : ℕ) (m : Name) (q : ℕ) → nth items i ≡ Some (metavariable n p) → v ≡ length (metavariables_in (take i items)) → nth (metavariables_in items) v ≡ Some (m, q)
     → nth items i ≡ Some (metavariable m q)
 metavariable_read items i v n p m q h e r =
-    let same : (n, p) ≡ (m, q) = same_some (nth (metavariables_in items) v) (n, p) (m, q) (ap (nth (metavariables_in items)) e ∙ metavariable_place items i n p h) r in
+    let same : (n, p) ≡ (m, q) = one_value (nth (metavariables_in items) v) (n, p) (m, q) (ap (nth (metavariables_in items)) e ∙ metavariable_place items i n p h) r in
     h ∙ ap (λ (x : Name × ℕ). Some (metavariable x.0 x.1)) same
 
 pub rule_read : (items : List Item) (i v : ℕ) (n : Name) (ms : List ℕ) (p : ℕ) (m : Name) (ns : List ℕ) (q : ℕ) → nth items i ≡ Some (rule n ms p) → v ≡ length (rules_in (take i items)) → nth (rules_in items) v ≡ Some (m, ns, q)
     → nth items i ≡ Some (rule m ns q)
 rule_read items i v n ms p m ns q h e r =
-    let same : (n, ms, p) ≡ (m, ns, q) = same_some (nth (rules_in items) v) (n, ms, p) (m, ns, q) (ap (nth (rules_in items)) e ∙ rule_place items i n ms p h) r in
+    let same : (n, ms, p) ≡ (m, ns, q) = one_value (nth (rules_in items) v) (n, ms, p) (m, ns, q) (ap (nth (rules_in items)) e ∙ rule_place items i n ms p h) r in
     h ∙ ap (λ (x : Name × List ℕ × ℕ). Some (rule x.0 x.1 x.2)) same
 
 pub entry_read : (items : List Item) (i j : ℕ) (x : Statement) (S : List Atom) (s : Stated) (y : Statement) (R : List Atom) → nth items i ≡ Some (entry (record { statement = x; set = S; step = s })) → j ≡ length (entries_in (take i items))
@@ -142,8 +125,8 @@ pub entry_read : (items : List Item) (i j : ℕ) (x : Statement) (S : List Atom)
     → nth items i ≡ Some (entry (record { statement = y; set = R; step = s }))
 entry_read items i j x S s y R h e p q =
     let found : nth (entries_in items) j ≡ Some (record { statement = x; set = S }) = ap (nth (entries_in items)) e ∙ entry_place items i (record { statement = x; set = S; step = s }) h in
-    let same_x : x ≡ y = same_some (Some x) x y refl (sym (ap (option_map (λ (a : Assertion). a.statement)) found) ∙ p) in
-    let same_S : S ≡ R = same_some (Some S) S R refl (sym (ap (option_map (λ (a : Assertion). a.set)) found) ∙ q) in
+    let same_x : x ≡ y = one_value (Some x) x y refl (sym (ap (option_map (λ (a : Assertion). a.statement)) found) ∙ p) in
+    let same_S : S ≡ R = one_value (Some S) S R refl (sym (ap (option_map (λ (a : Assertion). a.set)) found) ∙ q) in
     h ∙ ap₂ (λ x S. Some (entry (record { statement = x; set = S; step = s }))) same_x same_S
 
 pub entry_there : (items : List Item) (i j : ℕ) (x : Statement) (S : List Atom) (s : Stated) → nth items i ≡ Some (entry (record { statement = x; set = S; step = s })) → j ≡ length (entries_in (take i items))

@@ -57,7 +57,7 @@ lines_split (x ∷ items) (suc i) =
     ap (λ z. line_text x ++ codes "\n" ++ z) (lines_split items i) ∙ sym (append_assoc (line_text x ++ codes "\n") (item_lines (take i items)) (lines_text (drop i items)))
 
 -- the text is what is written of the first items, and then the lines of the others
-pub text_split : (items : List Item) (i : ℕ) → encode_utf8_all (text_of items) ≡ encode_utf8_all (first_lines (take i items)) ++ encode_utf8_all (lines_text (drop i items))
+text_split : (items : List Item) (i : ℕ) → encode_utf8_all (text_of items) ≡ encode_utf8_all (first_lines (take i items)) ++ encode_utf8_all (lines_text (drop i items))
 text_split items i =
     let h = codes "andromeda derivation 1\n" in
     ap encode_utf8_all (ap (λ z. h ++ z) (lines_split items i) ∙ sym (append_assoc h (item_lines (take i items)) (lines_text (drop i items))))
@@ -75,7 +75,7 @@ item_lines_next (y ∷ items) (suc i) x h =
     ap (λ z. line_text y ++ codes "\n" ++ z) (item_lines_next items i x h) ∙ sym (append_assoc (line_text y ++ codes "\n") (item_lines (take i items)) (line_text x ++ codes "\n"))
 
 -- one more line
-pub first_next : (items : List Item) (i : ℕ) (x : Item) (line : List ℕ) → nth items i ≡ Some x → line ≡ encode_utf8_all (line_text x) ++ codes "\n"
+first_next : (items : List Item) (i : ℕ) (x : Item) (line : List ℕ) → nth items i ≡ Some x → line ≡ encode_utf8_all (line_text x) ++ codes "\n"
     → encode_utf8_all (first_lines (take (suc i) items)) ≡ encode_utf8_all (first_lines (take i items)) ++ line
 first_next items i x line h e =
     let f = codes "andromeda derivation 1\n" in
@@ -88,7 +88,7 @@ fits_next (y ∷ items) zero x h f g = let same : x ≡ y = cc in (subst (ItemFi
 fits_next (y ∷ items) (suc i) x h f g = (f.0, fits_next items i x h f.1 g)
 
 -- after all items
-pub text_end : (items : List Item) (i : ℕ) → length items ≤ i → encode_utf8_all (text_of items) ≡ encode_utf8_all (first_lines (take i items)) ++ codes "end\n"
+text_end : (items : List Item) (i : ℕ) → length items ≤ i → encode_utf8_all (text_of items) ≡ encode_utf8_all (first_lines (take i items)) ++ codes "end\n"
 unfolding lib.Utf8.encode
 text_end items i h = text_split items i ∙ ap (λ z. encode_utf8_all (first_lines (take i items)) ++ encode_utf8_all (lines_text z)) (none items i h)
   where
@@ -99,7 +99,7 @@ text_end items i h = text_split items i ∙ ap (λ z. encode_utf8_all (first_lin
     none (y ∷ items) (suc i) h = none items i (omega (arith, h))
 
 -- more of the text, which is left
-pub written_more : (w w1 : Option (List ℕ)) (text left more longer left2 : List ℕ) → WritesUpTo w text left w1 → longer ≡ text ++ more → left2 ≡ left ++ more → WritesUpTo w longer left2 w1
+written_more : (w w1 : Option (List ℕ)) (text left more longer left2 : List ℕ) → WritesUpTo w text left w1 → longer ≡ text ++ more → left2 ≡ left ++ more → WritesUpTo w longer left2 w1
 written_more w w1 text left more longer left2 h e f =
     (h.0, e ∙ ap (λ z. z ++ more) h.1 ∙ append_assoc h.0 left more ∙ ap (λ z. h.0 ++ z) (sym f), h.2)
 
@@ -113,11 +113,44 @@ pub written_whole : (w w1 w2 : Option (List ℕ)) (text left : List ℕ) → Wri
 written_whole w w1 w2 text left h k = subst (λ p. Appends w p w2) (sym h.1) (appends_next w w1 w2 h.0 left h.2 k)
 
 -- the writing ends within what was left
-pub written_front : (w w1 w2 : Option (List ℕ)) (text left rest whole : List ℕ) → whole ≡ text ++ rest → WritesUpTo w text left w1 → AppendsPrefix w1 left w2 → AppendsPrefix w whole w2
+written_front : (w w1 w2 : Option (List ℕ)) (text left rest whole : List ℕ) → whole ≡ text ++ rest → WritesUpTo w text left w1 → AppendsPrefix w1 left w2 → AppendsPrefix w whole w2
 written_front w w1 w2 text left rest whole e h k =
     prefix_next w w1 w2 h.0 left rest whole (e ∙ ap (λ z. z ++ rest) h.1 ∙ append_assoc h.0 left rest) h.2 k
 
 -- the writing ends before what is left
-pub written_stop : (w w1 : Option (List ℕ)) (text left rest whole : List ℕ) → whole ≡ text ++ rest → WritesUpTo w text left w1 → AppendsPrefix w whole w1
+written_stop : (w w1 : Option (List ℕ)) (text left rest whole : List ℕ) → whole ≡ text ++ rest → WritesUpTo w text left w1 → AppendsPrefix w whole w1
 written_stop w w1 text left rest whole e h =
     prefix_same w w1 h.0 (left ++ rest) whole (e ∙ ap (λ z. z ++ rest) h.1 ∙ append_assoc h.0 left rest) h.2
+
+-- The same, of a page that holds what is left of the first i items.
+
+-- one more item and its line feed
+pub item_on_page : (w w1 : Option (List ℕ)) (items : List Item) (i : ℕ) (x : Item) (page line new : List ℕ) → WritesUpTo w (encode_utf8_all (first_lines (take i items))) page w1 → nth items i ≡ Some x
+    → line ≡ page ++ encode_utf8_all (line_text x) → new ≡ line ++ codes "\n" → WritesUpTo w (encode_utf8_all (first_lines (take (suc i) items))) new w1
+item_on_page w w1 items i x page line new h at l n =
+    let more = encode_utf8_all (line_text x) ++ codes "\n" in
+    written_more w w1 (encode_utf8_all (first_lines (take i items))) page more (encode_utf8_all (first_lines (take (suc i) items))) new h (first_next items i x more at refl)
+    (n ∙ ap (λ z. z ++ codes "\n") l ∙ append_assoc page (encode_utf8_all (line_text x)) (codes "\n"))
+
+-- the last line
+pub end_on_page : (w w1 : Option (List ℕ)) (items : List Item) (i : ℕ) (page new : List ℕ) → WritesUpTo w (encode_utf8_all (first_lines (take i items))) page w1 → length items ≤ i → new ≡ page ++ codes "end\n"
+    → WritesUpTo w (encode_utf8_all (text_of items)) new w1
+end_on_page w w1 items i page new h all n =
+    written_more w w1 (encode_utf8_all (first_lines (take i items))) page (codes "end\n") (encode_utf8_all (text_of items)) new h (text_end items i all) n
+
+-- the writing ends within the page
+pub front_of_page : (w w1 w2 : Option (List ℕ)) (items : List Item) (i : ℕ) (page : List ℕ) → WritesUpTo w (encode_utf8_all (first_lines (take i items))) page w1 → AppendsPrefix w1 page w2
+    → AppendsPrefix w (encode_utf8_all (text_of items)) w2
+front_of_page w w1 w2 items i page h k =
+    written_front w w1 w2 (encode_utf8_all (first_lines (take i items))) page (encode_utf8_all (lines_text (drop i items))) (encode_utf8_all (text_of items)) (text_split items i) h k
+
+-- the writing ends before the page
+pub stop_before_page : (w w1 : Option (List ℕ)) (items : List Item) (i : ℕ) (page : List ℕ) → WritesUpTo w (encode_utf8_all (first_lines (take i items))) page w1 → AppendsPrefix w (encode_utf8_all (text_of items)) w1
+stop_before_page w w1 items i page h =
+    written_stop w w1 (encode_utf8_all (first_lines (take i items))) page (encode_utf8_all (lines_text (drop i items))) (encode_utf8_all (text_of items)) (text_split items i) h
+
+-- the writing ends within the last page
+pub front_of_all : (w w1 w2 : Option (List ℕ)) (items : List Item) (page : List ℕ) → WritesUpTo w (encode_utf8_all (text_of items)) page w1 → AppendsPrefix w1 page w2 → AppendsPrefix w (encode_utf8_all (text_of items)) w2
+front_of_all w w1 w2 items page h k =
+    let whole = encode_utf8_all (text_of items) in
+    written_front w w1 w2 whole page [] whole (sym (append-nil whole)) h k

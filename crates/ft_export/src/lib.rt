@@ -11,6 +11,3 @@ mod write;
 
 pub use ft_outside::WriteErr;
 pub use write::write_derivation;
-
-#[cfg(test)]
-mod tests;

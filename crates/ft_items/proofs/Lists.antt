@@ -38,9 +38,12 @@ nth_end [] x = refl
 nth_end (y ∷ xs) x = nth_end xs x
 
 -- a list and one more item
+pub store_append : (W : Store) (items more : List Item) → add_all W (items ++ more) ≡ add_all (add_all W items) more
+store_append W [] more = refl
+store_append W (i ∷ items) more = store_append (add W i) items more
+
 pub store_last : (W : Store) (items : List Item) (i : Item) → add_all W (items ++ (i ∷ [])) ≡ add (add_all W items) i
-store_last W [] i = refl
-store_last W (j ∷ items) i = store_last (add W j) items i
+store_last W items i = store_append W items (i ∷ [])
 
 pub good_last : (W : Store) (items : List Item) (i : Item) → GoodAfter W items → AllowedIn (add_all W items) i → GoodAfter W (items ++ (i ∷ []))
 good_last W [] i g h = (h, tt)

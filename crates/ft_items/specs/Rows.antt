@@ -183,19 +183,19 @@ congruence_of r R xs es =
     when (is_object_goal R.conclusion && are_arguments R.premises xs && start_all xs es) (plain (equate_goal (conclusion_at R (heads xs)) (symbol r (heads xs)) (symbol r (right_heads xs es))))
 
 -- the thesis y, which fits the next premise's boundary at the arguments a, with its head at that boundary at c
-abbrev pub moved : List (ℕ × Statement) → Arguments → Arguments → List (ℕ × Statement) → Statement → Option Statement
-moved ps a c [] y = None
-moved ps a c (q ∷ qs) y = when (fits y (at_arguments ps a q.1)) (fill (at_arguments ps c q.1) (head y))
+abbrev pub moved_argument : List (ℕ × Statement) → Arguments → Arguments → List (ℕ × Statement) → Statement → Option Statement
+moved_argument ps a c [] y = None
+moved_argument ps a c (q ∷ qs) y = when (fits y (at_arguments ps a q.1)) (fill (at_arguments ps c q.1) (head y))
 
 -- an argument for the premise after the given ones, moved from the arguments to the right sides of the equations
 abbrev pub premise_conversion : Rule → List Statement → List Statement → Statement → Option Statement
 premise_conversion R xs es y = cond (are_arguments (first_premises R xs) xs && start_all xs es)
-    (moved (first_premises R xs) (heads xs) (right_heads xs es) (later_premises R xs) y) None
+    (moved_argument (first_premises R xs) (heads xs) (right_heads xs es) (later_premises R xs) y) None
 
 -- the same from the right sides to the arguments
 abbrev pub premise_conversion_back : Rule → List Statement → List Statement → Statement → Option Statement
 premise_conversion_back R xs es y = cond (are_arguments (first_premises R xs) xs && start_all xs es)
-    (moved (first_premises R xs) (right_heads xs es) (heads xs) (later_premises R xs) y) None
+    (moved_argument (first_premises R xs) (right_heads xs es) (heads xs) (later_premises R xs) y) None
 
 -- What an application tells of its arguments and its type.
 

@@ -109,8 +109,8 @@ abbrev pub metavariable_named : Store → ℕ → Option (ℕ × Declared)
 metavariable_named W m = option_map (λ d. (m, d)) (nth W.metavariables m)
 
 -- the rule of a number, with the number
-abbrev pub rule_of : Store → ℕ → Option (ℕ × Rule)
-rule_of W r = option_map (λ R. (r, R)) (rule_at W.rules r)
+abbrev pub rule_named : Store → ℕ → Option (ℕ × Rule)
+rule_named W r = option_map (λ R. (r, R)) (rule_at W.rules r)
 
 -- What an item adds to the store. It adds nothing where it names what is not there.
 
@@ -249,12 +249,12 @@ resolve W by_btype = Some by_btype
 resolve W (by_bterm p) = with_one by_bterm (entry_named W p)
 resolve W (by_beqty p q) = with_two by_beqty (entry_named W p) (entry_named W q)
 resolve W (by_beqtm p s t) = with_three by_beqtm (entry_named W p) (entry_named W s) (entry_named W t)
-resolve W (by_rule r ps) = with_two by_rule (rule_of W r) (each (entry_named W) ps)
-resolve W (by_rulewith r b ps) = with_three by_rulewith (rule_of W r) (entry_named W b) (each (entry_named W) ps)
-resolve W (by_inst r ps) = with_two by_inst (rule_of W r) (each (entry_named W) ps)
-resolve W (by_cong r ps es) = with_three by_cong (rule_of W r) (each (entry_named W) ps) (each (entry_named W) es)
-resolve W (by_convprem r ps es q) = with_four by_convprem (rule_of W r) (each (entry_named W) ps) (each (entry_named W) es) (entry_named W q)
-resolve W (by_convback r ps es q) = with_four by_convback (rule_of W r) (each (entry_named W) ps) (each (entry_named W) es) (entry_named W q)
+resolve W (by_rule r ps) = with_two by_rule (rule_named W r) (each (entry_named W) ps)
+resolve W (by_rulewith r b ps) = with_three by_rulewith (rule_named W r) (entry_named W b) (each (entry_named W) ps)
+resolve W (by_inst r ps) = with_two by_inst (rule_named W r) (each (entry_named W) ps)
+resolve W (by_cong r ps es) = with_three by_cong (rule_named W r) (each (entry_named W) ps) (each (entry_named W) es)
+resolve W (by_convprem r ps es q) = with_four by_convprem (rule_named W r) (each (entry_named W) ps) (each (entry_named W) es) (entry_named W q)
+resolve W (by_convback r ps es q) = with_four by_convback (rule_named W r) (each (entry_named W) ps) (each (entry_named W) es) (entry_named W q)
 resolve W (by_arg i p) = with_one (by_arg i) (entry_named W p)
 resolve W (by_natural p) = with_one by_natural (entry_named W p)
 resolve W (by_metainst p ms qs) = with_three by_metainst (entry_named W p) (each (metavariable_named W) ms) (each (entry_named W) qs)

@@ -2,9 +2,11 @@
 
 ghost use Rattle.std.specs.Prelude.{◌≡◌, IfOk};
 
-use crate::domains::Domains;
-use ft_base::Memory;
+use ft_base::{Memory, Sequence};
 use ft_syntax::E;
+
+/// The types of the domains of a thesis or a boundary, in order, which contracts see as the list of their numbers.
+pub type Domains = Sequence<E>;
 
 /// What a thesis says below its domains: `A type`, `t : A` (the term, then the type), `A == B`, or `s == t : A` (left,
 /// right, type).

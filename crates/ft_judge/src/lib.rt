@@ -2,15 +2,13 @@
 #![tactic(auto)]
 
 mod compare;
-mod domains;
 mod fault;
 mod judgement;
 mod moving;
 mod parts;
 
 pub use compare::fits;
-pub use domains::Domains;
 pub use fault::{Differ, Fault, Refusal, Stop};
-pub use judgement::{Boundary, Form, Goal, Thesis};
+pub use judgement::{Boundary, Domains, Form, Goal, Thesis};
 pub use moving::{close_over, close_over_boundary, open_first, open_first_boundary};
 pub use parts::{boundary_of, fill, head_of, head_of_form};

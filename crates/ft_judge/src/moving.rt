@@ -8,8 +8,7 @@ ghost use Rattle.ft_syntax.specs.declared.syntax.SynFault.TheVariants.{TooBig};
 ghost use Rattle.ft_judge.specs.Meaning.{claim_in, goal_in, thesis_in, boundary_in, FormBelow, GoalBelow, ThesisBelow, BoundaryBelow};
 ghost use Rattle.ft_judge.specs.Moving.{moved, moved_list, MoveBelow, IsSmallStatement, AreSmall};
 
-use crate::domains::Domains;
-use crate::judgement::{Boundary, Form, Goal, Thesis};
+use crate::judgement::{Boundary, Domains, Form, Goal, Thesis};
 use ft_syntax::{E, SynFault, Terms};
 use std::alloc::Global;
 

@@ -6,8 +6,7 @@ ghost use Rattle.ft_theory.specs.Statements.{fill as fill_statement, boundary_of
 ghost use Rattle.ft_syntax.specs.Table.{tree};
 ghost use Rattle.ft_judge.specs.Meaning.{thesis_in, boundary_in, FormBelow, IsHeadFor, filled, head_in, head_of_thesis, boundary_of_thesis, head_of_statement};
 
-use crate::domains::Domains;
-use crate::judgement::{Boundary, Form, Goal, Thesis};
+use crate::judgement::{Boundary, Domains, Form, Goal, Thesis};
 use ft_base::Memory;
 use ft_syntax::{Arg, E, Terms};
 use std::alloc::Global;

@@ -1,14 +1,15 @@
 -- What a reader finds, in terms of what is seen of the kernel.
-use Rattle.std.proofs.Common.{◌≡◌, ℕ, zero, suc, ◌+◌, ◌-◌, ◌<◌, nat_eq, true, Some, None, List, [], ◌∷◌, refl, sym, ap, ◌∙◌, subst, length, get_or, take, arith, inl, inr}
+use Rattle.std.proofs.Common.{◌≡◌, ℕ, ◌+◌, ◌-◌, ◌<◌, nat_eq, true, Some, None, List, sym, ap, ◌∙◌, subst, length, get_or, take, arith, inl, inr}
 use Rattle.std.specs.Map.{lookup}
 use Rattle.std.specs.Prelude.{option_map}
 use Rattle.std.proofs.lemmas.List.{take-map}
 use Rattle.ft_theory.specs.Expressions.{Expression}
 use Rattle.ft_items.specs.Item.{Name, variable}
-use Rattle.ft_items.specs.Store.{Assertion, nth, entries_in, variables_in, metavariables_in, rules_in}
+use Rattle.ft_items.specs.Store.{nth, variables_in}
 use Rattle.ft_judge.specs.Meaning.{thesis_in, boundary_in}
-use Rattle.ft_kernel.specs.State.{State, entry_at, variable_numbered}
-use Rattle.ft_kernel.specs.Lines.{item_in, items_in, ContentBelow, AllBelow, is_entry, is_metavariable, is_rule, places, place_numbered, AreNumbered, assertion_in, metavariable_of, rule_of}
+use Rattle.ft_judge.specs.Laws.{thesis_is, boundary_is}
+use Rattle.ft_kernel.specs.State.{State, variable_numbered}
+use Rattle.ft_kernel.specs.Lines.{item_in, items_in, ContentBelow, AllLinesBelow, is_entry, is_metavariable, is_rule, places, place_numbered, AreNumbered}
 use Rattle.ft_kernel.specs.Shown.{IsShownAs, ShowsLine}
 use Rattle.ft_kernel.specs.declared.item.VarItem.{VarItem}
 use Rattle.ft_kernel.specs.declared.item.Item.{Item as ItemShown}
@@ -16,42 +17,30 @@ use Rattle.ft_kernel.specs.declared.item.Item.TheVariants as item
 use Rattle.ft_kernel.specs.declared.line.Content.{Content}
 use Rattle.ft_kernel.specs.declared.line.Content.TheVariants.{Variable}
 use Rattle.ft_kernel.specs.declared.line.Line.{Line}
-use Rattle.ft_kernel.proofs.Contents.{thesis_is, boundary_is}
-use Rattle.ft_kernel.proofs.Found.{entry_read, metavariable_read, rule_read, entries_many, metavariables_many, rules_many, nth_within, below_at, FoundVariable, Decided, variable_decided, passing, numbered_at, entries_before, metavariables_before, rules_before, item_at}
+use Rattle.ft_kernel.proofs.LineKinds.{Kind, entries, metavariables, rules, passing, many_passing, many_places}
+use Rattle.ft_kernel.proofs.Found.{read, below_at, FoundVariable, Decided, variable_decided, numbered_at, item_at}
 
 -- what is seen
 abbrev pub seen : List Expression → List Line → State
 seen ts ls = record { trees = ts; items = items_in ts ls }
 
-pub entry_within : (ts : List Expression) (ls : List Line) (es : List ℕ) (s : State) (n : ℕ) (a : Assertion) → es ≡ places is_entry 0 ls → seen ts ls ≡ s → entry_at s n ≡ Some a → n < length es
-entry_within ts ls es s n a e v h = subst (λ k. n < k) (ap (λ (s : State). length (entries_in s.items)) (sym v) ∙ sym (entries_many ts ls es e)) (nth_within (entries_in s.items) n a h)
+pub within : {A : Type 0} (K : Kind A) (ts : List Expression) (ls : List Line) (xs : List ℕ) (s : State) (n : ℕ) → xs ≡ places K.passes 0 ls → seen ts ls ≡ s → n < length (K.all s.items) → n < length xs
+within K ts ls xs s n e v h = subst (λ k. n < k) (ap (λ (s : State). length (K.all s.items)) (sym v) ∙ sym (many_places K ts ls xs e)) h
 
-pub entry_answered : (ts : List Expression) (ls : List Line) (es : List ℕ) (s : State) (n x : ℕ) (l : Line) → es ≡ places is_entry 0 ls → seen ts ls ≡ s → n < length es → x ≡ get_or es n x → l ≡ get_or ls x l
-    → assertion_in s.trees l.content ≡ entry_at s n
-entry_answered ts ls es s n x l e v h is at = subst (λ (s : State). assertion_in s.trees l.content ≡ entry_at s n) v (entry_read ts ls es n x l e h is at)
+pub answered : {A : Type 0} (K : Kind A) (ts : List Expression) (ls : List Line) (xs : List ℕ) (s : State) (n x : ℕ) (l : Line) → xs ≡ places K.passes 0 ls → seen ts ls ≡ s → n < length xs → x ≡ get_or xs n x → l ≡ get_or ls x l
+    → K.adds s.trees l.content ≡ nth (K.all s.items) n
+answered K ts ls xs s n x l e v h is at = subst (λ (s : State). K.adds s.trees l.content ≡ nth (K.all s.items) n) v (read K ts ls xs n x l e h is at)
 
-pub content_below : (ts : List Expression) (ls : List Line) (s : State) (x : ℕ) (l : Line) → seen ts ls ≡ s → AllBelow (length ts) ls → x < length ls → l ≡ get_or ls x l → ContentBelow (length s.trees) l.content
+-- the same, by a number that is read
+pub within_at : {A : Type 0} (K : Kind A) (ts : List Expression) (ls : List Line) (xs : List ℕ) (s : State) (n m : ℕ) → xs ≡ places K.passes 0 ls → seen ts ls ≡ s → m ≡ n → n < length (K.all s.items) → m < length xs
+within_at K ts ls xs s n m e v r h = subst (λ k. k < length xs) (sym r) (within K ts ls xs s n e v h)
+
+pub answered_at : {A : Type 0} (K : Kind A) (ts : List Expression) (ls : List Line) (xs : List ℕ) (s : State) (n m x : ℕ) (l : Line) → xs ≡ places K.passes 0 ls → seen ts ls ≡ s → m ≡ n → n < length (K.all s.items)
+    → x ≡ get_or xs m x → l ≡ get_or ls x l → K.adds s.trees l.content ≡ nth (K.all s.items) n
+answered_at K ts ls xs s n m x l e v r h is at = answered K ts ls xs s m x l e v (within_at K ts ls xs s n m e v r h) is at ∙ ap (nth (K.all s.items)) r
+
+pub content_below : (ts : List Expression) (ls : List Line) (s : State) (x : ℕ) (l : Line) → seen ts ls ≡ s → AllLinesBelow (length ts) ls → x < length ls → l ≡ get_or ls x l → ContentBelow (length s.trees) l.content
 content_below ts ls s x l v h lt at = subst (λ (s : State). ContentBelow (length s.trees) l.content) v (subst (λ (l : Line). ContentBelow (length ts) l.content) (sym at) (below_at (length ts) ls x l h lt))
-
-pub metavariable_within : (ts : List Expression) (ls : List Line) (ms : List ℕ) (s : State) (n : ℕ) → ms ≡ places is_metavariable 0 ls → seen ts ls ≡ s → n < length (metavariables_in s.items) → n < length ms
-metavariable_within ts ls ms s n e v h = subst (λ k. n < k) (ap (λ (s : State). length (metavariables_in s.items)) (sym v) ∙ sym (metavariables_many ts ls ms e)) h
-
-pub metavariable_answered : (ts : List Expression) (ls : List Line) (ms : List ℕ) (s : State) (n x : ℕ) (l : Line) → ms ≡ places is_metavariable 0 ls → seen ts ls ≡ s → n < length ms → x ≡ get_or ms n x → l ≡ get_or ls x l
-    → metavariable_of l.content ≡ nth (metavariables_in s.items) n
-metavariable_answered ts ls ms s n x l e v h is at = subst (λ (s : State). metavariable_of l.content ≡ nth (metavariables_in s.items) n) v (metavariable_read ts ls ms n x l e h is at)
-
-pub rule_within : (ts : List Expression) (ls : List Line) (rs : List ℕ) (s : State) (n : ℕ) → rs ≡ places is_rule 0 ls → seen ts ls ≡ s → n < length (rules_in s.items) → n < length rs
-rule_within ts ls rs s n e v h = subst (λ k. n < k) (ap (λ (s : State). length (rules_in s.items)) (sym v) ∙ sym (rules_many ts ls rs e)) h
-
-pub rule_answered : (ts : List Expression) (ls : List Line) (rs : List ℕ) (s : State) (n x : ℕ) (l : Line) → rs ≡ places is_rule 0 ls → seen ts ls ≡ s → n < length rs → x ≡ get_or rs n x → l ≡ get_or ls x l
-    → rule_of l.content ≡ nth (rules_in s.items) n
-rule_answered ts ls rs s n x l e v h is at = subst (λ (s : State). rule_of l.content ≡ nth (rules_in s.items) n) v (rule_read ts ls rs n x l e h is at)
-
--- within a list something is there
-pub something : {A : Type 0} (xs : List A) (n : ℕ) → n < length xs → (x : A) × (nth xs n ≡ Some x)
-something [] n h = absurd (omega (arith, h))
-something (x ∷ xs) zero h = (x, refl)
-something (x ∷ xs) (suc n) h = something xs n (omega (arith, h))
 
 -- the variable of a number
 pub record AnsweredVariable (ls : List Line) (s : State) (v i : ℕ) (l : Line) (x : VarItem) : Type 0 where
@@ -113,36 +102,20 @@ shown_line ts ls s i l w lt at ne nm nr t h = subst (λ (s : State). IsShownAs s
     items_before : items_in ts (take i ls) ≡ take i (items_in ts ls)
     items_before = sym (take-map (λ (l : Line). item_in ts l.content) i ls)
 
-    entry_number : is_entry l.content ≡ true → l.number ≡ length (entries_in (take i (items_in ts ls)))
-    entry_number e =
-        ap (λ (l : Line). l.number) at ∙ numbered_at is_entry 0 ls i l ne lt (ap (λ (l : Line). is_entry l.content) (sym at) ∙ e) ∙ none (length (passing is_entry (take i ls)))
-        ∙ entries_before ts (take i ls) ∙ ap (λ X. length (entries_in X)) items_before
-      where
-        none : (n : ℕ) → 0 + n ≡ n
-        none n = omega arith
-
-    metavariable_number : is_metavariable l.content ≡ true → l.number ≡ length (metavariables_in (take i (items_in ts ls)))
-    metavariable_number e =
-        ap (λ (l : Line). l.number) at ∙ numbered_at is_metavariable 0 ls i l nm lt (ap (λ (l : Line). is_metavariable l.content) (sym at) ∙ e) ∙ none (length (passing is_metavariable (take i ls)))
-        ∙ metavariables_before ts (take i ls) ∙ ap (λ X. length (metavariables_in X)) items_before
-      where
-        none : (n : ℕ) → 0 + n ≡ n
-        none n = omega arith
-
-    rule_number : is_rule l.content ≡ true → l.number ≡ length (rules_in (take i (items_in ts ls)))
-    rule_number e =
-        ap (λ (l : Line). l.number) at ∙ numbered_at is_rule 0 ls i l nr lt (ap (λ (l : Line). is_rule l.content) (sym at) ∙ e) ∙ none (length (passing is_rule (take i ls)))
-        ∙ rules_before ts (take i ls) ∙ ap (λ X. length (rules_in X)) items_before
+    number_of : {A : Type 0} (K : Kind A) → AreNumbered K.passes 0 ls → K.passes l.content ≡ true → l.number ≡ length (K.all (take i (items_in ts ls)))
+    number_of K n e =
+        ap (λ (l : Line). l.number) at ∙ numbered_at K.passes 0 ls i l n lt (ap (λ (l : Line). K.passes l.content) (sym at) ∙ e) ∙ none (length (passing K.passes (take i ls)))
+        ∙ many_passing K ts (take i ls) ∙ ap (λ X. length (K.all X)) items_before
       where
         none : (n : ℕ) → 0 + n ≡ n
         none n = omega arith
 
     go : (t : ItemShown) → ShowsLine l t → IsShownAs (seen ts ls) i t
     go (item.Var v) h = (h.0.name, h.0.ty, here ∙ ap (λ c. Some (item_in ts c)) h.1 ∙ ap (λ n. Some (variable n h.0.name h.0.ty)) (sym h.2))
-    go (item.Met m) h = (h.0.name, h.0.boundary, here ∙ ap (λ c. Some (item_in ts c)) h.1, h.2 ∙ metavariable_number (ap is_metavariable h.1))
-    go (item.Rule r) h = (h.0.name, h.0.premises, h.0.conclusion, here ∙ ap (λ c. Some (item_in ts c)) h.1, h.2 ∙ rule_number (ap is_rule h.1))
-    go (item.Thesis j u) h = (thesis_in ts h.0, h.1, here ∙ ap (λ c. Some (item_in ts c)) h.2, thesis_is ts h.0, h.3 ∙ entry_number (ap is_entry h.2))
-    go (item.Boundary b u) h = (boundary_in ts h.0, h.1, here ∙ ap (λ c. Some (item_in ts c)) h.2, boundary_is ts h.0, h.3 ∙ entry_number (ap is_entry h.2))
+    go (item.Met m) h = (h.0.name, h.0.boundary, here ∙ ap (λ c. Some (item_in ts c)) h.1, h.2 ∙ number_of metavariables nm (ap is_metavariable h.1))
+    go (item.Rule r) h = (h.0.name, h.0.premises, h.0.conclusion, here ∙ ap (λ c. Some (item_in ts c)) h.1, h.2 ∙ number_of rules nr (ap is_rule h.1))
+    go (item.Thesis j u) h = (thesis_in ts h.0, h.1, here ∙ ap (λ c. Some (item_in ts c)) h.2, thesis_is ts h.0, h.3 ∙ number_of entries ne (ap is_entry h.2))
+    go (item.Boundary b u) h = (boundary_in ts h.0, h.1, here ∙ ap (λ c. Some (item_in ts c)) h.2, boundary_is ts h.0, h.3 ∙ number_of entries ne (ap is_entry h.2))
     go (item.Shown j) h = here ∙ ap (λ c. Some (item_in ts c)) h
 
 pub variable_numbered_if : (ts : List Expression) (ls : List Line) (vs : List (ℕ × ℕ)) (s : State) (v i : ℕ) → ((v : ℕ) → lookup (nat_eq v) vs ≡ place_numbered 0 ls v) → seen ts ls ≡ s

@@ -1,22 +1,16 @@
 -- Lines found again by the places that are kept.
-use Rattle.std.proofs.Common.{◌≡◌, ◌≢◌, ℕ, zero, suc, ◌+◌, ◌-◌, ◌<◌, ◌≤◌, nat_eq, Bool, true, false, cond, Option, Some, None, List, [], ◌∷◌, refl, sym, ap, ap₂, ◌∙◌, subst, length, map, take, get_or, arith, ◌⊎◌, inl, inr}
+use Rattle.std.proofs.Common.{◌≡◌, ◌≢◌, ℕ, zero, suc, ◌+◌, ◌-◌, ◌<◌, ◌≤◌, nat_eq, Bool, true, false, cond, Option, Some, None, List, [], ◌∷◌, refl, sym, ap, ◌∙◌, subst, length, map, take, get_or, arith, ◌⊎◌, inl, inr}
 use Rattle.std.proofs.lemmas.Bool.Decides.{eqb_tells}
-use Rattle.std.proofs.lemmas.List.{length-map}
 use Rattle.ft_kernel.specs.State.{variable_numbered}
 use Rattle.ft_kernel.specs.declared.item.VarItem.{VarItem}
 use Rattle.ft_theory.specs.Expressions.{Expression}
 use Rattle.ft_items.specs.Item.{Name}
-use Rattle.ft_items.specs.Store.{nth, entries_in, variables_in, metavariables_in, rules_in}
-use Rattle.ft_kernel.specs.Lines.{item_in, items_in, ContentBelow, AllBelow, is_entry, is_metavariable, is_rule, places, place_if_numbered, place_numbered, AreNumbered, assertion_in, metavariable_of, rule_of}
+use Rattle.ft_items.specs.Store.{nth, variables_in}
+use Rattle.ft_kernel.specs.Lines.{item_in, items_in, ContentBelow, AllLinesBelow, places, place_if_numbered, place_numbered, AreNumbered}
 use Rattle.ft_kernel.specs.declared.line.Content.{Content}
 use Rattle.ft_kernel.specs.declared.line.Content.TheVariants.{Variable, Metavariable, Rule, Thesis, Boundary, Shown}
 use Rattle.ft_kernel.specs.declared.line.Line.{Line}
-use Rattle.ft_kernel.proofs.Grows.{places_entries, places_metavariables, places_rules}
-
--- the lines of a kind
-abbrev pub passing : (Content → Bool) → List Line → List Line
-passing p [] = []
-passing p (l ∷ ls) = cond (p l.content) (l ∷ passing p ls) (passing p ls)
+use Rattle.ft_kernel.proofs.LineKinds.{Kind, passing, kind_passing}
 
 pub place_within : (p : Content → Bool) (k : ℕ) (ls : List Line) (n : ℕ) → n < length (places p k ls) → (k ≤ get_or (places p k ls) n 0) × (get_or (places p k ls) n 0 < k + length ls)
 place_within p k [] n h = absurd (omega (arith, h))
@@ -57,45 +51,6 @@ matched f (x ∷ xs) [] e n y h = cc
 matched f (x ∷ xs) (z ∷ ys) e zero y h = let first : Some x ≡ f z = cc in let same : z ≡ y = cc in sym (first ∙ ap f same)
 matched f (x ∷ xs) (z ∷ ys) e (suc n) y h = let rest : map Some xs ≡ map f ys = cc in matched f xs ys rest n y h
 
-entries_passing : (ts : List Expression) (ls : List Line) → map Some (entries_in (items_in ts ls)) ≡ map (λ (l : Line). assertion_in ts l.content) (passing is_entry ls)
-entries_passing ts [] = refl
-entries_passing ts (l ∷ ls) = go l.content refl (entries_passing ts ls)
-  where
-    go : (c : Content) → l.content ≡ c → map Some (entries_in (items_in ts ls)) ≡ map (λ (l : Line). assertion_in ts l.content) (passing is_entry ls)
-        → map Some (entries_in (item_in ts c ∷ items_in ts ls)) ≡ map (λ (l : Line). assertion_in ts l.content) (cond (is_entry c) (l ∷ passing is_entry ls) (passing is_entry ls))
-    go (Variable x) e h = h
-    go (Metavariable x) e h = h
-    go (Rule x) e h = h
-    go (Thesis x S s) e h = ap₂ (λ o X. o ∷ X) (sym (ap (assertion_in ts) e)) h
-    go (Boundary x S s) e h = ap₂ (λ o X. o ∷ X) (sym (ap (assertion_in ts) e)) h
-    go (Shown j) e h = h
-
-metavariables_passing : (ts : List Expression) (ls : List Line) → map Some (metavariables_in (items_in ts ls)) ≡ map (λ (l : Line). metavariable_of l.content) (passing is_metavariable ls)
-metavariables_passing ts [] = refl
-metavariables_passing ts (l ∷ ls) = go l.content refl (metavariables_passing ts ls)
-  where
-    go : (c : Content) → l.content ≡ c → map Some (metavariables_in (items_in ts ls)) ≡ map (λ (l : Line). metavariable_of l.content) (passing is_metavariable ls)
-        → map Some (metavariables_in (item_in ts c ∷ items_in ts ls)) ≡ map (λ (l : Line). metavariable_of l.content) (cond (is_metavariable c) (l ∷ passing is_metavariable ls) (passing is_metavariable ls))
-    go (Variable x) e h = h
-    go (Metavariable x) e h = ap₂ (λ o X. o ∷ X) (sym (ap metavariable_of e)) h
-    go (Rule x) e h = h
-    go (Thesis x S s) e h = h
-    go (Boundary x S s) e h = h
-    go (Shown j) e h = h
-
-rules_passing : (ts : List Expression) (ls : List Line) → map Some (rules_in (items_in ts ls)) ≡ map (λ (l : Line). rule_of l.content) (passing is_rule ls)
-rules_passing ts [] = refl
-rules_passing ts (l ∷ ls) = go l.content refl (rules_passing ts ls)
-  where
-    go : (c : Content) → l.content ≡ c → map Some (rules_in (items_in ts ls)) ≡ map (λ (l : Line). rule_of l.content) (passing is_rule ls)
-        → map Some (rules_in (item_in ts c ∷ items_in ts ls)) ≡ map (λ (l : Line). rule_of l.content) (cond (is_rule c) (l ∷ passing is_rule ls) (passing is_rule ls))
-    go (Variable x) e h = h
-    go (Metavariable x) e h = h
-    go (Rule x) e h = ap₂ (λ o X. o ∷ X) (sym (ap rule_of e)) h
-    go (Thesis x S s) e h = h
-    go (Boundary x S s) e h = h
-    go (Shown j) e h = h
-
 -- a place of a kind is that of a line
 pub place_below : (p : Content → Bool) (ls : List Line) (xs : List ℕ) (n : ℕ) → xs ≡ places p 0 ls → n < length xs → get_or xs n 0 < length ls
 place_below p ls xs n e h =
@@ -109,31 +64,11 @@ line_at p ls xs n d e h =
     let same : get_or (places p 0 ls) n 0 - 0 ≡ get_or (places p 0 ls) n 0 = omega arith in
     passing_at p 0 ls n d lt ∙ ap (λ i. Some (get_or ls i d)) (same ∙ ap (λ X. get_or X n 0) (sym e))
 
-pub entry_found : (ts : List Expression) (ls : List Line) (es : List ℕ) (n : ℕ) (d : Line) → es ≡ places is_entry 0 ls → n < length es
-    → assertion_in ts (get_or ls (get_or es n 0) d).content ≡ nth (entries_in (items_in ts ls)) n
-entry_found ts ls es n d e h = matched (λ (l : Line). assertion_in ts l.content) (entries_in (items_in ts ls)) (passing is_entry ls) (entries_passing ts ls) n (get_or ls (get_or es n 0) d) (line_at is_entry ls es n d e h)
+pub found : {A : Type 0} (K : Kind A) (ts : List Expression) (ls : List Line) (xs : List ℕ) (n : ℕ) (d : Line) → xs ≡ places K.passes 0 ls → n < length xs
+    → K.adds ts (get_or ls (get_or xs n 0) d).content ≡ nth (K.all (items_in ts ls)) n
+found K ts ls xs n d e h = matched (λ (l : Line). K.adds ts l.content) (K.all (items_in ts ls)) (passing K.passes ls) (kind_passing K ts ls) n (get_or ls (get_or xs n 0) d) (line_at K.passes ls xs n d e h)
 
-pub metavariable_found : (ts : List Expression) (ls : List Line) (ms : List ℕ) (n : ℕ) (d : Line) → ms ≡ places is_metavariable 0 ls → n < length ms
-    → metavariable_of (get_or ls (get_or ms n 0) d).content ≡ nth (metavariables_in (items_in ts ls)) n
-metavariable_found ts ls ms n d e h = matched (λ (l : Line). metavariable_of l.content) (metavariables_in (items_in ts ls)) (passing is_metavariable ls) (metavariables_passing ts ls) n (get_or ls (get_or ms n 0) d) (line_at is_metavariable ls ms n d e h)
-
-pub rule_found : (ts : List Expression) (ls : List Line) (rs : List ℕ) (n : ℕ) (d : Line) → rs ≡ places is_rule 0 ls → n < length rs
-    → rule_of (get_or ls (get_or rs n 0) d).content ≡ nth (rules_in (items_in ts ls)) n
-rule_found ts ls rs n d e h = matched (λ (l : Line). rule_of l.content) (rules_in (items_in ts ls)) (passing is_rule ls) (rules_passing ts ls) n (get_or ls (get_or rs n 0) d) (line_at is_rule ls rs n d e h)
-
--- what is at a place is within the list
-pub nth_within : {A : Type 0} (xs : List A) (n : ℕ) (x : A) → nth xs n ≡ Some x → n < length xs
-nth_within [] n x h = let clash : None ≡ Some x = h in cc
-nth_within (y ∷ xs) zero x h = omega arith
-nth_within (y ∷ xs) (suc n) x h = let lt : n < length xs = nth_within xs n x h in omega (arith, lt)
-
--- and what is within the list is there
-pub nth_there : {A : Type 0} (xs : List A) (n : ℕ) (d : A) → n < length xs → nth xs n ≡ Some (get_or xs n d)
-nth_there [] n d h = absurd (omega (arith, h))
-nth_there (y ∷ xs) zero d h = refl
-nth_there (y ∷ xs) (suc n) d h = nth_there xs n d (omega (arith, h))
-
-pub below_at : (n : ℕ) (ls : List Line) (i : ℕ) (d : Line) → AllBelow n ls → i < length ls → ContentBelow n (get_or ls i d).content
+pub below_at : (n : ℕ) (ls : List Line) (i : ℕ) (d : Line) → AllLinesBelow n ls → i < length ls → ContentBelow n (get_or ls i d).content
 below_at n [] i d h lt = absurd (omega (arith, lt))
 below_at n (l ∷ ls) zero d h lt = h.0
 below_at n (l ∷ ls) (suc i) d h lt = below_at n ls i d h.1 (omega (arith, lt))
@@ -150,27 +85,9 @@ read_below p ls xs n x e h is = subst (λ i. i < length ls) (sym (is ∙ other_d
 same_line : (ls : List Line) (xs : List ℕ) (n x : ℕ) (l : Line) → n < length xs → x ≡ get_or xs n x → l ≡ get_or ls x l → l ≡ get_or ls (get_or xs n 0) l
 same_line ls xs n x l h is at = at ∙ ap (λ i. get_or ls i l) (is ∙ other_default xs n x 0 h)
 
-pub entry_read : (ts : List Expression) (ls : List Line) (es : List ℕ) (n x : ℕ) (l : Line) → es ≡ places is_entry 0 ls → n < length es → x ≡ get_or es n x → l ≡ get_or ls x l
-    → assertion_in ts l.content ≡ nth (entries_in (items_in ts ls)) n
-entry_read ts ls es n x l e h is at = ap (λ (l : Line). assertion_in ts l.content) (same_line ls es n x l h is at) ∙ entry_found ts ls es n l e h
-
-pub metavariable_read : (ts : List Expression) (ls : List Line) (ms : List ℕ) (n x : ℕ) (l : Line) → ms ≡ places is_metavariable 0 ls → n < length ms → x ≡ get_or ms n x → l ≡ get_or ls x l
-    → metavariable_of l.content ≡ nth (metavariables_in (items_in ts ls)) n
-metavariable_read ts ls ms n x l e h is at = ap (λ (l : Line). metavariable_of l.content) (same_line ls ms n x l h is at) ∙ metavariable_found ts ls ms n l e h
-
-pub rule_read : (ts : List Expression) (ls : List Line) (rs : List ℕ) (n x : ℕ) (l : Line) → rs ≡ places is_rule 0 ls → n < length rs → x ≡ get_or rs n x → l ≡ get_or ls x l
-    → rule_of l.content ≡ nth (rules_in (items_in ts ls)) n
-rule_read ts ls rs n x l e h is at = ap (λ (l : Line). rule_of l.content) (same_line ls rs n x l h is at) ∙ rule_found ts ls rs n l e h
-
--- the places of a kind are as many as what the list has of it
-pub entries_many : (ts : List Expression) (ls : List Line) (es : List ℕ) → es ≡ places is_entry 0 ls → length es ≡ length (entries_in (items_in ts ls))
-entries_many ts ls es e = ap length e ∙ places_entries ts 0 ls
-
-pub metavariables_many : (ts : List Expression) (ls : List Line) (ms : List ℕ) → ms ≡ places is_metavariable 0 ls → length ms ≡ length (metavariables_in (items_in ts ls))
-metavariables_many ts ls ms e = ap length e ∙ places_metavariables ts 0 ls
-
-pub rules_many : (ts : List Expression) (ls : List Line) (rs : List ℕ) → rs ≡ places is_rule 0 ls → length rs ≡ length (rules_in (items_in ts ls))
-rules_many ts ls rs e = ap length e ∙ places_rules ts 0 ls
+pub read : {A : Type 0} (K : Kind A) (ts : List Expression) (ls : List Line) (xs : List ℕ) (n x : ℕ) (l : Line) → xs ≡ places K.passes 0 ls → n < length xs → x ≡ get_or xs n x → l ≡ get_or ls x l
+    → K.adds ts l.content ≡ nth (K.all (items_in ts ls)) n
+read K ts ls xs n x l e h is at = ap (λ (l : Line). K.adds ts l.content) (same_line ls xs n x l h is at) ∙ found K ts ls xs n l e h
 
 -- the line of the variable of a number
 pub record FoundVariable (ts : List Expression) (k : ℕ) (ls : List Line) (v i : ℕ) (x : VarItem) : Type 0 where
@@ -247,15 +164,6 @@ numbered_at p n (l ∷ ls) (suc i) d h lt t = go (p l.content) h.1 (λ j g. numb
     go : (b : Bool) → AreNumbered p (cond b (n + 1) n) ls → ((j : ℕ) → AreNumbered p j ls → (get_or ls i d).number ≡ j + length P) → (get_or ls i d).number ≡ n + length (cond b (l ∷ P) P)
     go true h ih = let one : (n + 1) + length P ≡ n + length (l ∷ P) = omega arith in ih (n + 1) h ∙ one
     go false h ih = ih n h
-
-pub entries_before : (ts : List Expression) (ls : List Line) → length (passing is_entry ls) ≡ length (entries_in (items_in ts ls))
-entries_before ts ls = sym (length-map (passing is_entry ls) (λ (l : Line). assertion_in ts l.content)) ∙ sym (ap length (entries_passing ts ls)) ∙ length-map (entries_in (items_in ts ls)) Some
-
-pub metavariables_before : (ts : List Expression) (ls : List Line) → length (passing is_metavariable ls) ≡ length (metavariables_in (items_in ts ls))
-metavariables_before ts ls = sym (length-map (passing is_metavariable ls) (λ (l : Line). metavariable_of l.content)) ∙ sym (ap length (metavariables_passing ts ls)) ∙ length-map (metavariables_in (items_in ts ls)) Some
-
-pub rules_before : (ts : List Expression) (ls : List Line) → length (passing is_rule ls) ≡ length (rules_in (items_in ts ls))
-rules_before ts ls = sym (length-map (passing is_rule ls) (λ (l : Line). rule_of l.content)) ∙ sym (ap length (rules_passing ts ls)) ∙ length-map (rules_in (items_in ts ls)) Some
 
 pub item_at : (ts : List Expression) (ls : List Line) (i : ℕ) (d : Line) → i < length ls → nth (items_in ts ls) i ≡ Some (item_in ts (get_or ls i d).content)
 item_at ts [] i d h = absurd (omega (arith, h))

@@ -1,12 +1,12 @@
 -- A list of lines with one more line.
-use Rattle.std.proofs.Common.{◌≡◌, ◌≢◌, ℕ, suc, ◌+◌, ◌<◌, max, nat_eq, nat_lt, Bool, true, false, cond, Option, Some, None, List, [], ◌∷◌, ◌++◌, refl, sym, ap, ap₂, ◌⊎◌, inl, inr, ◌∙◌, subst, length, map, arith}
+use Rattle.std.proofs.Common.{◌≡◌, ◌≢◌, ℕ, ◌+◌, ◌<◌, max, nat_eq, nat_lt, Bool, true, false, cond, Option, Some, None, List, [], ◌∷◌, ◌++◌, refl, sym, ap, ap₂, ◌⊎◌, inl, inr, ◌∙◌, subst, length, map, arith}
 use Rattle.std.proofs.lemmas.List.{map-append, append-nil}
 use Rattle.ft_theory.specs.Expressions.{Expression}
 use Rattle.ft_items.specs.Item.{Name, Item, variable, metavariable, rule, entry, shown}
-use Rattle.ft_items.specs.Store.{entries_in, variables_in, metavariables_in, rules_in}
+use Rattle.ft_items.specs.Store.{variables_in, rules_in}
 use Rattle.ft_items.proofs.SetLemmas.{both, wrong}
 use Rattle.ft_kernel.specs.State.{next_number, rule_names}
-use Rattle.ft_kernel.specs.Lines.{item_in, items_in, ContentBelow, AllBelow, is_entry, is_metavariable, is_rule, places, place_if_numbered, place_numbered, AreNumbered}
+use Rattle.ft_kernel.specs.Lines.{item_in, items_in, ContentBelow, AllLinesBelow, is_rule, places, place_if_numbered, place_numbered, AreNumbered}
 use Rattle.ft_kernel.specs.declared.line.Content.{Content}
 use Rattle.ft_kernel.specs.declared.line.Content.TheVariants.{Variable, Metavariable, Rule, Thesis, Boundary, Shown}
 use Rattle.ft_kernel.specs.declared.line.Line.{Line}
@@ -55,7 +55,7 @@ numbered_last p n k (m ∷ ls) l h e = (h.0, go (p m.content) refl h.1 (λ j g f
         e t ∙ ap (λ b. n + length (cond b (k ∷ places p (k + 1) ls) (places p (k + 1) ls))) q ∙ one)
     go false q h ih = ih n h (λ t. e t ∙ ap (λ b. n + length (cond b (k ∷ places p (k + 1) ls) (places p (k + 1) ls))) q)
 
-pub below_last : (n : ℕ) (ls : List Line) (l : Line) → AllBelow n ls → ContentBelow n l.content → AllBelow n (ls ++ l ∷ [])
+pub below_last : (n : ℕ) (ls : List Line) (l : Line) → AllLinesBelow n ls → ContentBelow n l.content → AllLinesBelow n (ls ++ l ∷ [])
 below_last n [] l h c = (c, tt)
 below_last n (m ∷ ls) l h c = (h.0, below_last n ls l h.1 c)
 
@@ -110,46 +110,6 @@ place_more k (m ∷ ls) i x v h =
     ap (place_if_numbered m.content k v) (place_more (k + 1) ls i x v (place_of_rest m.content k x.number (place_numbered (k + 1) ls x.number) h))
     ∙ place_in_front m.content x k ((k + 1) + length ls) v (place_numbered (k + 1) ls x.number) (place_numbered (k + 1) ls v) h
     ∙ ap (λ n. cond (nat_eq x.number v) (Some n) (place_numbered k (m ∷ ls) v)) here
-
--- the lines of a kind are as many as the items of the kind
-pub places_entries : (ts : List Expression) (k : ℕ) (ls : List Line) → length (places is_entry k ls) ≡ length (entries_in (items_in ts ls))
-places_entries ts k [] = refl
-places_entries ts k (l ∷ ls) = go l.content (places_entries ts (k + 1) ls)
-  where
-    go : (c : Content) → length (places is_entry (k + 1) ls) ≡ length (entries_in (items_in ts ls))
-        → length (cond (is_entry c) (k ∷ places is_entry (k + 1) ls) (places is_entry (k + 1) ls)) ≡ length (entries_in (item_in ts c ∷ items_in ts ls))
-    go (Variable x) h = h
-    go (Metavariable x) h = h
-    go (Rule x) h = h
-    go (Thesis x S s) h = ap suc h
-    go (Boundary x S s) h = ap suc h
-    go (Shown j) h = h
-
-pub places_metavariables : (ts : List Expression) (k : ℕ) (ls : List Line) → length (places is_metavariable k ls) ≡ length (metavariables_in (items_in ts ls))
-places_metavariables ts k [] = refl
-places_metavariables ts k (l ∷ ls) = go l.content (places_metavariables ts (k + 1) ls)
-  where
-    go : (c : Content) → length (places is_metavariable (k + 1) ls) ≡ length (metavariables_in (items_in ts ls))
-        → length (cond (is_metavariable c) (k ∷ places is_metavariable (k + 1) ls) (places is_metavariable (k + 1) ls)) ≡ length (metavariables_in (item_in ts c ∷ items_in ts ls))
-    go (Variable x) h = h
-    go (Metavariable x) h = ap suc h
-    go (Rule x) h = h
-    go (Thesis x S s) h = h
-    go (Boundary x S s) h = h
-    go (Shown j) h = h
-
-pub places_rules : (ts : List Expression) (k : ℕ) (ls : List Line) → length (places is_rule k ls) ≡ length (rules_in (items_in ts ls))
-places_rules ts k [] = refl
-places_rules ts k (l ∷ ls) = go l.content (places_rules ts (k + 1) ls)
-  where
-    go : (c : Content) → length (places is_rule (k + 1) ls) ≡ length (rules_in (items_in ts ls))
-        → length (cond (is_rule c) (k ∷ places is_rule (k + 1) ls) (places is_rule (k + 1) ls)) ≡ length (rules_in (item_in ts c ∷ items_in ts ls))
-    go (Variable x) h = h
-    go (Metavariable x) h = h
-    go (Rule x) h = ap suc h
-    go (Thesis x S s) h = h
-    go (Boundary x S s) h = h
-    go (Shown j) h = h
 
 -- the next number
 pub variables_last : (items : List Item) (i : Item) → variables_in (items ++ i ∷ []) ≡ variables_in items ++ variables_in (i ∷ [])

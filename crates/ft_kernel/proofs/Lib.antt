@@ -1,10 +1,10 @@
 pub mod Grows
 pub mod Pushes
+pub mod LineKinds
 pub mod Found
 pub mod Contents
 pub mod Answered
 pub mod Naming
 pub mod Closed
 pub mod Extended
-pub mod Example
 pub mod Staying

@@ -1,26 +1,11 @@
 -- The first place of a name.
-use Rattle.std.proofs.Common.{◌≡◌, ℕ, suc, nat_eq, Bool, true, false, cond, Option, Some, None, List, [], ◌∷◌, ◌++◌, refl, sym, ap, ap₂, ◌∙◌, length, ◌&&◌}
+use Rattle.std.proofs.Common.{◌≡◌, ℕ, suc, Bool, true, false, cond, Option, Some, None, List, [], ◌∷◌, ◌++◌, refl, sym, ap, ◌∙◌, length, ◌&&◌}
 use Rattle.std.specs.Prelude.{option_map, is_none, not}
-use Rattle.std.specs.Str.{bytes_eq}
-use Rattle.std.proofs.lemmas.Bool.{eqb-true}
 use Rattle.ft_items.specs.Item.{Name}
 use Rattle.ft_items.specs.Good.{equal_names, is_new}
-use Rattle.ft_items.proofs.SetLemmas.{both, not_true, wrong}
+use Rattle.ft_items.proofs.Names.{same_name}
+use Rattle.ft_items.proofs.SetLemmas.{both, not_true}
 use Rattle.ft_kernel.specs.State.{place_of_name}
-
--- the test of the program is that of the definitions
-pub bytes_eq-names : (m n : Name) → bytes_eq m n ≡ equal_names m n
-bytes_eq-names [] [] = refl
-bytes_eq-names [] (d ∷ n) = refl
-bytes_eq-names (c ∷ m) [] = refl
-bytes_eq-names (c ∷ m) (d ∷ n) = ap (λ b. nat_eq c d && b) (bytes_eq-names m n)
-
--- names with the same characters are one name
-same_name : (m n : Name) → equal_names m n ≡ true → m ≡ n
-same_name [] [] h = refl
-same_name [] (d ∷ n) h = wrong h
-same_name (c ∷ m) [] h = wrong h
-same_name (c ∷ m) (d ∷ n) h = let parts : (nat_eq c d ≡ true) × (equal_names m n ≡ true) = both (nat_eq c d) (equal_names m n) h in ap₂ (λ x X. x ∷ X) (eqb-true c d parts.0) (same_name m n parts.1)
 
 -- a new name has the place after the names before it
 pub place_last : (ns : List Name) (m n : Name) → is_new ns m ≡ true → place_of_name (ns ++ m ∷ []) n ≡ cond (equal_names m n) (Some (length ns)) (place_of_name ns n)

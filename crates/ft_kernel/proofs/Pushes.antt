@@ -5,10 +5,11 @@ use Rattle.std.specs.Str.{bytes_eq}
 use Rattle.std.proofs.lemmas.List.{append-nil, length-map}
 use Rattle.ft_theory.specs.Expressions.{Expression}
 use Rattle.ft_items.specs.Item.{Name, variable, metavariable, rule, shown}
-use Rattle.ft_items.specs.Store.{Assertion, annotated, nth, empty_store, entries_in, variables_in, rules_in}
+use Rattle.ft_items.specs.Store.{annotated, nth, empty_store, entries_in, variables_in, rules_in}
 use Rattle.ft_items.specs.Good.{Allowed, Good, is_next, is_new, equal_names}
 use Rattle.ft_items.proofs.SetLemmas.{wrong}
-use Rattle.ft_items.proofs.Lists.{good_last, store_is}
+use Rattle.ft_items.proofs.Lists.{good_last, store_is, annotated_number}
+use Rattle.ft_items.proofs.Names.{bytes_eq-names}
 use Rattle.ft_kernel.specs.State.{next_number, place_of_name, rule_names}
 use Rattle.ft_kernel.specs.Lines.{item_in, items_in, ContentBelow, is_entry, is_metavariable, is_rule, places, place_if_numbered, place_numbered}
 use Rattle.ft_kernel.specs.Invariant.{IsKernel}
@@ -18,8 +19,9 @@ use Rattle.ft_kernel.specs.declared.line.Line.{Line}
 use Rattle.ft_kernel.specs.declared.item.VarItem.{VarItem}
 use Rattle.ft_kernel.specs.declared.item.MetItem.{MetItem}
 use Rattle.ft_kernel.specs.declared.item.RuleItem.{RuleItem}
-use Rattle.ft_kernel.proofs.Grows.{items_last, places_more, places_same, numbered_last, below_last, place_same, place_more, variables_last, next_more, none_numbered, places_rules, names_same, names_more}
-use Rattle.ft_kernel.proofs.Naming.{bytes_eq-names, place_last}
+use Rattle.ft_kernel.proofs.Grows.{items_last, places_more, places_same, numbered_last, below_last, place_same, place_more, variables_last, next_more, none_numbered, names_same, names_more}
+use Rattle.ft_kernel.proofs.LineKinds.{rules, many_places}
+use Rattle.ft_kernel.proofs.Naming.{place_last}
 
 -- what a content is not
 not_counted : (b : Bool) → b ≡ false → {P : Type 0} → b ≡ true → P
@@ -152,7 +154,7 @@ push_rule ts ls ls' es ms rs rs' vs ns ns' next n k m x h is_ls is_rs at number 
     (λ t. wrong t) (λ t. wrong t) (λ t. number))
   where
     many : n ≡ length (rule_names (items_in ts ls))
-    many = number ∙ ap length h.rules_are ∙ places_rules ts 0 ls ∙ sym (length-map (rules_in (items_in ts ls)) (λ (x : Name × List ℕ × ℕ). x.0))
+    many = number ∙ many_places rules ts ls rs h.rules_are ∙ sym (length-map (rules_in (items_in ts ls)) (λ (x : Name × List ℕ × ℕ). x.0))
 
 -- a kernel whose pushes were undone
 pub undone : (ts : List Expression) (ls ls' : List Line) (es ms rs rs' : List ℕ) (vs : List (ℕ × ℕ)) (ns ns' : List (Name × ℕ)) (next : ℕ) → IsKernel ts ls es ms rs vs ns next → ls' ≡ ls → rs' ≡ rs → ns' ≡ ns
@@ -169,10 +171,6 @@ push_shown ts ls ls' es ms rs vs ns next n j h is_ls allowed =
     (kept is_metavariable ls (record { number = n; content = Shown j }) ms h.metavariables_are refl)
     (kept is_rule ls (record { number = n; content = Shown j }) rs h.rules_are refl)
     (λ v k later. refl) refl (names_kept ts ls (record { number = n; content = Shown j }) ns h.names_are refl) (λ t. wrong t) (λ t. wrong t) (λ t. wrong t))
-
-annotated_number : (x : ℕ × Name × ℕ) (o : Option Assertion) → (annotated x o).0 ≡ x.0
-annotated_number x None = refl
-annotated_number x (Some a) = refl
 
 pub push_var : (ts : List Expression) (ls ls' : List Line) (es ms rs : List ℕ) (vs vs' : List (ℕ × ℕ)) (ns : List (Name × ℕ)) (next next' : ℕ) (n k : ℕ) (x : VarItem) → IsKernel ts ls es ms rs vs ns next
     → ls' ≡ ls ++ record { number = n; content = Variable x } ∷ [] → k ≡ length ls

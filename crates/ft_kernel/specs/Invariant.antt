@@ -7,14 +7,14 @@ use Rattle.ft_items.specs.Item.{Name}
 use Rattle.ft_items.specs.Store.{variables_in}
 use Rattle.ft_items.specs.Good.{Good}
 use Rattle.ft_kernel.specs.State.{next_number, place_of_name, rule_names}
-use Rattle.ft_kernel.specs.Lines.{items_in, AllBelow, is_entry, is_metavariable, is_rule, places, place_numbered, AreNumbered}
+use Rattle.ft_kernel.specs.Lines.{items_in, AllLinesBelow, is_entry, is_metavariable, is_rule, places, place_numbered, AreNumbered}
 use Rattle.ft_kernel.specs.declared.line.Line.{Line}
 
 -- the items are good, their expressions are in the table, each index has the places of its kind, and each rule's name is entered
 -- with the rule's number
 pub record IsKernel (ts : List Expression) (ls : List Line) (entries metavariables rules : List ℕ) (variables : List (ℕ × ℕ)) (names : List (Name × ℕ)) (next : ℕ) : Type 0 where
   pub good : Good (items_in ts ls)
-  pub below : AllBelow (length ts) ls
+  pub below : AllLinesBelow (length ts) ls
   pub entries_are : entries ≡ places is_entry 0 ls
   pub metavariables_are : metavariables ≡ places is_metavariable 0 ls
   pub rules_are : rules ≡ places is_rule 0 ls

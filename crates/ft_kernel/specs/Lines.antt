@@ -80,11 +80,11 @@ AreNumbered p n [] = Unit {0}
 AreNumbered p n (l ∷ ls) = (p l.content ≡ true → l.number ≡ n) × AreNumbered p (if p l.content then n + 1 else n) ls
 
 -- each expression of the lines is among the first n trees
-abbrev pub AllBelow : ℕ → List Line → Type 0
-AllBelow n [] = Unit {0}
-AllBelow n (l ∷ ls) = ContentBelow n l.content × AllBelow n ls
+abbrev pub AllLinesBelow : ℕ → List Line → Type 0
+AllLinesBelow n [] = Unit {0}
+AllLinesBelow n (l ∷ ls) = ContentBelow n l.content × AllLinesBelow n ls
 
--- what a content adds to the entries, the variables, the metavariables or the rules of the list
+-- what a content adds to the entries, the metavariables or the rules of the list
 abbrev pub assertion_in : List Expression → Content → Option Assertion
 assertion_in ts (Variable x) = None
 assertion_in ts (Metavariable x) = None
@@ -93,26 +93,18 @@ assertion_in ts (Thesis x S s) = Some (record { statement = thesis_in ts x; set 
 assertion_in ts (Boundary x S s) = Some (record { statement = boundary_in ts x; set = S })
 assertion_in ts (Shown j) = None
 
-abbrev pub variable_of : Content → Option (ℕ × Name × ℕ)
-variable_of (Variable x) = Some (x.number, x.name, x.ty)
-variable_of (Metavariable x) = None
-variable_of (Rule x) = None
-variable_of (Thesis x S s) = None
-variable_of (Boundary x S s) = None
-variable_of (Shown j) = None
+abbrev pub added_metavariable : Content → Option (Name × ℕ)
+added_metavariable (Variable x) = None
+added_metavariable (Metavariable x) = Some (x.name, x.boundary)
+added_metavariable (Rule x) = None
+added_metavariable (Thesis x S s) = None
+added_metavariable (Boundary x S s) = None
+added_metavariable (Shown j) = None
 
-abbrev pub metavariable_of : Content → Option (Name × ℕ)
-metavariable_of (Variable x) = None
-metavariable_of (Metavariable x) = Some (x.name, x.boundary)
-metavariable_of (Rule x) = None
-metavariable_of (Thesis x S s) = None
-metavariable_of (Boundary x S s) = None
-metavariable_of (Shown j) = None
-
-abbrev pub rule_of : Content → Option (Name × List ℕ × ℕ)
-rule_of (Variable x) = None
-rule_of (Metavariable x) = None
-rule_of (Rule x) = Some (x.name, x.premises, x.conclusion)
-rule_of (Thesis x S s) = None
-rule_of (Boundary x S s) = None
-rule_of (Shown j) = None
+abbrev pub added_rule : Content → Option (Name × List ℕ × ℕ)
+added_rule (Variable x) = None
+added_rule (Metavariable x) = None
+added_rule (Rule x) = Some (x.name, x.premises, x.conclusion)
+added_rule (Thesis x S s) = None
+added_rule (Boundary x S s) = None
+added_rule (Shown j) = None

@@ -6,12 +6,13 @@ mod kernel;
 mod laws;
 mod line;
 mod step;
-#[cfg(test)]
-mod tests;
 mod token;
 
 pub use item::{Item, MetItem, RuleItem, VarItem};
 pub use kernel::Kernel;
 pub use laws::tokens_stay;
 pub use step::{Part, Step};
-pub use token::{B, J, Judgements, M, Metavariables, RuleId, V};
+pub use token::{
+    B, J, Judgements, M, Metavariables, OfBoundary, OfMetavariable, OfRule, OfThesis, OfVariable,
+    RuleId, Token, V,
+};

@@ -3,7 +3,7 @@ use Rattle.std.proofs.Common.{◌≡◌, ℕ, zero, suc, ◌+◌, ◌<◌, Optio
 use mathlib.Core.Path.{fun_ext}
 use Rattle.ft_theory.specs.Expressions.{Expression, bound, free, symbol, meta, Arguments, no_arguments, with_body, dummy, Terms, no_terms, also, count, under_binders, rename, rename_arguments, rename_terms, lift, lifts, put, put_arguments, put_terms, push, pushes, body_or, act, act_arguments, act_terms, ClosedAt, MentionsOnly, ArgumentsMentionOnly, TermsMentionOnly}
 use Rattle.ft_laws.proofs.Raw.{put-put}
-use Rattle.ft_laws.proofs.Closed.{rename_is_put, put_agree, put_closed, rename_closed}
+use Rattle.ft_laws.proofs.Closed.{rename_is_put, put_agree, put_closed, rename_closed, rename_terms_is_put}
 
 -- counts stay
 pub count-put : (a : Terms) (s : ℕ → Expression) → count (put_terms s a) ≡ count a
@@ -78,11 +78,6 @@ unfolding lifts lift act
 lifts-act zero g i s h j = refl
 lifts-act (suc n) g i s h zero = refl
 lifts-act (suc n) g i s h (suc j) = h (lifts n s j) ∙ ap (rename suc) (lifts-act n g i s h j)
-
-rename_terms_is_put : (a : Terms) (r : ℕ → ℕ) → rename_terms r a ≡ put_terms (λ j. bound (r j)) a
-unfolding rename put
-rename_terms_is_put no_terms r = refl
-rename_terms_is_put (also t a) r = ap₂ also (rename_is_put t r) (rename_terms_is_put a r)
 
 mutual
   unfolding act rename

@@ -1,5 +1,7 @@
 -- Each wide step is admissible over a theory whose boundaries are primitively derivable; finitary theories are such.
 use Rattle.std.proofs.Common.{◌≡◌, ℕ, zero, suc, Some, List, [], ◌∷◌, ◌⊎◌, inl, inr, refl, sym, ap, ◌∙◌, subst, arith, append_assoc, append-nil, ◌↔◌}
+use Rattle.std.proofs.lemmas.Option.{same_Some}
+use Rattle.ft_common.proofs.Options.{none_some}
 use Rattle.ft_theory.specs.Expressions.{Expression, bound, free, symbol, meta, Arguments, Terms, no_terms, also, count, act, open_at}
 use Rattle.ft_theory.specs.Statements.{Claim, is_type, has_type, equal_types, equal_terms, type_goal, term_goal, type_equation_goal, term_equation_goal, Statement, plain, abstracted, map_claim, map_statement, opened, domain, domain_count, at, fill_goal, equate, IsObject, IsEquation}
 use Rattle.ft_theory.specs.Rules.{Rule, rule_at, instance_of, filled_premises, equated_premises, term_typings, term_equations, conclusion_at}
@@ -10,7 +12,6 @@ use Rattle.std.specs.Prelude.{◌++◌}
 use Rattle.ft_laws.specs.Instances.{statement_at}
 use Rattle.ft_laws.proofs.Induction.{AllOf, induct}
 use Rattle.ft_laws.proofs.Steps.{do_convert_term}
-use Rattle.ft_laws.proofs.Fresh.{Some_injective}
 use Rattle.ft_laws.proofs.Scope.{object-at, domain_count-at}
 use Rattle.ft_laws.proofs.Statements.{domain_count-map, domain_count-opened, object-map, equation-map, object_goal-map}
 use Rattle.ft_laws.proofs.Commute.{ScopedTheory}
@@ -21,7 +22,7 @@ use Rattle.ft_laws.proofs.Equal.{EqualStatements, equal_here, equal_opened, side
 use Rattle.ft_laws.proofs.Relate.{back_here}
 use Rattle.ft_laws.proofs.EqualTerms.{itself, staying, reify_flat, substitute_equal, right_side, at_fresh}
 use Rattle.ft_laws.proofs.Instances.{instantiate}
-use Rattle.ft_laws.proofs.Rules.{whole_instance, whole_pair, right_premises, move_head, symmetric_equal, nothing}
+use Rattle.ft_laws.proofs.Rules.{whole_instance, whole_pair, right_premises, move_head, symmetric_equal}
 use Rattle.ft_laws.proofs.Inversion.{OfType, OfTerm, origin, pick}
 use Rattle.ft_laws.proofs.Finitary.{more_rules, Sound, scoped, premise_at}
 
@@ -91,7 +92,7 @@ right_term_typings T sc M G (also s a) (also t c) (abstracted A x) (abstracted B
     (equal_opened T sc M G G A B x y s t e (Grows_refl G) (inr p)) ts)
 
 unique : (T : List Rule) (r : ℕ) (R S : Rule) → rule_at T r ≡ Some R → rule_at T r ≡ Some S → R ≡ S
-unique T r R S p q = Some_injective R S (sym p ∙ q)
+unique T r R S p q = same_Some R S (sym p ∙ q)
 
 pub admissible : (T : List Rule) → Sound T → (n : ℕ) (ps : List Sequent) (c : Sequent) → WideStep T n ps c → Trees (Step T) ps → Tree (Step T) c
 admissible T so n ps c (weakening {M} {N} {G} {H} x e s) (more p none) = weaken T (scoped T so) M N G H x e s p
@@ -158,13 +159,13 @@ admissible T so n ps c (argument_in_term {M} {G} r R a A x q m) (more p none) =
     pick (Step T) M G x (filled_premises (instance_of R.premises a) R.premises a) m (subst (λ S. Trees (Step T) (sequents M G (filled_premises (instance_of S.premises a) S.premises a))) (unique T r h.0 R h.1 q) h.2)
 admissible T so n ps c (term_in_type {M} {G} m b a x q i) (more p none) =
     let h : OfType T M G (meta m a) = origin T (scoped T so) (sequent M G (plain (is_type (meta m a)))) p in
-    pick (Step T) M G x (term_typings b a) i (subst (λ z. Trees (Step T) (sequents M G (term_typings z a))) (Some_injective h.0 b (sym h.1 ∙ q)) h.2)
+    pick (Step T) M G x (term_typings b a) i (subst (λ z. Trees (Step T) (sequents M G (term_typings z a))) (same_Some h.0 b (sym h.1 ∙ q)) h.2)
 admissible T so n ps c (term_in_term {M} {G} m b a A x q i) (more p none) =
     let h : OfTerm T M G (meta m a) A = origin T (scoped T so) (sequent M G (plain (has_type (meta m a) A))) p in
-    pick (Step T) M G x (term_typings b a) i (subst (λ z. Trees (Step T) (sequents M G (term_typings z a))) (Some_injective h.0 b (sym h.1 ∙ q)) h.2)
+    pick (Step T) M G x (term_typings b a) i (subst (λ z. Trees (Step T) (sequents M G (term_typings z a))) (same_Some h.0 b (sym h.1 ∙ q)) h.2)
 admissible T so n ps c (natural_variable {M} {G} v N A q) (more p none) =
     let h : OfTerm T M G (free v) A = origin T (scoped T so) (sequent M G (plain (has_type (free v) A))) p in
-    subst (λ z. Prim T M G (plain (equal_types z A))) (Some_injective h.0 N (sym h.1 ∙ q)) h.2
+    subst (λ z. Prim T M G (plain (equal_types z A))) (same_Some h.0 N (sym h.1 ∙ q)) h.2
 admissible T so n ps c (natural_symbol {M} {G} r R a N A q e) (more p none) =
     let h : OfTerm T M G (symbol r a) A = origin T (scoped T so) (sequent M G (plain (has_type (symbol r a) A))) p in
     subst (λ z. Prim T M G (plain (equal_types z A))) (type_in (h.3) N (sym h.4 ∙ ap (λ S. conclusion_at S a) (unique T r h.0 R h.1 q) ∙ e)) h.5
@@ -183,7 +184,7 @@ admissible T so n ps c (natural_symbol {M} {G} r R a N A q e) (more p none) =
         get (term_equation_goal s t A) = A
 admissible T so n ps c (natural_metavariable {M} {G} m b a N A q e) (more p none) =
     let h : OfTerm T M G (meta m a) A = origin T (scoped T so) (sequent M G (plain (has_type (meta m a) A))) p in
-    subst (λ z. Prim T M G (plain (equal_types z A))) (ap get (sym h.4 ∙ ap (λ z. at z a) (Some_injective h.0 b (sym h.1 ∙ q)) ∙ e)) h.5
+    subst (λ z. Prim T M G (plain (equal_types z A))) (ap get (sym h.4 ∙ ap (λ z. at z a) (same_Some h.0 b (sym h.1 ∙ q)) ∙ e)) h.5
   where
     type_of_claim : Claim → Expression
     type_of_claim (term_goal A) = A
@@ -217,13 +218,13 @@ holds_map D E w M [] h = tt
 holds_map D E w M (p ∷ ps) h = (h.0, h.1, w M p.1 h.2, holds_map D E w (M ++ (p ∷ [])) ps h.3)
 
 pub rule_before : (T U : List Rule) (r : ℕ) (R : Rule) → rule_at T r ≡ Some R → rule_at (T ++ U) r ≡ Some R
-rule_before [] U r R q = nothing q
+rule_before [] U r R q = none_some q
 rule_before (S ∷ T) U zero R q = q
 rule_before (S ∷ T) U (suc r) R q = rule_before T U r R q
 
 rule_last : (T : List Rule) (S : Rule) (r : ℕ) (R : Rule) → rule_at (T ++ (S ∷ [])) r ≡ Some R → (rule_at T r ≡ Some R) ⊎ (S ≡ R)
-rule_last [] S zero R q = inr (Some_injective S R q)
-rule_last [] S (suc r) R q = nothing q
+rule_last [] S zero R q = inr (same_Some S R q)
+rule_last [] S (suc r) R q = none_some q
 rule_last (Q ∷ T) S zero R q = inl q
 rule_last (Q ∷ T) S (suc r) R q = rule_last T S r R q
 
@@ -251,7 +252,7 @@ sound_after k T [] so f = subst Sound (sym (append-nil T)) so
 sound_after k T (S ∷ Rs) so f = subst Sound (append_assoc T (S ∷ []) Rs) (sound_after k (T ++ (S ∷ [])) Rs (sound_longer T S so (rule_is_primitive k T so S f.0)) f.1)
 
 pub finitary_sound : (k : ℕ) (T : List Rule) → FinitaryUpTo k T → Sound T
-finitary_sound k T f = sound_after k [] T (λ r R q. nothing q) f
+finitary_sound k T f = sound_after k [] T (λ r R q. none_some q) f
 
 -- primitive steps are steps of every level
 pub at_level : (k : ℕ) (T : List Rule) (c : Sequent) → Tree (Step T) c → Tree (StepUpTo k T) c
@@ -275,4 +276,4 @@ finitary_after_levels k l T (S ∷ Rs) so f =
     )
 
 pub finitary_levels : (k l : ℕ) (T : List Rule) → FinitaryUpTo k T → FinitaryUpTo l T
-finitary_levels k l T f = finitary_after_levels k l [] T (λ r R q. nothing q) f
+finitary_levels k l T f = finitary_after_levels k l [] T (λ r R q. none_some q) f

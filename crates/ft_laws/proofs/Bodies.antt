@@ -1,12 +1,13 @@
 -- A boundary filled with a body, opened at terms one by one, is the opened boundary filled with the body at all terms at once.
 use Rattle.std.proofs.Common.{◌≡◌, ◌≢◌, ℕ, zero, suc, ◌+◌, ◌<◌, ◌∷◌, refl, sym, ap, ap₂, ◌∙◌, subst, arith}
+use Rattle.ft_common.proofs.Choices.{if_same, if_other}
 use Rattle.ft_theory.specs.Expressions.{Expression, bound, Terms, no_terms, also, count, put, push, pushes, ClosedAt, ClosedTerms, open_at}
 use Rattle.ft_theory.specs.Statements.{has_type, Statement, plain, abstracted, opened, domain, domain_count, at, fill, equate}
 use Rattle.ft_theory.specs.Rules.{term_typings}
 use Rattle.ft_laws.proofs.Raw.{put-put}
 use Rattle.ft_laws.proofs.Closed.{put_agree, put_closed, put-bound}
 use Rattle.ft_laws.proofs.Acts.{pushes_below}
-use Rattle.ft_laws.proofs.Opens.{same, other, by_test, single, open_is_put, Closed-open}
+use Rattle.ft_laws.proofs.Opens.{by_test, single, open_is_put, Closed-open}
 use Rattle.ft_laws.proofs.Statements.{fill-map, equate-map, domain_count-map}
 
 pushes_at : (a : Terms) (s : ℕ → Expression) (k : ℕ) → pushes s a (count a + k) ≡ s k
@@ -17,9 +18,9 @@ pushes_at (also t a) s k = ap (pushes (push s t) a) (omega arith) ∙ pushes_at 
 push_at : (a : Terms) (t : Expression) → ClosedAt zero t → (j : ℕ) → j < suc (count a) → put (pushes bound a) (single (count a) t j) ≡ pushes (push bound t) a j
 unfolding push put
 push_at a t c j l = by_test (put (pushes bound a) (single (count a) t j) ≡ pushes (push bound t) a j) j (count a)
-    (λ e. ap (put (pushes bound a)) (same j (count a) t (bound j) e) ∙ put_closed t (pushes bound a) c
+    (λ e. ap (put (pushes bound a)) (if_same j (count a) t (bound j) e) ∙ put_closed t (pushes bound a) c
     ∙ sym (ap (pushes (push bound t) a) (e ∙ omega arith) ∙ pushes_at a (push bound t) zero))
-    (λ n. ap (put (pushes bound a)) (other j (count a) t (bound j) n)
+    (λ n. ap (put (pushes bound a)) (if_other j (count a) t (bound j) n)
     ∙ pushes_below a zero bound (push bound t) (λ i h. absurd (none i h)) j (less j n l))
   where
     none : (i : ℕ) → i < zero → ⊥

@@ -16,17 +16,17 @@ mutual
   pub rename_is_put : (e : Expression) (r : ℕ → ℕ) → rename r e ≡ put (λ j. bound (r j)) e
   rename_is_put (bound i) r = refl
   rename_is_put (free v) r = refl
-  rename_is_put (symbol f a) r = ap (symbol f) (rename_put-arguments a r)
-  rename_is_put (meta m a) r = ap (meta m) (rename_put-terms a r)
+  rename_is_put (symbol f a) r = ap (symbol f) (rename_arguments_is_put a r)
+  rename_is_put (meta m a) r = ap (meta m) (rename_terms_is_put a r)
 
-  rename_put-arguments : (a : Arguments) (r : ℕ → ℕ) → rename_arguments r a ≡ put_arguments (λ j. bound (r j)) a
-  rename_put-arguments no_arguments r = refl
-  rename_put-arguments (with_body n e a) r = ap₂ (with_body n) (rename_is_put e (under_binders n r) ∙ ap (λ t. put t e) (sym (fun_ext (lifts-bound n r)))) (rename_put-arguments a r)
-  rename_put-arguments (dummy n a) r = ap (dummy n) (rename_put-arguments a r)
+  rename_arguments_is_put : (a : Arguments) (r : ℕ → ℕ) → rename_arguments r a ≡ put_arguments (λ j. bound (r j)) a
+  rename_arguments_is_put no_arguments r = refl
+  rename_arguments_is_put (with_body n e a) r = ap₂ (with_body n) (rename_is_put e (under_binders n r) ∙ ap (λ t. put t e) (sym (fun_ext (lifts-bound n r)))) (rename_arguments_is_put a r)
+  rename_arguments_is_put (dummy n a) r = ap (dummy n) (rename_arguments_is_put a r)
 
-  rename_put-terms : (a : Terms) (r : ℕ → ℕ) → rename_terms r a ≡ put_terms (λ j. bound (r j)) a
-  rename_put-terms no_terms r = refl
-  rename_put-terms (also e a) r = ap₂ also (rename_is_put e r) (rename_put-terms a r)
+  pub rename_terms_is_put : (a : Terms) (r : ℕ → ℕ) → rename_terms r a ≡ put_terms (λ j. bound (r j)) a
+  rename_terms_is_put no_terms r = refl
+  rename_terms_is_put (also e a) r = ap₂ also (rename_is_put e r) (rename_terms_is_put a r)
 
 -- putting each bound variable for itself
 lifts_bound : (n : ℕ) (i : ℕ) → lifts n bound i ≡ bound i

@@ -1,12 +1,13 @@
 -- Acting commutes with what the steps are made of: filling, equations, terms at domains, instances of rules.
 use Rattle.std.proofs.Common.{◌≡◌, ℕ, zero, ◌&&◌, Bool, true, false, cond, nat_eq, Option, Some, List, [], ◌∷◌, ◌⊎◌, inl, inr, refl, sym, ap, ap₂, ◌∙◌}
+use Rattle.std.proofs.lemmas.Bool.{eq-eqb}
+use Rattle.ft_common.proofs.Booleans.{true_false}
 use Rattle.ft_theory.specs.Expressions.{Expression, bound, free, Arguments, no_arguments, with_body, dummy, Terms, no_terms, also, act, act_arguments, act_terms, ClosedTerms, MentionsOnly}
-use Rattle.ft_theory.specs.Statements.{Claim, is_type, has_type, equal_types, equal_terms, type_goal, term_goal, type_equation_goal, term_equation_goal, Statement, plain, abstracted, map_claim, AllOfClaim, StatementMentionsOnly, act_statement, opened, domain_count, at, fill, equate, IsObjectGoal, IsEquationGoal, IsObject, IsEquation}
+use Rattle.ft_theory.specs.Statements.{Claim, has_type, equal_terms, type_goal, term_goal, Statement, plain, abstracted, map_claim, AllOfClaim, StatementMentionsOnly, act_statement, opened, domain_count, at, fill, equate, IsObjectGoal, IsEquationGoal, IsObject, IsEquation}
 use Rattle.ft_theory.specs.Rules.{Rule, rule_at, instance_of, FitsPremises, filled_premises, equated_premises, term_typings, term_equations, conclusion_at}
 use Rattle.ft_theory.specs.Steps.{IsVariableFree}
 use Rattle.ft_laws.proofs.Acts.{IsClosedMap, after, after_at, MentionsOnly_mono}
 use Rattle.ft_laws.proofs.ClosedActs.{Closed-act}
-use Rattle.ft_laws.proofs.Opens.{test_true}
 use Rattle.ft_laws.proofs.Statements.{act-opened, domain-act, act-act_statement, act_statement_agree, fill-map, equate-map, AllOfStatement_mono}
 
 abbrev pub acts : (ℕ → Expression) → (ℕ → ℕ → Option Expression) → List Statement → List Statement
@@ -55,31 +56,17 @@ ScopedRule R = ScopedPremises R.premises R.premises × AllOfClaim (MentionsOnly 
 abbrev pub ScopedTheory : List Rule → Type 0
 ScopedTheory T = (r : ℕ) (R : Rule) → rule_at T r ≡ Some R → ScopedRule R
 
-both : (b c : Bool) → ((b ≡ true) × (c ≡ true)) ⊎ ((b && c) ≡ false)
-both true true = inl (refl, refl)
-both true false = inr refl
-both false true = inr refl
-both false false = inr refl
-
 and_same : (i j k l : ℕ) → i ≡ j → k ≡ l → (nat_eq i j && nat_eq k l) ≡ true
-and_same i j k l e f = ap₂ ◌&&◌ (test_true i j e) (test_true k l f)
+and_same i j k l e f = ap₂ ◌&&◌ (eq-eqb i j e) (eq-eqb k l f)
 
 pub not_both_goal : (c : Claim) → IsObjectGoal c → IsEquationGoal c → ⊥
-not_both_goal (is_type A) o e = o
-not_both_goal (has_type t A) o e = o
-not_both_goal (equal_types A B) o e = o
-not_both_goal (equal_terms s t A) o e = o
 not_both_goal type_goal o e = e
 not_both_goal (term_goal A) o e = e
-not_both_goal (type_equation_goal A B) o e = o
-not_both_goal (term_equation_goal s t A) o e = o
+not_both_goal c o e = o
 
 pub not_both : (x : Statement) → IsObject x → IsEquation x → ⊥
 not_both (plain c) o e = not_both_goal c o e
 not_both (abstracted A x) o e = not_both x o e
-
-true_or_false : true ≡ false → ⊥
-true_or_false e = cc
 
 -- an instance under what acts
 pub instance_of-act : (ps : List (ℕ × Statement)) (a : Arguments) (g : ℕ → Expression) (i : ℕ → ℕ → Option Expression) (m k : ℕ) → FitsPremises ps a → Covered ps m k → after g i (instance_of ps a) m k ≡ instance_of ps (act_arguments g i a) m k
@@ -90,7 +77,7 @@ instance_of-act (p ∷ ps) (with_body n e a) g i m k f c = by_body (λ c. instan
   where
     by_body : (Covered ps m k → after g i (instance_of ps a) m k ≡ instance_of ps (act_arguments g i a) m k) → (b : Bool) → (nat_eq m p.0 && nat_eq k n) ≡ b → ((m ≡ p.0) × IsObject p.1 × (k ≡ domain_count p.1)) ⊎ Covered ps m k → after_at g i (cond (nat_eq m p.0 && nat_eq k n) (Some e) (instance_of ps a m k)) m k ≡ cond (nat_eq m p.0 && nat_eq k n) (Some (act g i e)) (instance_of ps (act_arguments g i a) m k)
     by_body rec true q c = ap (λ b. after_at g i (cond b (Some e) (instance_of ps a m k)) m k) q ∙ ap (λ b. cond b (Some (act g i e)) (instance_of ps (act_arguments g i a) m k)) (sym q)
-    by_body rec false q (inl c) = absurd (true_or_false (sym (and_same m p.0 k n c.0 (c.2 ∙ sym f.0)) ∙ q))
+    by_body rec false q (inl c) = true_false (sym (and_same m p.0 k n c.0 (c.2 ∙ sym f.0)) ∙ q)
     by_body rec false q (inr c) = ap (λ b. after_at g i (cond b (Some e) (instance_of ps a m k)) m k) q ∙ rec c ∙ ap (λ b. cond b (Some (act g i e)) (instance_of ps (act_arguments g i a) m k)) (sym q)
 instance_of-act (p ∷ ps) (dummy n a) g i m k f (inl c) = absurd (not_both p.1 c.1 f.1)
 instance_of-act (p ∷ ps) (dummy n a) g i m k f (inr c) = instance_of-act ps a g i m k f.2 c

@@ -1,5 +1,6 @@
 -- Derivations over more rules; theories whose boundaries are primitively derivable mention only their own premises.
 use Rattle.std.proofs.Common.{◌≡◌, ℕ, zero, Some, List, [], ◌∷◌, ◌⊎◌, inl, inr, sym, ap, ◌∙◌, subst, append_assoc, append-nil}
+use Rattle.ft_common.proofs.Options.{none_some}
 use Rattle.ft_theory.specs.Expressions.{Expression, MentionsOnly}
 use Rattle.ft_theory.specs.Statements.{Statement, plain, domain_count, IsObject, IsEquation}
 use Rattle.ft_theory.specs.Rules.{look_up, Rule, rule_at}
@@ -13,7 +14,7 @@ use Rattle.ft_laws.proofs.Scope.{scope, Fine, InVariables, InMetavariables}
 use Rattle.ft_laws.proofs.Statements.{AllOfStatement_mono, AllOfClaim_mono}
 use Rattle.ft_laws.proofs.Commute.{ScopedTheory, ScopedPremises, Covered}
 use Rattle.ft_laws.proofs.Substitute.{Extends}
-use Rattle.ft_laws.proofs.Rules.{look_before, found, past, nothing}
+use Rattle.ft_laws.proofs.Rules.{look_before, found, past}
 
 -- a primitive step over more rules
 pub more_rules_step : (T U : List Rule) → ((r : ℕ) (R : Rule) → rule_at T r ≡ Some R → rule_at U r ≡ Some R) → (ps : List Sequent) (c : Sequent) → Step T ps c → Step U ps c
@@ -51,13 +52,13 @@ abbrev pub Sound : List Rule → Type 0
 Sound T = (r : ℕ) (R : Rule) → rule_at T r ≡ Some R → RuleHolds (λ M x. Prim T M [] x) R
 
 pub look_covered : (ps : List (ℕ × Statement)) (m k : ℕ) (b : Statement) → look_up ps m ≡ Some b → IsObject b → k ≡ domain_count b → Covered ps m k
-look_covered [] m k b q o d = nothing q
+look_covered [] m k b q o d = none_some q
 look_covered (p ∷ ps) m k b q o d = by_test (Covered (p ∷ ps) m k) m p.0
     (λ e. inl (e, subst IsObject (sym (found m p ps b e q)) o, d ∙ ap domain_count (sym (found m p ps b e q))))
     (λ n. inr (look_covered ps m k b (past m p ps b n q) o d))
 
 scoped_expression : (M all : List (ℕ × Statement)) → Extends M all → (k : ℕ) (e : Expression) → Fine M [] k e → MentionsOnly (λ v. ⊥) (Covered all) e
-scoped_expression M all w k e f = MentionsOnly_mono e (InVariables []) (λ v. ⊥) (InMetavariables M) (Covered all) (λ v h. nothing h.1) (λ m k h. look_covered all m k h.0 (w m h.0 h.1) h.2 h.3) f.1
+scoped_expression M all w k e f = MentionsOnly_mono e (InVariables []) (λ v. ⊥) (InMetavariables M) (Covered all) (λ v h. none_some h.1) (λ m k h. look_covered all m k h.0 (w m h.0 h.1) h.2 h.3) f.1
 
 scoped_premises : (T : List Rule) (all M ps : List (ℕ × Statement)) → Extends (M ++ ps) all → PremisesHold (λ M x. Prim T M [] x) M ps → ScopedPremises all ps
 scoped_premises T all M [] w h = tt

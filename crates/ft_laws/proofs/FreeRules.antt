@@ -1,5 +1,7 @@
 -- A theory whose rule has a free variable in its boundary, `D(v5) == A`: weakening fails over it.
 use Rattle.std.proofs.Common.{◌≡◌, ℕ, zero, suc, Some, None, List, [], ◌∷◌, ◌⊎◌, inl, inr, refl, sym, ap, ap₂, ◌∙◌, subst}
+use Rattle.std.proofs.lemmas.Option.{same_Some}
+use Rattle.ft_common.proofs.Options.{none_some}
 use Rattle.ft_theory.specs.Expressions.{Expression, bound, free, symbol, meta, Arguments, no_arguments, with_body, dummy, act, open_at, close_at}
 use Rattle.ft_theory.specs.Statements.{is_type, has_type, equal_types, equal_terms, type_goal, term_goal, type_equation_goal, term_equation_goal, Statement, plain, abstracted, fill_goal, equate_goal, IsObjectGoal, IsEquationGoal}
 use Rattle.ft_theory.specs.Rules.{Rule, rule_at, instance_of, FitsPremises, equated_premises, conclusion_at, look_up}
@@ -7,10 +9,8 @@ use Rattle.ft_theory.specs.Steps.{Sequent, sequent, sequents, Step, variable, me
 use Rattle.ft_theory.specs.WideSteps.{weakening}
 use Rattle.ft_laws.specs.Counterexamples.{LawNeedsFinitary}
 use Rattle.ft_laws.proofs.Induction.{AllOf, induct}
-use Rattle.ft_laws.proofs.Fresh.{Some_injective}
 use Rattle.ft_laws.proofs.Steps.{do_variable, do_for_types}
 use Rattle.ft_laws.proofs.Peel.{Peeled, peel}
-use Rattle.ft_laws.proofs.Rules.{nothing}
 use Rattle.ft_laws.proofs.Admissible.{at_level}
 use Rattle.ft_laws.proofs.Strengthening.{no_entry, no_argument}
 
@@ -51,7 +51,7 @@ unfolding act close_at
 the_equation =
     let e : Prim free_theory [] the_variables (plain (equal_types (dependent (free 5)) elements)) =
     node (sequent [] the_variables (plain (type_equation_goal (dependent (free 5)) elements)) ∷ []) (equation_rule 2 free_rule no_arguments refl tt tt) (more (do_for_types type_dependent (type_elements the_variables)) none) in
-    node (sequent [] [] (plain (is_type elements)) ∷ sequent [] the_variables (plain (equal_types (dependent (free 5)) elements)) ∷ []) (abstraction 5 elements (plain (equal_types (dependent (free 5)) elements)) refl (λ u B e. nothing e))
+    node (sequent [] [] (plain (is_type elements)) ∷ sequent [] the_variables (plain (equal_types (dependent (free 5)) elements)) ∷ []) (abstraction 5 elements (plain (equal_types (dependent (free 5)) elements)) refl (λ u B e. none_some e))
     (more (type_elements []) (more e none))
 
 -- without metavariables, equal terms are the same, and equal types are the same or both among `A` and `D(v5)`
@@ -85,10 +85,10 @@ linked_transitive A B C (inr l) (inl e) = subst (λ X. SameOrLinked A X) e (inr 
 linked_transitive A B C (inr l) (inr k) = inr (l.0, k.1)
 
 each_rule : (r : ℕ) (R : Rule) → rule_at free_theory r ≡ Some R → (elements_rule ≡ R) ⊎ ((dependent_rule ≡ R) ⊎ (free_rule ≡ R))
-each_rule zero R q = inl (Some_injective elements_rule R q)
-each_rule (suc zero) R q = inr (inl (Some_injective dependent_rule R q))
-each_rule (suc (suc zero)) R q = inr (inr (Some_injective free_rule R q))
-each_rule (suc (suc (suc r))) R q = nothing q
+each_rule zero R q = inl (same_Some elements_rule R q)
+each_rule (suc zero) R q = inr (inl (same_Some dependent_rule R q))
+each_rule (suc (suc zero)) R q = inr (inr (same_Some free_rule R q))
+each_rule (suc (suc (suc r))) R q = none_some q
 
 of_symbol : (r : ℕ) (R : Rule) (a : Arguments) → IsObjectGoal R.conclusion → (elements_rule ≡ R) ⊎ ((dependent_rule ≡ R) ⊎ (free_rule ≡ R)) → Linked (plain (fill_goal (conclusion_at R a) (symbol r a)))
 of_symbol r R a o (inl q) = subst (λ R. Linked (plain (fill_goal (conclusion_at R a) (symbol r a)))) q tt
@@ -171,7 +171,7 @@ not_linked v n (inr l) = among l.0
   where
     among : IsLinked (dependent (free v)) → ⊥
     among (inl e) = apart v e
-    among (inr e) = nothing (sym (subst (λ u. look_up the_variables u ≡ None) (ap number_in e) n))
+    among (inr e) = none_some (sym (subst (λ u. look_up the_variables u ≡ None) (ap number_in e) n))
 
 -- over a v5 of type A it is not derivable
 not_derivable : Prim free_theory [] the_variables (abstracted elements (plain (equal_types (dependent (bound 0)) elements))) → ⊥
@@ -186,4 +186,4 @@ law_needs_finitary k l h =
     let x : Statement = abstracted elements (plain (equal_types (dependent (bound 0)) elements)) in
     not_derivable
     ((h free_theory [] the_variables x).0
-    (node (sequent [] [] x ∷ []) (inr (1, l, weakening x (λ m b q. q) (λ v A q. nothing q))) (more (at_level k free_theory (sequent [] [] x) the_equation) none)))
+    (node (sequent [] [] x ∷ []) (inr (1, l, weakening x (λ m b q. q) (λ v A q. none_some q))) (more (at_level k free_theory (sequent [] [] x) the_equation) none)))

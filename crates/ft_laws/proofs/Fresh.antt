@@ -1,10 +1,12 @@
 -- A number above all free variables of an expression, a statement or a map is new to it.
-use Rattle.std.proofs.Common.{◌≡◌, ◌≢◌, ℕ, zero, suc, ◌≤◌, max, Option, Some, None, List, [], ◌∷◌, refl, sym, ap, ◌∙◌, subst, arith}
+use Rattle.std.proofs.Common.{◌≡◌, ◌≢◌, ℕ, zero, suc, ◌≤◌, max, Some, None, List, [], ◌∷◌, refl, sym, ◌∙◌, subst, arith}
+use Rattle.std.proofs.lemmas.Option.{same_Some}
+use Rattle.ft_common.proofs.Choices.{if_same, if_other}
 use Rattle.ft_theory.specs.Expressions.{Expression, bound, free, symbol, meta, Arguments, no_arguments, with_body, dummy, Terms, no_terms, also, Without, ArgumentsMentionOnly, TermsMentionOnly}
 use Rattle.ft_theory.specs.Statements.{Claim, is_type, has_type, equal_types, equal_terms, type_goal, term_goal, type_equation_goal, term_equation_goal, Statement, plain, abstracted, AllOfClaim, AllOfStatement}
 use Rattle.ft_theory.specs.Rules.{look_up}
 use Rattle.ft_theory.specs.Steps.{Unmentioned}
-use Rattle.ft_laws.proofs.Opens.{same, other, by_test}
+use Rattle.ft_laws.proofs.Opens.{by_test}
 
 abbrev mutual
   limit : Expression → ℕ
@@ -72,14 +74,7 @@ limit_of_variables (p ∷ G) = max (suc p.0) (max (limit p.1) (limit_of_variable
 
 pub fresh_absent : (G : List (ℕ × Expression)) (v : ℕ) → limit_of_variables G ≤ v → look_up G v ≡ None
 fresh_absent [] v h = refl
-fresh_absent (p ∷ G) v h = other v p.0 (Some p.1) (look_up G v) (λ e. grind (arith, e, h)) ∙ fresh_absent G v (omega arith)
-
-pub Some_injective : {A : Type 0} (x y : A) → Some x ≡ Some y → x ≡ y
-Some_injective x y e = ap (get x) e
-  where
-    get : {A : Type 0} → A → Option A → A
-    get d None = d
-    get d (Some z) = z
+fresh_absent (p ∷ G) v h = if_other v p.0 (Some p.1) (look_up G v) (λ e. grind (arith, e, h)) ∙ fresh_absent G v (omega arith)
 
 pub fresh_unmentioned : (G : List (ℕ × Expression)) (v : ℕ) → limit_of_variables G ≤ v → Unmentioned v G
 fresh_unmentioned [] v h u B e = absurd (apart e)
@@ -87,5 +82,5 @@ fresh_unmentioned [] v h u B e = absurd (apart e)
     apart : None ≡ Some B → ⊥
     apart e = cc
 fresh_unmentioned (p ∷ G) v h u B e = by_test (Without v B) u p.0
-    (λ q. subst (Without v) (Some_injective p.1 B (sym (same u p.0 (Some p.1) (look_up G u) q) ∙ e)) (above p.1 v (omega arith)))
-    (λ q. fresh_unmentioned G v (omega arith) u B (sym (other u p.0 (Some p.1) (look_up G u) q) ∙ e))
+    (λ q. subst (Without v) (same_Some p.1 B (sym (if_same u p.0 (Some p.1) (look_up G u) q) ∙ e)) (above p.1 v (omega arith)))
+    (λ q. fresh_unmentioned G v (omega arith) u B (sym (if_other u p.0 (Some p.1) (look_up G u) q) ∙ e))

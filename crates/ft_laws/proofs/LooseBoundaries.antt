@@ -1,5 +1,6 @@
 -- A metavariable step without its boundary as a premise: a derivable term has a type that is not derivable.
 use Rattle.std.proofs.Common.{◌≡◌, ℕ, zero, Some, List, [], ◌∷◌, ◌⊎◌, inl, inr, refl, sym, ap, ◌∙◌, subst}
+use Rattle.ft_common.proofs.Options.{none_some}
 use Rattle.ft_theory.specs.Expressions.{bound, meta, Terms, no_terms, count}
 use Rattle.ft_theory.specs.Statements.{is_type, has_type, equal_types, equal_terms, type_goal, term_goal, type_equation_goal, term_equation_goal, Statement, plain, abstracted, at, fill, equate}
 use Rattle.ft_theory.specs.Rules.{look_up}
@@ -7,7 +8,7 @@ use Rattle.ft_theory.specs.Steps.{Sequent, sequent, Step, variable, metavariable
 use Rattle.ft_laws.specs.Counterexamples.{LooseMetavariable, loose, SidesNeedTheBoundary}
 use Rattle.ft_laws.proofs.Equal.{at_plain}
 use Rattle.ft_laws.proofs.Opens.{by_test}
-use Rattle.ft_laws.proofs.Rules.{nothing, found, past}
+use Rattle.ft_laws.proofs.Rules.{found, past}
 
 -- a metavariable m0 with the boundary `_ : m1()`, and no m1
 abbrev loose_map : List (ℕ × Statement)
@@ -16,7 +17,7 @@ loose_map = (0, plain (term_goal (meta 1 no_terms))) ∷ []
 only_terms : (m : ℕ) (b : Statement) (a : Terms) → look_up loose_map m ≡ Some b → at b a ≡ plain (term_goal (meta 1 no_terms))
 only_terms m b a q = by_test (at b a ≡ plain (term_goal (meta 1 no_terms))) m 0
     (λ e. ap (λ z. at z a) (sym (found m (0, plain (term_goal (meta 1 no_terms))) [] b e q)) ∙ at_plain a (term_goal (meta 1 no_terms)))
-    (λ n. nothing (past m (0, plain (term_goal (meta 1 no_terms))) [] b n q))
+    (λ n. none_some (past m (0, plain (term_goal (meta 1 no_terms))) [] b n q))
 
 abbrev IsNoType : Statement → Type 0
 IsNoType (plain (is_type A)) = ⊥
@@ -55,9 +56,9 @@ no_types c e (node ps s ts) = last ps c s e
     last ps c (inl (for_term A)) e = tt
     last ps c (inl (for_types A B)) e = tt
     last ps c (inl (for_terms s t A)) e = tt
-    last ps c (inl (symbol_rule r R a q f o)) e = nothing q
-    last ps c (inl (equation_rule r R a q f o)) e = nothing q
-    last ps c (inl (congruence r R a b q f f' o)) e = nothing q
+    last ps c (inl (symbol_rule r R a q f o)) e = none_some q
+    last ps c (inl (equation_rule r R a q f o)) e = none_some q
+    last ps c (inl (congruence r R a b q f f' o)) e = none_some q
 
 pub sides_need_the_boundary : SidesNeedTheBoundary
 unfolding count

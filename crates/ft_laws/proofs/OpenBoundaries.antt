@@ -1,5 +1,7 @@
 -- A map whose metavariable has a free variable in its boundary `_ : D(v0)`: a term put for the variable is not derivable.
 use Rattle.std.proofs.Common.{◌≡◌, ℕ, zero, suc, Some, List, [], ◌∷◌, ◌⊎◌, inl, inr, refl, sym, ap, ◌∙◌, subst}
+use Rattle.std.proofs.lemmas.Option.{same_Some}
+use Rattle.ft_common.proofs.Options.{none_some}
 use Rattle.ft_theory.specs.Expressions.{Expression, bound, free, symbol, meta, Arguments, no_arguments, with_body, dummy, no_terms, count, act, open_at, close_at}
 use Rattle.ft_theory.specs.Statements.{is_type, has_type, equal_types, equal_terms, type_goal, term_goal, type_equation_goal, term_equation_goal, Statement, plain, abstracted, at, fill_goal, equate, equate_goal, IsEquationGoal}
 use Rattle.ft_theory.specs.Rules.{Rule, rule_at, instance_of, FitsPremises, filled_premises, conclusion_at, look_up}
@@ -7,10 +9,9 @@ use Rattle.ft_theory.specs.Steps.{Sequent, sequent, sequents, Step, variable, me
 use Rattle.ft_theory.specs.Derivability.{Der, Finitary}
 use Rattle.ft_laws.specs.Counterexamples.{OpenMetavariable, with_open_boundary, SubstitutionNeedsVariableFree}
 use Rattle.ft_laws.proofs.Induction.{AllOf, induct}
-use Rattle.ft_laws.proofs.Fresh.{Some_injective}
 use Rattle.ft_laws.proofs.Opens.{by_test}
 use Rattle.ft_laws.proofs.Equal.{at_plain}
-use Rattle.ft_laws.proofs.Rules.{nothing, found, past}
+use Rattle.ft_laws.proofs.Rules.{found, past}
 use Rattle.ft_laws.proofs.Products.{by_rule}
 use Rattle.ft_laws.proofs.ProductsFinitary.{type_boundary, term_boundary}
 use Rattle.ft_laws.proofs.Strengthening.{no_entry, no_argument}
@@ -87,7 +88,7 @@ under_elements =
     let m : Tree AnyStep (sequent the_map G (plain (has_type (meta 0 no_terms) (dependent (free 0))))) =
     node (sequent the_map G (plain (term_goal (dependent (free 0)))) ∷ []) (inr (with_open_boundary 0 (plain (term_goal (dependent (free 0)))) no_terms refl tt refl)) (more b none) in
     node (sequent the_map [] (plain (is_type elements)) ∷ sequent the_map G (plain (has_type (meta 0 no_terms) (dependent (free 0)))) ∷ [])
-    (inl (abstraction 0 elements (plain (has_type (meta 0 no_terms) (dependent (free 0)))) refl (λ u B e. nothing e))) (more (type_elements []) (more m none))
+    (inl (abstraction 0 elements (plain (has_type (meta 0 no_terms) (dependent (free 0)))) refl (λ u B e. none_some e))) (more (type_elements []) (more m none))
 
 -- over no variables no term is a free variable or a metavariable, and no type has a free variable as its first argument
 abbrev IsSymbol : Expression → Type 0
@@ -126,16 +127,16 @@ the_boundary M m b e q =
     let q' : look_up the_map m ≡ Some b = subst (λ M. look_up M m ≡ Some b) e q in
     by_test (plain (term_goal (dependent (free 0))) ≡ b) m 0
     (λ d. found m (0, plain (term_goal (dependent (free 0)))) [] b d q')
-    (λ n. nothing (past m (0, plain (term_goal (dependent (free 0)))) [] b n q'))
+    (λ n. none_some (past m (0, plain (term_goal (dependent (free 0)))) [] b n q'))
 
 not_expected : (M : List (ℕ × Statement)) (G : List (ℕ × Expression)) (m : ℕ) (b : Statement) → M ≡ the_map → G ≡ [] → look_up M m ≡ Some b → ExpectedIn (sequent M G b) → ⊥
 not_expected M G m b e e' q h = subst Expected (sym (the_boundary M m b e q)) (h e e')
 
 each_rule : (r : ℕ) (R : Rule) → rule_at the_theory r ≡ Some R → (elements_rule ≡ R) ⊎ ((constant_rule ≡ R) ⊎ (dependent_rule ≡ R))
-each_rule zero R q = inl (Some_injective elements_rule R q)
-each_rule (suc zero) R q = inr (inl (Some_injective constant_rule R q))
-each_rule (suc (suc zero)) R q = inr (inr (Some_injective dependent_rule R q))
-each_rule (suc (suc (suc r))) R q = nothing q
+each_rule zero R q = inl (same_Some elements_rule R q)
+each_rule (suc zero) R q = inr (inl (same_Some constant_rule R q))
+each_rule (suc (suc zero)) R q = inr (inr (same_Some dependent_rule R q))
+each_rule (suc (suc (suc r))) R q = none_some q
 
 of_dependent : (M : List (ℕ × Statement)) (G : List (ℕ × Expression)) (a : Arguments) → M ≡ the_map → G ≡ [] → AllOf ExpectedIn (sequents M G (filled_premises (instance_of dependent_rule.premises a) dependent_rule.premises a)) → FirstIsSymbol a
 of_dependent M G no_arguments e e' h = tt

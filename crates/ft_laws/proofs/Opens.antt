@@ -2,31 +2,12 @@
 use Rattle.std.proofs.Common.{◌≡◌, ◌≢◌, ℕ, zero, suc, ◌+◌, ◌<◌, Option, true, false, cond, nat_eq, ◌⊎◌, inl, inr, refl, sym, ap, ap₂, ◌∙◌, subst, arith}
 use Rattle.std.proofs.lemmas.Bool.Decides.{eqb_tells}
 use mathlib.Core.Path.{fun_ext}
+use Rattle.ft_common.proofs.Choices.{if_same, if_other}
 use Rattle.ft_theory.specs.Expressions.{Expression, bound, free, symbol, meta, Arguments, no_arguments, with_body, dummy, Terms, no_terms, also, count, rename, lift, lifts, put, put_arguments, put_terms, act, ClosedAt, ClosedArguments, ClosedTerms, MentionsOnly, ArgumentsMentionOnly, TermsMentionOnly, Without, open_at, open_arguments, open_terms, close_at, close_arguments, close_terms}
 use Rattle.ft_laws.proofs.Closed.{rename_closed}
 use Rattle.ft_laws.proofs.Acts.{IsClosedMap, act-put}
 
 -- a test of numbers, by cases
-pub test_true : (i j : ℕ) → i ≡ j → nat_eq i j ≡ true
-test_true i j e = by_decision (eqb_tells i j)
-  where
-    by_decision : ((nat_eq i j ≡ true) × (i ≡ j)) ⊎ ((nat_eq i j ≡ false) × (i ≢ j)) → nat_eq i j ≡ true
-    by_decision (inl h) = h.0
-    by_decision (inr h) = absurd (h.1 e)
-
-pub test_false : (i j : ℕ) → i ≢ j → nat_eq i j ≡ false
-test_false i j n = by_decision (eqb_tells i j)
-  where
-    by_decision : ((nat_eq i j ≡ true) × (i ≡ j)) ⊎ ((nat_eq i j ≡ false) × (i ≢ j)) → nat_eq i j ≡ false
-    by_decision (inl h) = absurd (n h.1)
-    by_decision (inr h) = h.0
-
-pub same : {A : Type 0} (i j : ℕ) (x y : A) → i ≡ j → cond (nat_eq i j) x y ≡ x
-same i j x y e = ap (λ b. cond b x y) (test_true i j e)
-
-pub other : {A : Type 0} (i j : ℕ) (x y : A) → i ≢ j → cond (nat_eq i j) x y ≡ y
-other i j x y n = ap (λ b. cond b x y) (test_false i j n)
-
 pub by_test : (P : Type 0) (i j : ℕ) → (i ≡ j → P) → (i ≢ j → P) → P
 by_test P i j h h' = by_decision (eqb_tells i j)
   where
@@ -40,10 +21,10 @@ single k t i = cond (nat_eq i k) t (bound i)
 
 lift-single : (k : ℕ) (t : Expression) → ClosedAt zero t → (i : ℕ) → lift (single k t) i ≡ single (suc k) t i
 unfolding lift rename
-lift-single k t c zero = sym (other zero (suc k) t (bound zero) (λ e. grind (arith, e)))
+lift-single k t c zero = sym (if_other zero (suc k) t (bound zero) (λ e. grind (arith, e)))
 lift-single k t c (suc i) = by_test (rename suc (single k t i) ≡ single (suc k) t (suc i)) i k
-    (λ e. ap (rename suc) (same i k t (bound i) e) ∙ rename_closed t suc c ∙ sym (same (suc i) (suc k) t (bound (suc i)) (ap suc e)))
-    (λ n. ap (rename suc) (other i k t (bound i) n) ∙ sym (other (suc i) (suc k) t (bound (suc i)) (λ e. n (omega (arith, e)))))
+    (λ e. ap (rename suc) (if_same i k t (bound i) e) ∙ rename_closed t suc c ∙ sym (if_same (suc i) (suc k) t (bound (suc i)) (ap suc e)))
+    (λ n. ap (rename suc) (if_other i k t (bound i) n) ∙ sym (if_other (suc i) (suc k) t (bound (suc i)) (λ e. n (omega (arith, e)))))
 
 lifts-single : (n k : ℕ) (t : Expression) → ClosedAt zero t → (i : ℕ) → lifts n (single k t) i ≡ single (n + k) t i
 unfolding lifts
@@ -72,8 +53,8 @@ mutual
 act-single : (g : ℕ → Expression) (i : ℕ → ℕ → Option Expression) (k : ℕ) (t : Expression) (j : ℕ) → act g i (single k t j) ≡ single k (act g i t) j
 unfolding act
 act-single g i k t j = by_test (act g i (single k t j) ≡ single k (act g i t) j) j k
-    (λ e. ap (act g i) (same j k t (bound j) e) ∙ sym (same j k (act g i t) (bound j) e))
-    (λ n. ap (act g i) (other j k t (bound j) n) ∙ sym (other j k (act g i t) (bound j) n))
+    (λ e. ap (act g i) (if_same j k t (bound j) e) ∙ sym (if_same j k (act g i t) (bound j) e))
+    (λ n. ap (act g i) (if_other j k t (bound j) n) ∙ sym (if_other j k (act g i t) (bound j) n))
 
 pub act-open : (e : Expression) (g : ℕ → Expression) (i : ℕ → ℕ → Option Expression) (k : ℕ) (t : Expression) → IsClosedMap g i → ClosedAt zero t → ClosedAt zero (act g i t) → act g i (open_at k t e) ≡ open_at k (act g i t) (act g i e)
 act-open e g i k t c h h' =
@@ -87,9 +68,9 @@ mutual
 
   pub close-open : (e : Expression) (k v : ℕ) → Without v e → close_at k v (open_at k (free v) e) ≡ e
   close-open (bound i) k v w = by_test (close_at k v (open_at k (free v) (bound i)) ≡ bound i) i k
-      (λ e. ap (close_at k v) (same i k (free v) (bound i) e) ∙ same v v (bound k) (free v) refl ∙ ap bound (sym e))
-      (λ n. ap (close_at k v) (other i k (free v) (bound i) n))
-  close-open (free u) k v w = other u v (bound k) (free u) w
+      (λ e. ap (close_at k v) (if_same i k (free v) (bound i) e) ∙ if_same v v (bound k) (free v) refl ∙ ap bound (sym e))
+      (λ n. ap (close_at k v) (if_other i k (free v) (bound i) n))
+  close-open (free u) k v w = if_other u v (bound k) (free u) w
   close-open (symbol f a) k v w = ap (symbol f) (close-open-arguments a k v w)
   close-open (meta m a) k v w = ap (meta m) (close-open-terms a k v w.1)
 
@@ -106,10 +87,10 @@ mutual
   unfolding open_at close_at
 
   pub open-close : (e : Expression) (k v : ℕ) → ClosedAt k e → open_at k (free v) (close_at k v e) ≡ e
-  open-close (bound i) k v c = other i k (free v) (bound i) (λ e. grind (arith, e, c))
+  open-close (bound i) k v c = if_other i k (free v) (bound i) (λ e. grind (arith, e, c))
   open-close (free u) k v c = by_test (open_at k (free v) (close_at k v (free u)) ≡ free u) u v
-      (λ e. ap (open_at k (free v)) (same u v (bound k) (free u) e) ∙ same k k (free v) (bound k) refl ∙ ap free (sym e))
-      (λ n. ap (open_at k (free v)) (other u v (bound k) (free u) n))
+      (λ e. ap (open_at k (free v)) (if_same u v (bound k) (free u) e) ∙ if_same k k (free v) (bound k) refl ∙ ap free (sym e))
+      (λ n. ap (open_at k (free v)) (if_other u v (bound k) (free u) n))
   open-close (symbol f a) k v c = ap (symbol f) (open-close-arguments a k v c)
   open-close (meta m a) k v c = ap (meta m) (open-close-terms a k v c)
 
@@ -155,8 +136,8 @@ mutual
 
   pub Closed-open : (e : Expression) (k : ℕ) (t : Expression) → ClosedAt (suc k) e → ClosedAt zero t → ClosedAt k (open_at k t e)
   Closed-open (bound i) k t c h = by_test (ClosedAt k (open_at k t (bound i))) i k
-      (λ e. subst (ClosedAt k) (sym (same i k t (bound i) e)) (Closed_mono t zero k (omega arith) h))
-      (λ n. subst (ClosedAt k) (sym (other i k t (bound i) n)) (grind (arith, n, c)))
+      (λ e. subst (ClosedAt k) (sym (if_same i k t (bound i) e)) (Closed_mono t zero k (omega arith) h))
+      (λ n. subst (ClosedAt k) (sym (if_other i k t (bound i) n)) (grind (arith, n, c)))
   Closed-open (free u) k t c h = tt
   Closed-open (symbol f a) k t c h = Closed-open-arguments a k t c h
   Closed-open (meta m a) k t c h = Closed-open-terms a k t c h
@@ -176,8 +157,8 @@ mutual
   pub Closed-close : (e : Expression) (k v : ℕ) → ClosedAt k e → ClosedAt (suc k) (close_at k v e)
   Closed-close (bound i) k v c = omega arith
   Closed-close (free u) k v c = by_test (ClosedAt (suc k) (close_at k v (free u))) u v
-      (λ e. subst (ClosedAt (suc k)) (sym (same u v (bound k) (free u) e)) (omega arith))
-      (λ n. subst (ClosedAt (suc k)) (sym (other u v (bound k) (free u) n)) tt)
+      (λ e. subst (ClosedAt (suc k)) (sym (if_same u v (bound k) (free u) e)) (omega arith))
+      (λ n. subst (ClosedAt (suc k)) (sym (if_other u v (bound k) (free u) n)) tt)
   Closed-close (symbol f a) k v c = Closed-close-arguments a k v c
   Closed-close (meta m a) k v c = Closed-close-terms a k v c
 
@@ -196,8 +177,8 @@ mutual
 
   pub MentionsOnly-open : (e : Expression) (f : ℕ → Type 0) (d : ℕ → ℕ → Type 0) (k : ℕ) (t : Expression) → MentionsOnly f d e → MentionsOnly f d t → MentionsOnly f d (open_at k t e)
   MentionsOnly-open (bound i) f d k t u h = by_test (MentionsOnly f d (open_at k t (bound i))) i k
-      (λ e. subst (MentionsOnly f d) (sym (same i k t (bound i) e)) h)
-      (λ n. subst (MentionsOnly f d) (sym (other i k t (bound i) n)) tt)
+      (λ e. subst (MentionsOnly f d) (sym (if_same i k t (bound i) e)) h)
+      (λ n. subst (MentionsOnly f d) (sym (if_other i k t (bound i) n)) tt)
   MentionsOnly-open (free v) f d k t u h = u
   MentionsOnly-open (symbol s a) f d k t u h = MentionsOnly-open-arguments a f d k t u h
   MentionsOnly-open (meta m a) f d k t u h = (subst (d m) (sym (count-open a k t)) u.0, MentionsOnly-open-terms a f d k t u.1 h)
@@ -218,8 +199,8 @@ mutual
   pub MentionsOnly-close : (e : Expression) (f f' : ℕ → Type 0) (d : ℕ → ℕ → Type 0) (k v : ℕ) → ((u : ℕ) → u ≢ v → f u → f' u) → MentionsOnly f d e → MentionsOnly f' d (close_at k v e)
   MentionsOnly-close (bound i) f f' d k v p u = tt
   MentionsOnly-close (free w) f f' d k v p u = by_test (MentionsOnly f' d (close_at k v (free w))) w v
-      (λ e. subst (MentionsOnly f' d) (sym (same w v (bound k) (free w) e)) tt)
-      (λ n. subst (MentionsOnly f' d) (sym (other w v (bound k) (free w) n)) (p w n u))
+      (λ e. subst (MentionsOnly f' d) (sym (if_same w v (bound k) (free w) e)) tt)
+      (λ n. subst (MentionsOnly f' d) (sym (if_other w v (bound k) (free w) n)) (p w n u))
   MentionsOnly-close (symbol s a) f f' d k v p u = MentionsOnly-close-arguments a f f' d k v p u
   MentionsOnly-close (meta m a) f f' d k v p u = (subst (d m) (sym (count-close a k v)) u.0, MentionsOnly-close-terms a f f' d k v p u.1)
 

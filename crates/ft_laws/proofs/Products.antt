@@ -1,5 +1,6 @@
 -- The natural numbers and dependent products: worked derivations, by primitive and wide steps.
 use Rattle.std.proofs.Common.{◌≡◌, ℕ, Some, List, [], ◌∷◌, inl, inr, refl, arith}
+use Rattle.ft_common.proofs.Options.{none_some}
 use Rattle.ft_theory.specs.Expressions.{Expression, bound, free, symbol, Arguments, no_arguments, with_body, no_terms, also, count, lifts, put, push, pushes, body_or, act, open_at, close_at}
 use Rattle.ft_theory.specs.Statements.{is_type, has_type, type_goal, term_goal, Statement, plain, abstracted, fill_goal, IsObjectGoal, close_statement}
 use Rattle.ft_theory.specs.Rules.{look_up, Rule, rule_at, instance_of, FitsPremises, filled_premises, conclusion_at}
@@ -8,7 +9,6 @@ use Rattle.ft_theory.specs.WideSteps.{weakening, object_instance}
 use Rattle.ft_theory.specs.Derivability.{StepUpTo, Der}
 use Rattle.ft_laws.specs.Examples.{natural, nought, successor, rule_natural, rule_nought, rule_successor, naturals, base, family, body, argument, product, lambda, application, rule_product, rule_lambda, rule_application, TwoIsNatural}
 use Rattle.ft_laws.proofs.Steps.{do_for_term}
-use Rattle.ft_laws.proofs.Rules.{nothing}
 
 -- primitive derivations of numerals
 natural_is_type : (M : List (ℕ × Statement)) (G : List (ℕ × Expression)) → Prim naturals M G (plain (is_type natural))
@@ -36,7 +36,7 @@ pub by_rule : (T : List Rule) (M : List (ℕ × Statement)) (G : List (ℕ × Ex
 by_rule T M G r R a q f o ts = node (sequents M G (filled_premises (instance_of R.premises a) R.premises a)) (inr (5, omega arith, object_instance r R a q f o)) ts
 
 by_weakening : (T : List Rule) (M : List (ℕ × Statement)) (G : List (ℕ × Expression)) (x : Statement) → Der T M [] x → Der T M G x
-by_weakening T M G x p = node (sequent M [] x ∷ []) (inr (1, omega arith, weakening x (λ m b q. q) (λ v A q. nothing q))) (more p none)
+by_weakening T M G x p = node (sequent M [] x ∷ []) (inr (1, omega arith, weakening x (λ m b q. q) (λ v A q. none_some q))) (more p none)
 
 -- `A` is a type, where it is a metavariable with the boundary `_ type`
 pub base_is_type : (T : List Rule) (M : List (ℕ × Statement)) (G : List (ℕ × Expression)) → look_up M 0 ≡ Some (plain type_goal) → Der T M G (plain (is_type base))
@@ -47,7 +47,7 @@ base_is_type T M G q = by_step T (sequent M G (plain type_goal) ∷ []) (sequent
 under_base : (T : List Rule) (M : List (ℕ × Statement)) (x : Statement) → look_up M 0 ≡ Some (plain type_goal) → Der T M ((0, base) ∷ []) x → Der T M [] (abstracted base (close_statement 0 x))
 under_base T M x q p =
     by_step T (sequent M [] (plain (is_type base)) ∷ sequent M ((0, base) ∷ []) x ∷ []) (sequent M [] (abstracted base (close_statement 0 x)))
-    (abstraction 0 base x refl (λ u B e. nothing e)) (more (base_is_type T M [] q) (more p none))
+    (abstraction 0 base x refl (λ u B e. none_some e)) (more (base_is_type T M [] q) (more p none))
 
 variable_in_base : (T : List Rule) (M : List (ℕ × Statement)) → look_up M 0 ≡ Some (plain type_goal) → Der T M ((0, base) ∷ []) (plain (has_type (free 0) base))
 variable_in_base T M q = by_step T (sequent M ((0, base) ∷ []) (plain (is_type base)) ∷ []) (sequent M ((0, base) ∷ []) (plain (has_type (free 0) base))) (variable 0 base refl) (more (base_is_type T M ((0, base) ∷ []) q) none)

@@ -1,5 +1,6 @@
 -- The theory of natural numbers and dependent products is finitary, rule by rule; and an instance of its beta rule.
 use Rattle.std.proofs.Common.{◌≡◌, ℕ, Some, List, [], ◌∷◌, inl, inr, refl, arith}
+use Rattle.ft_common.proofs.Options.{none_some}
 use Rattle.ft_theory.specs.Expressions.{Expression, bound, free, Arguments, no_arguments, with_body, count, rename, lift, lifts, put, push, pushes, body_or, act, close_at}
 use Rattle.ft_theory.specs.Statements.{is_type, has_type, equal_terms, type_goal, term_goal, term_equation_goal, Statement, plain, abstracted, close_statement}
 use Rattle.ft_theory.specs.Rules.{Rule, rule_at, instance_of, filled_premises}
@@ -7,7 +8,6 @@ use Rattle.ft_theory.specs.Steps.{sequent, sequents, variable, abstraction, for_
 use Rattle.ft_theory.specs.WideSteps.{equation_instance}
 use Rattle.ft_theory.specs.Derivability.{Der, Finitary, RuleHolds}
 use Rattle.ft_laws.specs.Examples.{natural, nought, successor, rule_natural, rule_nought, rule_successor, naturals, base, family, body, argument, product, lambda, application, rule_product, rule_lambda, rule_application, rule_beta, naturals_and_products, ProductsAreFinitary, BetaIsDerivable}
-use Rattle.ft_laws.proofs.Rules.{nothing}
 use Rattle.ft_laws.proofs.Admissible.{law}
 use Rattle.ft_laws.proofs.Products.{by_step, by_rule, family_boundary, family_is_type, body_boundary, body_in_family, product_is_type, argument_in_base, application_in_family, base_is_type}
 
@@ -119,7 +119,7 @@ naturals_are_finitary = (natural_holds [], (nought_holds (rule_natural ∷ []) r
 under_natural : (x : Statement) → Der naturals_and_products [] ((0, natural) ∷ []) x → Der naturals_and_products [] [] (abstracted natural (close_statement 0 x))
 under_natural x p =
     by_step naturals_and_products (sequent [] [] (plain (is_type natural)) ∷ sequent [] ((0, natural) ∷ []) x ∷ []) (sequent [] [] (abstracted natural (close_statement 0 x)))
-    (abstraction 0 natural x refl (λ u B e. nothing e)) (more (natural_type naturals_and_products [] [] refl) (more p none))
+    (abstraction 0 natural x refl (λ u B e. none_some e)) (more (natural_type naturals_and_products [] [] refl) (more p none))
 
 family_premise : Der naturals_and_products [] [] (abstracted natural (plain (is_type natural)))
 unfolding close_at

@@ -1,5 +1,7 @@
 -- Two maps through one derivation: what they make of a derivable statement is equal, part by part, at equal terms.
 use Rattle.std.proofs.Common.{◌≡◌, ℕ, zero, suc, Option, Some, None, List, [], ◌∷◌, inr, refl, sym, ap, ◌∙◌, subst, subst₂, arith}
+use Rattle.std.proofs.lemmas.Option.{same_Some}
+use Rattle.ft_common.proofs.Choices.{if_same, if_other}
 use Rattle.ft_theory.specs.Expressions.{Expression, bound, free, symbol, Arguments, no_arguments, with_body, dummy, Terms, no_terms, also, count, act, act_arguments, act_terms, ClosedAt, ClosedTerms}
 use Rattle.ft_theory.specs.Statements.{Claim, is_type, has_type, equal_types, equal_terms, type_goal, term_goal, type_equation_goal, term_equation_goal, Statement, plain, abstracted, map_claim, map_statement, act_statement, close_statement, opened, domain, domain_count, at, fill_goal, fill, equate_goal, equate, IsObjectGoal, IsEquationGoal, IsObject, IsEquation}
 use Rattle.ft_theory.specs.Rules.{look_up, Rule, instance_of, FitsPremises, filled_premises, equated_premises, term_typings, term_equations, conclusion_at}
@@ -7,9 +9,8 @@ use Rattle.ft_theory.specs.Steps.{Sequent, sequent, sequents, IsVariableFree, Un
 use Rattle.ft_laws.specs.Instances.{statement_at}
 use Rattle.ft_laws.proofs.Induction.{AllOf, induct}
 use Rattle.ft_laws.proofs.Acts.{IsClosedMap, count-act}
-use Rattle.ft_laws.proofs.Opens.{same, other, by_test}
+use Rattle.ft_laws.proofs.Opens.{by_test}
 use Rattle.ft_laws.proofs.Steps.{do_symmetric_types, do_convert_term, do_convert_equation}
-use Rattle.ft_laws.proofs.Fresh.{Some_injective}
 use Rattle.ft_laws.proofs.Scope.{scope, Fine, FineStatement, FineTerms, object-at, equation-at, domain_count-at, Fine-term_typings}
 use Rattle.ft_laws.proofs.Peel.{domain_count-fill, domain_count-equate}
 use Rattle.ft_laws.proofs.Statements.{domain_count-map, object-map, object_goal-map, equation-map, equation_goal-map, act-opened, domain-act}
@@ -148,13 +149,13 @@ under_pair T sc M G N H K g i h j v A s t m n u f gr rl =
       closed = send_closed h j v t m.closed cl.1;
       related = λ w B q. by_test (Paired T N K (send g v s w) (send h v t w) (act (send g v s) i B)) w v
           (λ e.
-          let AB : A ≡ B = Some_injective A B (sym (same w v (Some A) (look_up G w) e) ∙ q) in
+          let AB : A ≡ B = same_Some A B (sym (if_same w v (Some A) (look_up G w) e) ∙ q) in
           let Ae : act (send g v s) i B ≡ act g i A = ap (act (send g v s) i) (sym AB) ∙ send_without A g i v s (absent_without M G v zero A n f) in
-          subst (λ D. Paired T N K (send g v s w) (send h v t w) D) (sym Ae) (subst₂ (λ x y. Paired T N K x y (act g i A)) (sym (same w v s (g w) e)) (sym (same w v t (h w) e)) rl))
+          subst (λ D. Paired T N K (send g v s w) (send h v t w) D) (sym Ae) (subst₂ (λ x y. Paired T N K x y (act g i A)) (sym (if_same w v s (g w) e)) (sym (if_same w v t (h w) e)) rl))
           (λ e.
-          let q' : look_up G w ≡ Some B = sym (other w v (Some A) (look_up G w) e) ∙ q in
+          let q' : look_up G w ≡ Some B = sym (if_other w v (Some A) (look_up G w) e) ∙ q in
           let Be : act (send g v s) i B ≡ act g i B = send_without B g i v s (u w B q') in
-          subst (λ D. Paired T N K (send g v s w) (send h v t w) D) (sym Be) (subst₂ (λ x y. Paired T N K x y (act g i B)) (sym (other w v s (g w) e)) (sym (other w v t (h w) e)) (grow_paired T sc N H K (g w) (h w) (act g i B) gr (m.related w B q'))));
+          subst (λ D. Paired T N K (send g v s w) (send h v t w) D) (sym Be) (subst₂ (λ x y. Paired T N K x y (act g i B)) (sym (if_other w v s (g w) e)) (sym (if_other w v t (h w) e)) (grow_paired T sc N H K (g w) (h w) (act g i B) gr (m.related w B q'))));
       heads = λ k b q gl o L g3. m.heads k b q gl o L (Grows_trans H K L gr g3);
     }
 

@@ -1,5 +1,10 @@
 -- Rules at instances: arguments move between equal boundaries, and what an instance has for each premise.
-use Rattle.std.proofs.Common.{◌≡◌, ◌≢◌, ℕ, zero, suc, ◌+◌, Bool, true, false, cond, nat_eq, Option, Some, None, List, [], ◌∷◌, ◌⊎◌, inl, inr, refl, sym, ap, ap₂, ◌∙◌, subst, subst₂, arith, eqb-true, append_assoc}
+use Rattle.std.proofs.Common.{◌≡◌, ◌≢◌, ℕ, zero, suc, ◌+◌, Bool, true, false, cond, nat_eq, Option, Some, List, [], ◌∷◌, ◌⊎◌, inl, inr, refl, sym, ap, ap₂, ◌∙◌, subst, subst₂, arith, eqb-true, append_assoc}
+use Rattle.std.proofs.lemmas.Option.{same_Some}
+use Rattle.std.proofs.lemmas.Bool.{eq-eqb, ne_eqb}
+use Rattle.ft_common.proofs.Booleans.{and_right}
+use Rattle.ft_common.proofs.Options.{none_some}
+use Rattle.ft_common.proofs.Choices.{if_same, if_other}
 use Rattle.ft_theory.specs.Expressions.{Expression, bound, free, Arguments, no_arguments, with_body, dummy, act, ClosedAt, ClosedArguments, open_at}
 use Rattle.ft_theory.specs.Statements.{Claim, is_type, has_type, equal_types, equal_terms, type_goal, term_goal, type_equation_goal, term_equation_goal, Statement, plain, abstracted, opened, domain_count, fill_goal, fill, equate, IsObject, IsEquation}
 use Rattle.ft_theory.specs.Rules.{look_up, Rule, instance_of, FitsPremises, filled_premises, equated_premises}
@@ -7,9 +12,8 @@ use Rattle.ft_theory.specs.Steps.{sequent, sequents, Step, Trees, none, more, Pr
 use Rattle.ft_theory.specs.Derivability.{PremisesHold}
 use Rattle.std.specs.Prelude.{◌++◌, ◌&&◌}
 use Rattle.ft_laws.proofs.Acts.{ClosedBody}
-use Rattle.ft_laws.proofs.Opens.{same, other, by_test, test_true, test_false}
+use Rattle.ft_laws.proofs.Opens.{by_test}
 use Rattle.ft_laws.proofs.Steps.{do_symmetric_types, do_symmetric_terms, do_convert_equation}
-use Rattle.ft_laws.proofs.Fresh.{Some_injective}
 use Rattle.ft_laws.proofs.Scope.{scope, Fine, AllOfStatement_head, Fine-filled_premises}
 use Rattle.ft_laws.proofs.Statements.{fill-map, domain_count-map, object-opened, object-map, equation-map, equation-opened}
 use Rattle.ft_laws.proofs.Commute.{ScopedTheory, not_both}
@@ -88,32 +92,26 @@ symmetric_equal T sc M (suc n) G (abstracted A x) (abstracted B y) z e =
 
 -- what an instance has for a premise
 pub found : {A : Type 0} (m : ℕ) (p : ℕ × A) (ps : List (ℕ × A)) (b : A) → m ≡ p.0 → look_up (p ∷ ps) m ≡ Some b → p.1 ≡ b
-found m p ps b e q = Some_injective p.1 b (sym (same m p.0 (Some p.1) (look_up ps m) e) ∙ q)
+found m p ps b e q = same_Some p.1 b (sym (if_same m p.0 (Some p.1) (look_up ps m) e) ∙ q)
 
 pub past : {A : Type 0} (m : ℕ) (p : ℕ × A) (ps : List (ℕ × A)) (b : A) → m ≢ p.0 → look_up (p ∷ ps) m ≡ Some b → look_up ps m ≡ Some b
-past m p ps b n q = sym (other m p.0 (Some p.1) (look_up ps m) n) ∙ q
-
-pub nothing : {A : Type 0} {b : A} {P : Type 0} → None ≡ Some b → P
-nothing {A} {b} e = absurd (clash e)
-  where
-    clash : None ≡ Some b → ⊥
-    clash e = cc
+past m p ps b n q = sym (if_other m p.0 (Some p.1) (look_up ps m) n) ∙ q
 
 pub instance_past : (m n k : ℕ) (p : ℕ × Statement) (ps : List (ℕ × Statement)) (e : Expression) (a : Arguments) → m ≢ p.0 → instance_of (p ∷ ps) (with_body n e a) m k ≡ instance_of ps a m k
-instance_past m n k p ps e a d = ap (λ b. cond (b && nat_eq k n) (Some e) (instance_of ps a m k)) (test_false m p.0 d)
+instance_past m n k p ps e a d = ap (λ b. cond (b && nat_eq k n) (Some e) (instance_of ps a m k)) (ne_eqb m p.0 d)
 
 instance_found : (m n k : ℕ) (p : ℕ × Statement) (ps : List (ℕ × Statement)) (e : Expression) (a : Arguments) → m ≡ p.0 → k ≡ n → instance_of (p ∷ ps) (with_body n e a) m k ≡ Some e
-instance_found m n k p ps e a d d' = ap₂ (λ b c. cond (b && c) (Some e) (instance_of ps a m k)) (test_true m p.0 d) (test_true k n d')
+instance_found m n k p ps e a d d' = ap₂ (λ b c. cond (b && c) (Some e) (instance_of ps a m k)) (eq-eqb m p.0 d) (eq-eqb k n d')
 
 pub look_before : {A : Type 0} (ps qs : List (ℕ × A)) (m : ℕ) (b : A) → look_up ps m ≡ Some b → look_up (ps ++ qs) m ≡ Some b
-look_before [] qs m b q = nothing q
+look_before [] qs m b q = none_some q
 look_before (p ∷ ps) qs m b q = by_test (look_up ((p ∷ ps) ++ qs) m ≡ Some b) m p.0
-    (λ e. same m p.0 (Some p.1) (look_up (ps ++ qs) m) e ∙ sym (same m p.0 (Some p.1) (look_up ps m) e) ∙ q)
-    (λ n. other m p.0 (Some p.1) (look_up (ps ++ qs) m) n ∙ look_before ps qs m b (past m p ps b n q))
+    (λ e. if_same m p.0 (Some p.1) (look_up (ps ++ qs) m) e ∙ sym (if_same m p.0 (Some p.1) (look_up ps m) e) ∙ q)
+    (λ n. if_other m p.0 (Some p.1) (look_up (ps ++ qs) m) n ∙ look_before ps qs m b (past m p ps b n q))
 
 pub given_object_premise : (T : List Rule) (N : List (ℕ × Statement)) (H : List (ℕ × Expression)) (i : ℕ → ℕ → Option Expression) (ps : List (ℕ × Statement)) (a : Arguments) (m : ℕ) (b : Statement) → FitsPremises ps a → Trees (Step T) (sequents N H (filled_premises i ps a)) → look_up ps m ≡ Some b → IsObject b
     → (e : Expression) × (instance_of ps a m (domain_count b) ≡ Some e) × Prim T N H (fill (statement_at i b) e)
-given_object_premise T N H i [] a m b f ts q o = nothing q
+given_object_premise T N H i [] a m b f ts q o = none_some q
 given_object_premise T N H i (p ∷ ps) no_arguments m b f ts q o = absurd f
 given_object_premise T N H i (p ∷ ps) (with_body n e a) m b f (more t ts) q o = by_test ((e' : Expression) × (instance_of (p ∷ ps) (with_body n e a) m (domain_count b) ≡ Some e') × Prim T N H (fill (statement_at i b) e')) m p.0
     (λ d.
@@ -127,7 +125,7 @@ given_object_premise T N H i (p ∷ ps) (dummy n a) m b f (more t ts) q o = by_t
     (λ d. given_object_premise T N H i ps a m b f.2 ts (past m p ps b d q) o)
 
 pub given_equation_premise : (T : List Rule) (N : List (ℕ × Statement)) (H : List (ℕ × Expression)) (i : ℕ → ℕ → Option Expression) (ps : List (ℕ × Statement)) (a : Arguments) (m : ℕ) (b : Statement) → FitsPremises ps a → Trees (Step T) (sequents N H (filled_premises i ps a)) → look_up ps m ≡ Some b → IsEquation b → Prim T N H (fill (statement_at i b) (bound zero))
-given_equation_premise T N H i [] a m b f ts q o = nothing q
+given_equation_premise T N H i [] a m b f ts q o = none_some q
 given_equation_premise T N H i (p ∷ ps) no_arguments m b f ts q o = absurd f
 given_equation_premise T N H i (p ∷ ps) (with_body n e a) m b f (more t ts) q o = by_test (Prim T N H (fill (statement_at i b) (bound zero))) m p.0
     (λ d. absurd (not_both b (subst IsObject (found m p ps b d q) f.1) o))
@@ -138,7 +136,7 @@ given_equation_premise T N H i (p ∷ ps) (dummy n a) m b f (more t ts) q o = by
 
 pub given_two_premises : (T : List Rule) (N : List (ℕ × Statement)) (H : List (ℕ × Expression)) (i : ℕ → ℕ → Option Expression) (ps : List (ℕ × Statement)) (a c : Arguments) (m : ℕ) (b : Statement) → FitsPremises ps a → FitsPremises ps c → Trees (Step T) (sequents N H (equated_premises i ps a c)) → look_up ps m ≡ Some b → IsObject b
     → (e f : Expression) × (instance_of ps a m (domain_count b) ≡ Some e) × (instance_of ps c m (domain_count b) ≡ Some f) × Prim T N H (equate (statement_at i b) e f)
-given_two_premises T N H i [] a c m b f f' ts q o = nothing q
+given_two_premises T N H i [] a c m b f f' ts q o = none_some q
 given_two_premises T N H i (p ∷ ps) no_arguments c m b f f' ts q o = absurd f
 given_two_premises T N H i (p ∷ ps) (with_body n e a) no_arguments m b f f' ts q o = absurd f'
 given_two_premises T N H i (p ∷ ps) (with_body n e a) (dummy l c) m b f f' ts q o = absurd (not_both p.1 f.1 f'.1)
@@ -160,13 +158,6 @@ closed_choice : (b : Bool) (e : Expression) (o : Option Expression) (k : ℕ) �
 closed_choice true e o k h c = h refl
 closed_choice false e o k h c = c
 
-and_right : (b c : Bool) → (b && c) ≡ true → c ≡ true
-and_right true c e = e
-and_right false c e = absurd (clash e)
-  where
-    clash : false ≡ true → ⊥
-    clash e = cc
-
 closed_bodies : (ps : List (ℕ × Statement)) (a : Arguments) (m k : ℕ) → ClosedArguments zero a → ClosedBody (instance_of ps a m k) k
 closed_bodies [] a m k c = tt
 closed_bodies (p ∷ ps) no_arguments m k c = tt
@@ -184,7 +175,7 @@ closed_instance T N H i ps a f ts = has_closed_bodies ps a (Fine-filled_premises
 pub whole_instance : (T : List Rule) (M : List (ℕ × Statement)) (N : List (ℕ × Statement)) (H : List (ℕ × Expression)) (ps : List (ℕ × Statement)) (a : Arguments) → Extends M ps → FitsPremises ps a → Trees (Step T) (sequents N H (filled_premises (instance_of ps a) ps a)) → IsInstance T M [] N H (instance_of ps a)
 whole_instance T M N H ps a w f ts = record {
   closed = closed_instance T N H (instance_of ps a) ps a f ts;
-  variables = λ v A q. nothing q;
+  variables = λ v A q. none_some q;
   objects = λ m b q gl o.
       let r : (e : Expression) × (instance_of ps a m (domain_count b) ≡ Some e) × Prim T N H (fill (statement_at (instance_of ps a) b) e) = given_object_premise T N H (instance_of ps a) ps a m b f ts (w m b q) o in
       given r.0 r.1 r.2;
@@ -215,8 +206,8 @@ whole_pair T sc M N H ps a c w f f' ts es = record {
   objects = λ m b q gl o.
       let r : (e : Expression) × (instance_of ps a m (domain_count b) ≡ Some e) × Prim T N H (fill (statement_at (instance_of ps a) b) e) = given_object_premise T N H (instance_of ps a) ps a m b f ts (w m b q) o in
       let s : (x y : Expression) × (instance_of ps a m (domain_count b) ≡ Some x) × (instance_of ps c m (domain_count b) ≡ Some y) × Prim T N H (equate (statement_at (instance_of ps a) b) x y) = given_two_premises T N H (instance_of ps a) ps a c m b f f' es (w m b q) o in
-      let same : r.0 ≡ s.0 = Some_injective r.0 s.0 (sym r.1 ∙ s.2) in
-      both_given s.0 s.1 s.2 s.3 (subst (λ e. Prim T N H (fill (statement_at (instance_of ps a) b) e)) same r.2) s.4;
+      let if_same : r.0 ≡ s.0 = same_Some r.0 s.0 (sym r.1 ∙ s.2) in
+      both_given s.0 s.1 s.2 s.3 (subst (λ e. Prim T N H (fill (statement_at (instance_of ps a) b) e)) if_same r.2) s.4;
 }
 
 -- the right arguments of equal instances are derivable at their own boundaries, premise by premise

@@ -1,11 +1,12 @@
 -- What is derivable is closed and mentions only what its maps have.
 use Rattle.std.proofs.Common.{◌≡◌, ◌≢◌, ℕ, zero, suc, ◌+◌, Option, Some, List, [], ◌∷◌, sym, ◌∙◌, subst, arith}
+use Rattle.ft_common.proofs.Choices.{if_other}
 use Rattle.ft_theory.specs.Expressions.{Expression, bound, free, symbol, meta, Arguments, no_arguments, with_body, dummy, Terms, no_terms, also, count, act, ClosedAt, ClosedArguments, ClosedTerms, MentionsOnly, ArgumentsMentionOnly, TermsMentionOnly, open_at, close_at}
 use Rattle.ft_theory.specs.Statements.{Claim, is_type, has_type, equal_types, equal_terms, type_goal, term_goal, type_equation_goal, term_equation_goal, Statement, plain, abstracted, AllOfClaim, AllOfStatement, act_statement, close_statement, opened, domain_count, at, fill_goal, fill, equate_goal, equate, IsObjectGoal, IsEquationGoal, IsObject, IsEquation}
 use Rattle.ft_theory.specs.Rules.{look_up, Rule, instance_of, FitsPremises, filled_premises, term_typings, conclusion_at}
 use Rattle.ft_theory.specs.Steps.{Sequent, sequents, Step, variable, metavariable, metavariable_equation, metavariable_congruence, abstraction, reflexive_type, reflexive_term, symmetric_types, symmetric_terms, transitive_types, transitive_terms, convert_term, convert_equation, for_type, for_term, for_types, for_terms, symbol_rule, equation_rule, congruence, Tree, Prim}
 use Rattle.ft_laws.proofs.Induction.{AllOf, induct}
-use Rattle.ft_laws.proofs.Opens.{other, Closed-open, Closed-close, MentionsOnly-open, MentionsOnly-close}
+use Rattle.ft_laws.proofs.Opens.{Closed-open, Closed-close, MentionsOnly-open, MentionsOnly-close}
 use Rattle.ft_laws.proofs.Statements.{AllOfStatement-map, AllOfStatement_shift, AllOfStatement_unshift, domain_count-map, domain_count-opened, equation-opened, equation_goal-map, object-map, object-opened, object_goal-map}
 
 -- the map has a type for the variable
@@ -89,7 +90,7 @@ AllOfStatement-equation (abstracted A x) P k h o a = (a.0, AllOfStatement-equati
 
 -- under opening, closing and terms at domains
 pub InVars_add : (G : List (ℕ × Expression)) (v u : ℕ) (A : Expression) → u ≢ v → InVariables ((v, A) ∷ G) u → InVariables G u
-InVars_add G v u A n h = (h.0, sym (other u v (Some A) (look_up G u) n) ∙ h.1)
+InVars_add G v u A n h = (h.0, sym (if_other u v (Some A) (look_up G u) n) ∙ h.1)
 
 pub Fine-open : (M : List (ℕ × Statement)) (G : List (ℕ × Expression)) (k : ℕ) (t e : Expression) → Fine M G (suc k) e → Fine M G zero t → Fine M G k (open_at k t e)
 Fine-open M G k t e f h = (Closed-open e k t f.0 h.0, MentionsOnly-open e (InVariables G) (InMetavariables M) k t f.1 h.1)

@@ -1,5 +1,7 @@
 -- A theory over which a variable that is not mentioned cannot be dropped: `absurd (a : Empty) : Nat == Bool`.
 use Rattle.std.proofs.Common.{◌≡◌, ℕ, zero, suc, Some, List, [], ◌∷◌, ◌⊎◌, inl, inr, refl, sym, ap, ◌∙◌, subst}
+use Rattle.std.proofs.lemmas.Option.{same_Some}
+use Rattle.ft_common.proofs.Options.{none_some}
 use Rattle.ft_theory.specs.Expressions.{Expression, free, symbol, Arguments, no_arguments, with_body, dummy, act}
 use Rattle.ft_theory.specs.Statements.{is_type, has_type, equal_types, equal_terms, type_goal, term_goal, type_equation_goal, term_equation_goal, Statement, plain, abstracted, fill_goal, equate_goal, IsObjectGoal, IsEquationGoal}
 use Rattle.ft_theory.specs.Rules.{Rule, rule_at, instance_of, FitsPremises, filled_premises, conclusion_at, look_up}
@@ -7,9 +9,7 @@ use Rattle.ft_theory.specs.Steps.{Sequent, sequent, sequents, Step, variable, me
 use Rattle.ft_theory.specs.Derivability.{Der, Finitary, RuleHolds}
 use Rattle.ft_laws.specs.Counterexamples.{NoStrengthening}
 use Rattle.ft_laws.proofs.Induction.{AllOf, induct}
-use Rattle.ft_laws.proofs.Fresh.{Some_injective}
 use Rattle.ft_laws.proofs.Steps.{do_variable, do_for_types}
-use Rattle.ft_laws.proofs.Rules.{nothing}
 use Rattle.ft_laws.proofs.Products.{by_step, by_rule}
 use Rattle.ft_laws.proofs.ProductsFinitary.{type_boundary, term_boundary}
 
@@ -73,11 +73,11 @@ abbrev SeparateIn : Sequent → Type 0
 SeparateIn c = c.metavariables ≡ [] → c.variables ≡ [] → Separate c.statement
 
 each_rule : (r : ℕ) (R : Rule) → rule_at absurd_theory r ≡ Some R → (type_rule ≡ R) ⊎ (absurd_rule ≡ R)
-each_rule zero R q = inl (Some_injective type_rule R q)
-each_rule (suc zero) R q = inl (Some_injective type_rule R q)
-each_rule (suc (suc zero)) R q = inl (Some_injective type_rule R q)
-each_rule (suc (suc (suc zero))) R q = inr (Some_injective absurd_rule R q)
-each_rule (suc (suc (suc (suc r)))) R q = nothing q
+each_rule zero R q = inl (same_Some type_rule R q)
+each_rule (suc zero) R q = inl (same_Some type_rule R q)
+each_rule (suc (suc zero)) R q = inl (same_Some type_rule R q)
+each_rule (suc (suc (suc zero))) R q = inr (same_Some absurd_rule R q)
+each_rule (suc (suc (suc (suc r)))) R q = none_some q
 
 of_symbol : (r : ℕ) (R : Rule) (a : Arguments) → IsObjectGoal R.conclusion → (type_rule ≡ R) ⊎ (absurd_rule ≡ R) → Separate (plain (fill_goal (conclusion_at R a) (symbol r a)))
 of_symbol r R a o (inl e) = subst (λ R. Separate (plain (fill_goal (conclusion_at R a) (symbol r a)))) e tt
@@ -104,7 +104,7 @@ of_congruence r R a b f f' o (inl e) =
 of_congruence r R a b f f' o (inr e) = absurd (subst (λ R. IsObjectGoal R.conclusion) (sym e) o)
 
 pub no_entry : {A : Type 0} {P : Type 0} (M : List (ℕ × A)) (m : ℕ) (b : A) → M ≡ [] → look_up M m ≡ Some b → P
-no_entry M m b e q = nothing (subst (λ M. look_up M m ≡ Some b) e q)
+no_entry M m b e q = none_some (subst (λ M. look_up M m ≡ Some b) e q)
 
 separate : (c : Sequent) → Tree (Step absurd_theory) c → SeparateIn c
 separate = induct (Step absurd_theory) SeparateIn (λ ps c s ts h. last ps c s h)
@@ -137,4 +137,4 @@ types_differ e = cc
 pub no_strengthening : NoStrengthening
 no_strengthening h =
     types_differ (separate (sequent [] [] (plain (equal_types (the_type 0) (the_type 1))))
-    (h absurd_theory absurd_is_finitary [] [] 0 (the_type 2) (plain (equal_types (the_type 0) (the_type 1))) (refl, λ u B e. nothing e) (tt, tt) with_variable) refl refl)
+    (h absurd_theory absurd_is_finitary [] [] 0 (the_type 2) (plain (equal_types (the_type 0) (the_type 1))) (refl, λ u B e. none_some e) (tt, tt) with_variable) refl refl)

@@ -1,12 +1,12 @@
 -- Weakening, substitution of one term, and of all terms of a metavariable.
 use Rattle.std.proofs.Common.{◌≡◌, ℕ, zero, suc, Some, List, [], ◌∷◌, refl, sym, ap, ◌∙◌, subst, arith}
+use Rattle.ft_common.proofs.Choices.{if_same}
 use Rattle.ft_theory.specs.Expressions.{Expression, bound, free, meta, Terms, no_terms, also, count, body_or, act, ClosedAt, Without}
 use Rattle.ft_theory.specs.Statements.{is_type, has_type, Statement, plain, abstracted, AllOfStatement, act_statement, opened, domain_count, at, fill, equate}
 use Rattle.ft_theory.specs.Rules.{look_up, Rule, term_typings, term_equations}
 use Rattle.ft_theory.specs.Steps.{sequent, sequents, Step, metavariable, metavariable_equation, metavariable_congruence, Trees, node, none, more, Prim}
 use Rattle.ft_laws.specs.Instances.{statement_at}
 use Rattle.ft_laws.proofs.Acts.{no_bodies, act_nothing}
-use Rattle.ft_laws.proofs.Opens.{same}
 use Rattle.ft_laws.proofs.Steps.{do_variable}
 use Rattle.ft_laws.proofs.Scope.{scope, Fine, FineStatement}
 use Rattle.ft_laws.proofs.Peel.{peel, Peeled}
@@ -62,7 +62,7 @@ substitute T sc M G A t y p q =
     let v : ℕ = u.name in
     let ct : ClosedAt zero t = closed_term T M G t A q in
     let s : ℕ → Expression = send free v t in
-    let sv : s v ≡ t = same v v t (free v) refl in
+    let sv : s v ≡ t = if_same v v t (free v) refl in
     let id : Maps T M G M G free no_bodies = identity T M M G G (λ m b q. q) (Grows_refl G) in
     let AA : act free no_bodies A ≡ A = act_nothing A in
     let m : Maps T M ((v, A) ∷ G) M G s no_bodies =

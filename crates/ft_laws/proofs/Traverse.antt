@@ -1,5 +1,8 @@
 -- One traversal of derivations for renaming, weakening, substitution and instances.
 use Rattle.std.proofs.Common.{◌≡◌, ◌≢◌, ℕ, zero, suc, ◌≤◌, max, cond, nat_eq, Option, Some, None, List, [], ◌∷◌, refl, sym, ap, ap₂, ◌∙◌, subst, subst₂, arith}
+use Rattle.std.proofs.lemmas.Option.{same_Some}
+use Rattle.ft_common.proofs.Options.{none_some}
+use Rattle.ft_common.proofs.Choices.{if_same, if_other}
 use Rattle.ft_theory.specs.Expressions.{Expression, bound, free, symbol, meta, Arguments, Terms, no_terms, also, count, body_or, act, act_arguments, act_terms, ClosedAt, ClosedTerms, Without}
 use Rattle.ft_theory.specs.Statements.{is_type, has_type, Statement, plain, abstracted, map_claim, map_statement, AllOfStatement, ClosedStatement, act_statement, close_statement, opened, domain_count, at, fill_goal, fill, equate_goal, equate, IsObject, IsEquation}
 use Rattle.ft_theory.specs.Rules.{look_up, Rule, instance_of, FitsPremises, filled_premises, equated_premises, term_typings, term_equations, conclusion_at}
@@ -7,9 +10,9 @@ use Rattle.ft_theory.specs.Steps.{Sequent, sequent, sequents, IsVariableFree, Un
 use Rattle.ft_laws.specs.Instances.{statement_at}
 use Rattle.ft_laws.proofs.Induction.{AllOf, induct}
 use Rattle.ft_laws.proofs.Acts.{IsClosedMap, act_agree, MentionsOnly_mono, count-act}
-use Rattle.ft_laws.proofs.Opens.{same, other, by_test}
+use Rattle.ft_laws.proofs.Opens.{by_test}
 use Rattle.ft_laws.proofs.Steps.{do_reflexive_type, do_reflexive_term, do_symmetric_types, do_symmetric_terms, do_transitive_types, do_transitive_terms, do_convert_term, do_convert_equation, do_for_type, do_for_term, do_for_types, do_for_terms, do_variable}
-use Rattle.ft_laws.proofs.Fresh.{limit_of_statement, limit_of_variables, above_statement, fresh_absent, fresh_unmentioned, Some_injective}
+use Rattle.ft_laws.proofs.Fresh.{limit_of_statement, limit_of_variables, above_statement, fresh_absent, fresh_unmentioned}
 use Rattle.ft_laws.proofs.Scope.{scope, Fine, FineStatement, FineTerms, InVariables, InMetavariables, Fine-term_typings, Fine-close}
 use Rattle.ft_laws.proofs.Statements.{act-opened, opened-closed, closed-opened, AllOfStatement_mono, fill_goal-map, equate_goal-map, map_statement_agree}
 use Rattle.ft_laws.proofs.Commute.{acts, act-fill, act-equate, act-at, term_typings-act, term_equations-act, ScopedTheory, ScopedRule, conclusion-act, filled_premises-act, equated_premises-act, FitsPremises-act, variable_free-act}
@@ -37,26 +40,20 @@ abbrev pub send : (ℕ → Expression) → ℕ → Expression → ℕ → Expres
 send g v t u = cond (nat_eq u v) t (g u)
 
 pub send_without : (e : Expression) (g : ℕ → Expression) (i : ℕ → ℕ → Option Expression) (v : ℕ) (t : Expression) → Without v e → act (send g v t) i e ≡ act g i e
-send_without e g i v t w = act_agree e (send g v t) g i i (MentionsOnly_mono e (λ u. u ≢ v) (λ u. send g v t u ≡ g u) (λ m k. Unit {0}) (λ m k. i m k ≡ i m k) (λ u n. other u v t (g u) n) (λ m k h. refl) w)
+send_without e g i v t w = act_agree e (send g v t) g i i (MentionsOnly_mono e (λ u. u ≢ v) (λ u. send g v t u ≡ g u) (λ m k. Unit {0}) (λ m k. i m k ≡ i m k) (λ u n. if_other u v t (g u) n) (λ m k h. refl) w)
 
 pub send_without_statement : (x : Statement) (g : ℕ → Expression) (i : ℕ → ℕ → Option Expression) (v : ℕ) (t : Expression) (k : ℕ) → AllOfStatement (λ l. Without v) k x → map_statement (λ l. act (send g v t) i) k x ≡ map_statement (λ l. act g i) k x
 send_without_statement x g i v t k w = map_statement_agree x (λ l. act (send g v t) i) (λ l. act g i) (λ l. Without v) k (λ l e h. send_without e g i v t h) w
 
 -- what is scoped over G does not mention what G lacks
 pub absent_without : (M : List (ℕ × Statement)) (G : List (ℕ × Expression)) (v : ℕ) (k : ℕ) (e : Expression) → look_up G v ≡ None → Fine M G k e → Without v e
-absent_without M G v k e n f = MentionsOnly_mono e (InVariables G) (λ u. u ≢ v) (InMetavariables M) (λ m k. Unit {0}) (λ u h q. clash (sym n ∙ ap (look_up G) (sym q) ∙ h.1)) (λ m k h. tt) f.1
-  where
-    clash : {A : Expression} → None ≡ Some A → ⊥
-    clash e = cc
+absent_without M G v k e n f = MentionsOnly_mono e (InVariables G) (λ u. u ≢ v) (InMetavariables M) (λ m k. Unit {0}) (λ u h q. none_some (sym n ∙ ap (look_up G) (sym q) ∙ h.1)) (λ m k h. tt) f.1
 
 pub send_closed : (g : ℕ → Expression) (i : ℕ → ℕ → Option Expression) (v : ℕ) (t : Expression) → IsClosedMap g i → ClosedAt zero t → IsClosedMap (send g v t) i
-send_closed g i v t m c = record { frees = λ u. by_test (ClosedAt zero (send g v t u)) u v (λ e. subst (ClosedAt zero) (sym (same u v t (g u) e)) c) (λ n. subst (ClosedAt zero) (sym (other u v t (g u) n)) (m.frees u)); bodies = m.bodies }
+send_closed g i v t m c = record { frees = λ u. by_test (ClosedAt zero (send g v t u)) u v (λ e. subst (ClosedAt zero) (sym (if_same u v t (g u) e)) c) (λ n. subst (ClosedAt zero) (sym (if_other u v t (g u) n)) (m.frees u)); bodies = m.bodies }
 
 pub Grows_add : (G H : List (ℕ × Expression)) (w : ℕ) (A : Expression) → Grows G H → look_up H w ≡ None → Grows G ((w, A) ∷ H)
-Grows_add G H w A s n u B q = other u w (Some A) (look_up H u) (λ e. clash (sym n ∙ ap (look_up H) (sym e) ∙ s u B q)) ∙ s u B q
-  where
-    clash : {A : Expression} → None ≡ Some A → ⊥
-    clash e = cc
+Grows_add G H w A s n u B q = if_other u w (Some A) (look_up H u) (λ e. none_some (sym n ∙ ap (look_up H) (sym e) ∙ s u B q)) ∙ s u B q
 
 pub Grows_refl : (G : List (ℕ × Expression)) → Grows G G
 Grows_refl G v A q = q
@@ -70,14 +67,14 @@ Maps_under T M G N H K g i v A t m n u f s c h = record {
   closed = send_closed g i v t m.closed c;
   frees = λ w B q L s' p. by_test (Prim T N L (plain (has_type (send g v t w) (act (send g v t) i B)))) w v
       (λ e.
-      let AB : A ≡ B = Some_injective A B (sym (same w v (Some A) (look_up G w) e) ∙ q) in
+      let AB : A ≡ B = same_Some A B (sym (if_same w v (Some A) (look_up G w) e) ∙ q) in
       let Ae : act (send g v t) i B ≡ act g i A = ap (act (send g v t) i) (sym AB) ∙ send_without A g i v t (absent_without M G v zero A n f) in
-      subst₂ (λ z D. Prim T N L (plain (has_type z D))) (sym (same w v t (g w) e)) (sym Ae)
+      subst₂ (λ z D. Prim T N L (plain (has_type z D))) (sym (if_same w v t (g w) e)) (sym Ae)
       (h L s' (subst (λ D. Prim T N L (plain (is_type D))) Ae p)))
       (λ e.
-      let q' : look_up G w ≡ Some B = sym (other w v (Some A) (look_up G w) e) ∙ q in
+      let q' : look_up G w ≡ Some B = sym (if_other w v (Some A) (look_up G w) e) ∙ q in
       let Be : act (send g v t) i B ≡ act g i B = send_without B g i v t (u w B q') in
-      subst₂ (λ z D. Prim T N L (plain (has_type z D))) (sym (other w v t (g w) e)) (sym Be)
+      subst₂ (λ z D. Prim T N L (plain (has_type z D))) (sym (if_other w v t (g w) e)) (sym Be)
       (m.frees w B q' L (λ x C r. s' x C (s x C r)) (subst (λ D. Prim T N L (plain (is_type D))) Be p)));
   objects = λ k b q gl o L s'. m.objects k b q gl o L (λ x C r. s' x C (s x C r));
   equations = λ k b q gl o L s'. m.equations k b q gl o L (λ x C r. s' x C (s x C r));
@@ -141,7 +138,7 @@ Fine-term_equations M G (also s a) (also t c) x e h =
     (((h.0.0.0, rest.0.0), (h.0.0.1, rest.0.1)), ((h.0.1.0, rest.1.0), (h.0.1.1, rest.1.1)))
 
 pub look_here : (G : List (ℕ × Expression)) (w : ℕ) (A : Expression) → look_up ((w, A) ∷ G) w ≡ Some A
-look_here G w A = same w w (Some A) (look_up G w) refl
+look_here G w A = if_same w w (Some A) (look_up G w) refl
 
 pub abstraction-act : (M : List (ℕ × Statement)) (G : List (ℕ × Expression)) (g : ℕ → Expression) (i : ℕ → ℕ → Option Expression) (v : ℕ) (t A : Expression) (x : Statement) → IsClosedMap g i → ClosedAt zero t → look_up G v ≡ None → FineStatement M ((v, A) ∷ G) x
     → act_statement (send g v t) i x ≡ opened t (abstracted (act g i A) (map_statement (λ l. act g i) (suc zero) (close_statement v x)))
@@ -149,7 +146,7 @@ unfolding act
 abstraction-act M G g i v t A x m ct n f =
     let s : ℕ → Expression = send g v t in
     let y : Statement = close_statement v x in
-    let sv : s v ≡ t = same v v t (g v) refl in
+    let sv : s v ≡ t = if_same v v t (g v) refl in
     let fy : AllOfStatement (Fine M G) (suc zero) y = Fine-close M G v A x f in
     let wy : AllOfStatement (λ l. Without v) (suc zero) y = AllOfStatement_mono y (Fine M G) (λ l. Without v) (suc zero) (λ l e h. absent_without M G v l e n h) fy in
     let cx : ClosedStatement zero x = AllOfStatement_mono x (Fine M ((v, A) ∷ G)) (λ l. ClosedAt l) zero (λ l e h. h.0) f in

@@ -1,12 +1,8 @@
-use Rattle.std.proofs.Common.{◌≡◌, ◌≤◌, ◌<◌, ◌+◌, ◌-◌, ◌*◌, ap, refl, ℕ, List, [], ◌∷◌, Some, None, Bool, true, false, if◌then◌else◌, nat_lt, arith}
-use Rattle.ft_lexer.specs.declared.token.Kind.{Kind}
-use Rattle.ft_lexer.specs.declared.token.Kind.TheVariants.{Name}
-use Rattle.ft_lexer.specs.Fronts.{decimal_value}
-
--- digits after a number never write a smaller one
-pub decimal_value-le : (n : ℕ) (ds : List ℕ) → n ≤ decimal_value n ds
-decimal_value-le n [] = omega arith
-decimal_value-le n (d ∷ ds) = omega (arith, decimal_value-le (10 * n + (d - 48)) ds)
+use Rattle.std.proofs.Common.{◌≡◌, ◌<◌, ap, refl, ℕ, List, Some, None, Bool, true, false, if◌then◌else◌, nat_lt, arith}
+use Rattle.ft_common.proofs.Digits.{decimal_value-le}
+use Rattle.ft_grammar.specs.declared.token.Kind.{Kind}
+use Rattle.ft_grammar.specs.declared.token.Kind.TheVariants.{Name}
+use Rattle.ft_grammar.specs.Fronts.{decimal_value}
 
 -- the two answers of `Name::from_chars`
 pub name_of-some : (is_token : Bool) (spelling name : List ℕ) (other : Kind)

@@ -2,19 +2,23 @@
 use Rattle.std.proofs.Common.{◌≡◌, ◌≤◌, ◌<◌, ◌+◌, ◌-◌, ◌∙◌, sym, ap, refl, ℕ, zero, suc, List, [], ◌∷◌, ◌++◌, length, take, drop, map, Option, Some, None, Bool, true, false, not, ◌&&◌, ◌==◌, if◌then◌else◌, append_assoc, arith}
 use Rattle.std.specs.List.{list_all}
 use Rattle.std.specs.Char.{len_utf8, is_ascii_digit}
-use Rattle.std.proofs.lemmas.Bool.{eqb-true}
+use Rattle.std.proofs.Math.Bool.{and-false}
+use Rattle.std.proofs.lemmas.Bool.{eqb-true, false_from_ne_true}
 use Rattle.std.proofs.Math.Seq.{take-length, drop-length}
 use Rattle.std.proofs.lemmas.List.{take-append-le, map-append, length-append}
 use Rattle.unicode_ident.specs.Ident.{is_xid_continue}
 use Rattle.unicode_ident.proofs.Computing.{unicode_ident}
 use Rattle.ft_base.specs.Names.{starts_name, is_lone_underscore, is_name_token}
-use Rattle.ft_lexer.specs.declared.token.Kind.{Kind}
-use Rattle.ft_lexer.specs.declared.token.Kind.TheVariants.{Name, End}
-use Rattle.ft_lexer.specs.declared.token.Token.{Token}
-use Rattle.ft_lexer.specs.Fronts.{run, is_space, begins_comment, is_no_line_feed, name_kind, number_kind, mark_front, front}
-use Rattle.ft_lexer.specs.Tokens.{width, token_at, tokens_from, tokens_of}
-use Rattle.ft_lexer.specs.Made.{without_last, moved}
-use Rattle.ft_lexer.proofs.Choices.{and_left, and_right, run-le, run_all, run-append, if_true, if_false, false_unless, and_false}
+use Rattle.ft_common.proofs.Booleans.{and_left, and_right}
+use Rattle.ft_common.proofs.Choices.{if_true, if_false}
+use Rattle.ft_common.proofs.Digits.{run-le}
+use Rattle.ft_grammar.specs.declared.token.Kind.{Kind}
+use Rattle.ft_grammar.specs.declared.token.Kind.TheVariants.{Name, End}
+use Rattle.ft_grammar.specs.declared.token.Token.{Token}
+use Rattle.ft_grammar.specs.Fronts.{run, is_space, begins_comment, is_no_line_feed, name_kind, number_kind, mark_front, front}
+use Rattle.ft_grammar.specs.Tokens.{width, token_at, tokens_from, tokens_of}
+use Rattle.ft_grammar.specs.Made.{without_last, moved_token}
+use Rattle.ft_lexer.proofs.Runs.{run_all, run-append}
 use Rattle.ft_lexer.proofs.Steps.{tokens_step}
 use Rattle.ft_lexer.proofs.Pieces.{front-is}
 
@@ -46,7 +50,7 @@ is_xid_continue-10 = refl
 
 -- a character that starts a name is none that doesn't
 differs : (c k : ℕ) → starts_name c ≡ true → starts_name k ≡ false → (c == k) ≡ false
-differs c k starts other = false_unless (c == k) (λ same.
+differs c k starts other = false_from_ne_true (c == k) (λ same.
     let both : true ≡ false = sym starts ∙ ap starts_name (eqb-true c k same) ∙ other in cc)
 
 is_space-starts : (c : ℕ) → starts_name c ≡ true → is_space c ≡ false
@@ -98,14 +102,14 @@ take-run-append passes cs after stops =
     ∙ take-append-le (run passes cs) cs (10 ∷ after) (run-le passes cs)
 
 begins_comment-append : (c : ℕ) (cs after : List ℕ) → begins_comment c (cs ++ 10 ∷ after) ≡ begins_comment c cs
-begins_comment-append c [] after = and_false (c == 45)
+begins_comment-append c [] after = and-false (c == 45)
 begins_comment-append c (d ∷ cs) after = refl
 
 mark_front-append : (c : ℕ) (cs after : List ℕ) → mark_front c (cs ++ 10 ∷ after) ≡ mark_front c cs
 mark_front-append c [] after =
-    if_false _ _ (c == 58 && 10 == 58) (and_false (c == 58))
-    ∙ if_false _ _ (c == 61 && 10 == 61) (and_false (c == 61))
-    ∙ if_false _ _ (c == 45 && 10 == 62) (and_false (c == 45))
+    if_false _ _ (c == 58 && 10 == 58) (and-false (c == 58))
+    ∙ if_false _ _ (c == 61 && 10 == 61) (and-false (c == 61))
+    ∙ if_false _ _ (c == 45 && 10 == 62) (and-false (c == 45))
 mark_front-append c (d ∷ cs) after = refl
 
 -- what the five kinds of front are made of
@@ -143,11 +147,11 @@ front-append c cs after =
     (name_kind (c ∷ take (run is_xid_continue cs) cs)) (run is_xid_continue cs)
     (number_kind (c ∷ take (run is_ascii_digit cs) cs)) (run is_ascii_digit cs)) (mark_front-append c cs after)
 
-token_at-moved : (bytes start : ℕ) (kind : Option Kind) (end : ℕ) → token_at (bytes + start) kind (bytes + end) ≡ map (moved bytes) (token_at start kind end)
+token_at-moved : (bytes start : ℕ) (kind : Option Kind) (end : ℕ) → token_at (bytes + start) kind (bytes + end) ≡ map (moved_token bytes) (token_at start kind end)
 token_at-moved bytes start None end = refl
 token_at-moved bytes start (Some kind) end = refl
 
-tokens_from-moved : (bytes at told : ℕ) (cs : List ℕ) → tokens_from (bytes + at) told cs ≡ map (moved bytes) (tokens_from at told cs)
+tokens_from-moved : (bytes at told : ℕ) (cs : List ℕ) → tokens_from (bytes + at) told cs ≡ map (moved_token bytes) (tokens_from at told cs)
 tokens_from-moved bytes at told [] = refl
 tokens_from-moved bytes at (suc told) (c ∷ cs) =
     let there : bytes + at + len_utf8 c ≡ bytes + (at + len_utf8 c) = omega arith in
@@ -160,8 +164,8 @@ tokens_from-moved bytes at zero (c ∷ cs) =
     ap (λ n. token_at (bytes + at) (front c cs).0 n ++ tokens_from (bytes + at + len_utf8 c) more cs) end
     ∙ ap (λ n. token_at (bytes + at) (front c cs).0 (bytes + (at + w)) ++ tokens_from n more cs) there
     ∙ ap (λ ts. ts ++ tokens_from (bytes + (at + len_utf8 c)) more cs) (token_at-moved bytes at (front c cs).0 (at + w))
-    ∙ ap (λ ts. map (moved bytes) (token_at at (front c cs).0 (at + w)) ++ ts) (tokens_from-moved bytes (at + len_utf8 c) more cs)
-    ∙ sym (map-append (moved bytes) (token_at at (front c cs).0 (at + w)) (tokens_from (at + len_utf8 c) more cs))
+    ∙ ap (λ ts. map (moved_token bytes) (token_at at (front c cs).0 (at + w)) ++ ts) (tokens_from-moved bytes (at + len_utf8 c) more cs)
+    ∙ sym (map-append (moved_token bytes) (token_at at (front c cs).0 (at + w)) (tokens_from (at + len_utf8 c) more cs))
 
 tokens_from-some : (at told : ℕ) (cs : List ℕ) → 0 < length (tokens_from at told cs)
 tokens_from-some at told [] = omega arith
@@ -210,7 +214,7 @@ tokens_from-append at zero (c ∷ cs) after within =
     (sym (without_last-token_at at kind (at + width (take n (c ∷ cs))) more (tokens_from-some next (n - 1) cs)))
 
 pub tokens_of-append : (before after : List ℕ)
-    → tokens_of (before ++ 10 ∷ after) ≡ without_last (tokens_of before) ++ map (moved (width before + 1)) (tokens_of after)
+    → tokens_of (before ++ 10 ∷ after) ≡ without_last (tokens_of before) ++ map (moved_token (width before + 1)) (tokens_of after)
 tokens_of-append before after =
     let there : 0 + width before + 1 ≡ width before + 1 + 0 = omega arith in
     tokens_from-append 0 0 before after (omega arith)

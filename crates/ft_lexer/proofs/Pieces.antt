@@ -1,20 +1,21 @@
 -- A text is made of its tokens.
 use Rattle.std.proofs.Common.{◌≡◌, ◌≤◌, ◌<◌, ◌+◌, ◌∙◌, sym, ap, refl, subst, ℕ, zero, suc, List, [], ◌∷◌, ◌++◌, length, take, drop, Option, Some, None, true, false, ◌==◌, arith}
-use Rattle.std.specs.List.{list_all}
-use Rattle.std.specs.Str.{all_ascii_digits}
 use Rattle.std.specs.Char.{len_utf8, is_ascii_digit}
 use Rattle.std.proofs.lemmas.Bool.{eqb-true}
 use Rattle.std.proofs.lemmas.List.{length-drop, take-append-drop}
 use Rattle.std.proofs.lemmas.Str.{len_utf8_bounds}
 use Rattle.unicode_ident.specs.Ident.{is_xid_continue}
 use Rattle.ft_base.specs.Names.{starts_name}
-use Rattle.ft_lexer.specs.declared.token.Kind.{Kind}
-use Rattle.ft_lexer.specs.declared.token.Kind.TheVariants.{Name, Number, Word, Mark, Bad, End}
-use Rattle.ft_lexer.specs.declared.token.Token.{Token}
-use Rattle.ft_lexer.specs.Fronts.{run, is_space, begins_comment, is_no_line_feed, name_kind, number_kind, front}
-use Rattle.ft_lexer.specs.Tokens.{width, token_at, tokens_from, tokens_of}
-use Rattle.ft_lexer.specs.Made.{IsSpelled, IsMadeOf, at_end, space, comment, token, is_end, is_ended, IsRising}
-use Rattle.ft_lexer.proofs.Choices.{if_both, and_left, and_right, run-le, list_all-take-run, line_end}
+use Rattle.ft_common.proofs.Booleans.{and_left, and_right}
+use Rattle.ft_common.proofs.Choices.{if_both}
+use Rattle.ft_common.proofs.Digits.{run-le, list_all-take-run, digits_all}
+use Rattle.ft_grammar.specs.declared.token.Kind.{Kind}
+use Rattle.ft_grammar.specs.declared.token.Kind.TheVariants.{Name, Number, Word, Mark, Bad, End}
+use Rattle.ft_grammar.specs.declared.token.Token.{Token}
+use Rattle.ft_grammar.specs.Fronts.{run, is_space, begins_comment, is_no_line_feed, name_kind, number_kind, front}
+use Rattle.ft_grammar.specs.Tokens.{width, token_at, tokens_from, tokens_of}
+use Rattle.ft_grammar.specs.Made.{IsSpelled, IsMadeOf, at_end, space, comment, token, is_end, is_ended, IsRising}
+use Rattle.ft_lexer.proofs.Runs.{line_end}
 use Rattle.ft_lexer.proofs.Spelled.{mark_front-spelled, number_kind-spelled, name_kind-spelled}
 use Rattle.ft_lexer.proofs.Steps.{tokens_step}
 
@@ -49,11 +50,6 @@ comment_front c (d ∷ cs) is =
       λ at tokens made. subst (λ text. IsMadeOf at (45 ∷ 45 ∷ text) tokens) (take-append-drop n cs)
           (comment at (take n cs) (drop n cs) tokens (list_all-take-run is_no_line_feed cs) (line_end cs) made),
     ))
-
-digits_all : (ds : List ℕ) → list_all is_ascii_digit ds ≡ true → all_ascii_digits ds ≡ true
-digits_all [] all = refl
-digits_all (d ∷ ds) all =
-    rw (and_left (is_ascii_digit d) (list_all is_ascii_digit ds) all) (digits_all ds (and_right (is_ascii_digit d) (list_all is_ascii_digit ds) all))
 
 name_front : (c : ℕ) (cs : List ℕ) → starts_name c ≡ true
     → IsFront c cs (Some (name_kind (c ∷ take (run is_xid_continue cs) cs)), suc (run is_xid_continue cs))

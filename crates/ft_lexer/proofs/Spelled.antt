@@ -1,22 +1,26 @@
 -- What stands at the front of a text is spelled as it is told.
-use Rattle.std.proofs.Common.{rules, ◌≡◌, ◌≤◌, ◌<◌, ◌+◌, ◌∙◌, sym, ap, refl, subst, ℕ, List, [], ◌∷◌, length, take, Option, Some, None, Bool, true, false, not, ◌&&◌, ◌||◌, ◌==◌, is_some, is_none, nat_lt, if◌then◌else◌, find, arith}
-use Rattle.std.specs.Prelude.{decimal, slice_index}
+use Rattle.std.proofs.Common.{◌≡◌, ◌≤◌, ◌<◌, ◌+◌, ◌∙◌, sym, ap, refl, ℕ, List, [], ◌∷◌, length, take, Option, Some, None, Bool, true, false, not, ◌&&◌, ◌||◌, ◌==◌, is_some, is_none, nat_lt, if◌then◌else◌, arith}
+use Rattle.std.specs.Prelude.{decimal}
 use Rattle.std.specs.List.{list_all}
 use Rattle.std.specs.Str.{bytes_eq, all_ascii_digits}
 use Rattle.std.proofs.lemmas.Bool.{eqb-true}
 use Rattle.std.proofs.lemmas.Fmt.{decimal-digits_value}
-use Rattle.std.proofs.lemmas.Str.Parse.{IsNumeralModel, numerals_by_fold}
+use Rattle.std.proofs.lemmas.Slice.Eq.{bytes_eq-Decides}
 use Rattle.unicode_ident.specs.Ident.{is_xid_continue}
 use Rattle.ft_base.specs.declared.word.Word.{Word as AnyWord}
 use Rattle.ft_base.specs.Words.{words, spelling_of, word_of}
 use Rattle.ft_base.specs.Names.{starts_name, is_lone_underscore, is_name_token}
-use Rattle.ft_lexer.specs.declared.token.Kind.{Kind}
-use Rattle.ft_lexer.specs.declared.token.Kind.TheVariants.{Name, Number, Mark, Bad}
-use Rattle.ft_lexer.specs.declared.token.Mark.{Mark as AnyMark}
-use Rattle.ft_lexer.specs.declared.token.Mark.TheVariants as mark
-use Rattle.ft_lexer.specs.Fronts.{word_or_mark, name_kind, decimal_value, has_leading_zero, number_kind, mark_kind, mark_front}
-use Rattle.ft_lexer.specs.Made.{IsSpelled, mark_spelling}
-use Rattle.ft_lexer.proofs.Choices.{if_both, and_left, and_right, or_left, or_right, IsTrue-from}
+use Rattle.ft_common.proofs.Booleans.{and_left, and_right, or_left, or_right}
+use Rattle.ft_common.proofs.Choices.{if_both}
+use Rattle.ft_common.proofs.Digits.{decimal_value-is_numeral, no_leading_zero}
+use Rattle.ft_common.proofs.Lists.{find_passes}
+use Rattle.ft_grammar.specs.declared.token.Kind.{Kind}
+use Rattle.ft_grammar.specs.declared.token.Kind.TheVariants.{Name, Number, Mark, Bad}
+use Rattle.ft_grammar.specs.declared.token.Mark.{Mark as AnyMark}
+use Rattle.ft_grammar.specs.declared.token.Mark.TheVariants as mark
+use Rattle.ft_grammar.specs.Fronts.{word_or_mark, name_kind, decimal_value, has_leading_zero, number_kind, mark_kind, mark_front}
+use Rattle.ft_grammar.specs.Made.{IsSpelled, mark_spelling}
+use Rattle.ft_lexer.proofs.Runs.{IsTrue-from}
 
 -- ---- marks
 
@@ -56,19 +60,11 @@ mark_front-spelled c (d ∷ cs) =
 
 -- ---- numbers
 
-own : IsNumeralModel (λ ds. all_ascii_digits ds ≡ true) (decimal_value 0)
-own = numerals_by_fold _ (search rules) decimal_value (search rules)
-
-no_leading_zero : (ds : List ℕ) → has_leading_zero ds ≡ false → slice_index ds 0 ≡ 48 → length ds ≡ 1
-no_leading_zero [] none first = cc
-no_leading_zero (d ∷ []) none first = refl
-no_leading_zero (d ∷ e ∷ ds) none first = grind (arith, none, first)
-
 number : (ds : List ℕ) → all_ascii_digits ds ≡ true → 0 < length ds → has_leading_zero ds ≡ false
     → nat_lt 65535 (decimal_value 0 ds) ≡ false → (ds ≡ decimal (decimal_value 0 ds)) × (decimal_value 0 ds ≤ 65535)
 number ds all some unpadded small =
     let within : decimal_value 0 ds ≤ 65535 = grind (arith, small) in
-    (sym (decimal-digits_value own ds all some (no_leading_zero ds unpadded) (omega (arith, within))), within)
+    (sym (decimal-digits_value decimal_value-is_numeral ds all some (no_leading_zero ds unpadded) (omega (arith, within))), within)
 
 pub number_kind-spelled : (d : ℕ) (ds : List ℕ) → all_ascii_digits (d ∷ ds) ≡ true → IsSpelled (number_kind (d ∷ ds)) (d ∷ ds)
 number_kind-spelled d ds all =
@@ -79,23 +75,9 @@ number_kind-spelled d ds all =
 
 -- ---- names and words
 
-bytes_eq-same : (xs ys : List ℕ) → bytes_eq xs ys ≡ true → xs ≡ ys
-bytes_eq-same [] [] e = refl
-bytes_eq-same [] (y ∷ ys) e = cc
-bytes_eq-same (x ∷ xs) [] e = cc
-bytes_eq-same (x ∷ xs) (y ∷ ys) e =
-    let first : x ≡ y = eqb-true x y (and_left (x == y) (bytes_eq xs ys) e) in
-    let others = bytes_eq-same xs ys (and_right (x == y) (bytes_eq xs ys) e) in
-    ap (λ n. n ∷ xs) first ∙ ap (λ ns. y ∷ ns) others
-
-find_passes : (passes : AnyWord → Bool) (ws : List AnyWord) (w : AnyWord) → find passes ws ≡ Some w → passes w ≡ true
-find_passes passes [] w e = cc
-find_passes passes (v ∷ ws) w e = elim (passes v) as (λ b. passes v ≡ b → (if b then Some v else find passes ws) ≡ Some w → passes w ≡ true)
-    [ true ↦ (λ is found. subst (λ x. passes x ≡ true) (cc) is) | false ↦ (λ is found. find_passes passes ws w found) ] refl e
-
 word_of-spelled : (spelling : List ℕ) (w : AnyWord) → word_of spelling ≡ Some w → spelling ≡ spelling_of w
 word_of-spelled spelling w e =
-    sym (bytes_eq-same (spelling_of w) spelling (find_passes (λ v. bytes_eq (spelling_of v) spelling) words w e))
+    sym ((bytes_eq-Decides (spelling_of w) spelling).0 (find_passes (λ v. bytes_eq (spelling_of v) spelling) words w e))
 
 underscore : (spelling : List ℕ) → is_lone_underscore spelling ≡ true → spelling ≡ 95 ∷ []
 underscore [] e = cc

@@ -1,15 +1,14 @@
 use Rattle.std.proofs.Common.{◌≡◌, ◌≤◌, ◌<◌, ◌+◌, ◌-◌, ◌∙◌, ◌++◌, sym, ap, refl, zero, suc, ℕ, List, [], ◌∷◌, length, take, drop, Option, append_assoc, arith}
 use Rattle.std.specs.Char.{len_utf8}
-use Rattle.std.proofs.Math.Seq.{take-length}
 use Rattle.std.specs.Str.{chars, IsUtf8}
 use Rattle.std.specs.Prelude.{slice_index}
 use Rattle.std.proofs.lemmas.Str.{length-encode, chars_from_encodes}
-use Rattle.std.proofs.lemmas.List.{length-append, drop_more, drop-drop, length-drop}
+use Rattle.std.proofs.lemmas.List.{length-append, drop_more, drop-drop}
 use Rattle.std.proofs.Math.Utf8.{encode, encodes}
-use Rattle.ft_lexer.specs.declared.token.Kind.{Kind}
-use Rattle.ft_lexer.specs.declared.token.Token.{Token}
-use Rattle.ft_lexer.specs.Fronts.{front}
-use Rattle.ft_lexer.specs.Tokens.{width, token_at, tokens_from}
+use Rattle.ft_grammar.specs.declared.token.Kind.{Kind}
+use Rattle.ft_grammar.specs.declared.token.Token.{Token}
+use Rattle.ft_grammar.specs.Fronts.{front}
+use Rattle.ft_grammar.specs.Tokens.{width, token_at, tokens_from}
 
 -- passing over the characters of a token that was told
 pub tokens_skip : (at k : ℕ) (cs : List ℕ) → k ≤ length cs → tokens_from at k cs ≡ tokens_from (at + width (take k cs)) 0 (drop k cs)
@@ -65,7 +64,3 @@ pub width_next : (chars : List ℕ) (i n at w : ℕ) → at + width (drop i char
 width_next chars i n at w h e =
     let d : width (drop n (drop i chars)) ≡ width (drop (i + n) chars) = ap width (drop-drop n i chars) in
     omega (arith, width_parts n (drop i chars), d, h, e)
-
--- `&xs[at..]`
-pub range_from : (xs : List ℕ) (at : ℕ) → take (length xs - at) (drop at xs) ≡ drop at xs
-range_from xs at = ap (λ n. take n (drop at xs)) (sym (length-drop at xs)) ∙ take-length (drop at xs)

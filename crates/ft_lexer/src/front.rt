@@ -4,11 +4,11 @@ ghost use Rattle.std.specs.Prelude.{◌≡◌, ◌≤◌, ◌<◌, ◌+◌, ◌-
 ghost use Rattle.unicode_ident.specs.Ident.{is_xid_continue as continues};
 ghost use Rattle.std.specs.Char.{is_ascii_digit};
 ghost use Rattle.ft_base.specs.Names.{starts_name};
-ghost use Rattle.ft_lexer.specs.Fronts.{run, is_space, word_or_mark, begins_comment, decimal_value, mark_kind, is_no_line_feed, name_kind, number_kind, mark_front, front};
+ghost use Rattle.ft_grammar.specs.Fronts.{run, is_space, word_or_mark, begins_comment, decimal_value, mark_kind, is_no_line_feed, name_kind, number_kind, mark_front, front};
 
-use crate::token::{Kind, Mark};
 use ft_base::limits::MAX_SOURCE_NUMBER;
 use ft_base::{Memory, Name, Word};
+use ft_grammar::{Kind, Mark};
 use std::alloc::Global;
 use unicode_ident::{is_xid_continue, is_xid_start};
 
@@ -63,14 +63,7 @@ fn line_run(text: &[char]) -> usize
     ensures run { result ≡ run is_no_line_feed text.now }
     ensures within { result ≤ length text.now }
 {
-    let mut length = 0;
-    for c in text {
-        if *c == '\n' {
-            return length;
-        }
-        length += 1;
-    }
-    length
+    text.iter().take_while(|c| **c != '\n').count()
 }
 
 // How far the characters go on that continue a name.
@@ -78,28 +71,14 @@ fn name_run(text: &[char]) -> usize
     ensures run { result ≡ run continues text.now }
     ensures within { result ≤ length text.now }
 {
-    let mut length = 0;
-    for c in text {
-        if !is_xid_continue(*c) {
-            return length;
-        }
-        length += 1;
-    }
-    length
+    text.iter().take_while(|c| is_xid_continue(**c)).count()
 }
 
 fn digit_run(text: &[char]) -> usize
     ensures run { result ≡ run is_ascii_digit text.now }
     ensures within { result ≤ length text.now }
 {
-    let mut length = 0;
-    for c in text {
-        if !c.is_ascii_digit() {
-            return length;
-        }
-        length += 1;
-    }
-    length
+    text.iter().take_while(|c| c.is_ascii_digit()).count()
 }
 
 // What a run of characters is that begins as a name and goes on as one.
@@ -151,10 +130,10 @@ fn digit(c: char) -> u64
     (c as u64).saturating_sub(48)
 }
 
-// The number that the digits write after those of a first number, or None where it is above 65,535.
+// The number that the digits write after those of a first number, or None where it is above the greatest one.
 fn value(first: u64, rest: &[char]) -> Option<u64>
-    requires { first ≤ 65535 }
-    ensures { result ≡ (if nat_lt 65535 (decimal_value first rest.now) then None else Some (decimal_value first rest.now)) }
+    requires { first ≤ MAX_SOURCE_NUMBER }
+    ensures { result ≡ (if nat_lt MAX_SOURCE_NUMBER (decimal_value first rest.now) then None else Some (decimal_value first rest.now)) }
 {
     let mut value = first;
     for c in rest {

@@ -2,9 +2,9 @@
 
 ghost use Rattle.std.specs.Prelude.{◌≡◌, ◌+◌, ◌++◌, [], ◌∷◌, ℕ, List, IsTrue, map};
 ghost use Rattle.ft_base.specs.Names.{is_name_token};
-ghost use Rattle.ft_lexer.specs.declared.token.Kind.TheVariants.{Name, End};
-ghost use Rattle.ft_lexer.specs.Tokens.{width, tokens_of};
-ghost use Rattle.ft_lexer.specs.Made.{IsMadeOf, IsRising, is_ended, moved, without_last};
+ghost use Rattle.ft_grammar.specs.declared.token.Kind.TheVariants.{Name, End};
+ghost use Rattle.ft_grammar.specs.Tokens.{width, tokens_of};
+ghost use Rattle.ft_grammar.specs.Made.{IsMadeOf, IsRising, is_ended, moved_token, without_last};
 
 /// A text is made of its tokens, white space and comments: each of its characters stands in exactly one of them, and each
 /// token's characters spell it and stand where its start and end say.
@@ -30,5 +30,5 @@ pub fn a_name_token_is_one_token()
 /// A text, a line feed and another text give the tokens of the first without its `End`, and then those of the second, moved
 /// by the bytes before it.
 pub fn a_line_feed_joins_texts()
-    ensures { (before after : List ℕ) → tokens_of (before ++ 10 ∷ after) ≡ without_last (tokens_of before) ++ map (moved (width before + 1)) (tokens_of after) }
+    ensures { (before after : List ℕ) → tokens_of (before ++ 10 ∷ after) ≡ without_last (tokens_of before) ++ map (moved_token (width before + 1)) (tokens_of after) }
 {}

@@ -4,11 +4,7 @@
 mod front;
 pub mod laws;
 mod scan;
-mod token;
 
 pub use ft_base::Word;
+pub use ft_grammar::{Kind, Mark, Token};
 pub use scan::tokens;
-pub use token::{Kind, Mark, Token};
-
-#[cfg(test)]
-mod tests;

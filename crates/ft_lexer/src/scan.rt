@@ -2,12 +2,12 @@
 
 ghost use Rattle.std.specs.Prelude.{◌≡◌, ◌<◌, ◌^◌, ◌++◌, IfOk, OnOk, IsTrue};
 ghost use Rattle.std.specs.Str.{chars as chars_of};
-ghost use Rattle.ft_lexer.specs.Tokens.{width, token_at, tokens_from, tokens_of};
-ghost use Rattle.ft_lexer.specs.Made.{is_ended};
+ghost use Rattle.ft_grammar.specs.Tokens.{width, token_at, tokens_from, tokens_of};
+ghost use Rattle.ft_grammar.specs.Made.{is_ended};
 
 use crate::front::front_of;
-use crate::token::{Kind, Token};
 use ft_base::Memory;
+use ft_grammar::{Kind, Token};
 use std::alloc::Global;
 
 /// The tokens of the text in their order, with the bytes of the text at which each begins and ends. White space and comments

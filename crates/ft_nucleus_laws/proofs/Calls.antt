@@ -1,13 +1,15 @@
 -- What a call answers, and when it refuses.
 use Rattle.std.proofs.Common.{◌≡◌, Bool, true, false, cond, ◌&&◌, Option, Some, None, [], refl, sym, ap, ap₂, ◌∙◌}
 use Rattle.std.specs.Prelude.{is_some, option_map, option_and_then, Result, Ok, Err}
+use Rattle.std.proofs.lemmas.Bool.{and_parts, and_from}
+use Rattle.ft_common.proofs.Options.{none_some}
+use Rattle.ft_common.proofs.Booleans.{false_true}
 use Rattle.ft_theory.specs.Statements.{Statement}
 use Rattle.ft_items.specs.Sets.{is_within}
 use Rattle.ft_items.specs.Item.{Stated, entry, by_var, by_generic, by_meta, by_metacong, by_abs, by_subst, by_substeq, by_refl, by_sym, by_trans, by_conv, by_conveq, by_left, by_right, by_typeof, by_domain, by_boundary, by_widen, by_btype, by_bterm, by_beqty, by_beqtm, by_rule, by_rulewith, by_inst, by_cong, by_convprem, by_convback, by_arg, by_natural, by_metainst}
 use Rattle.ft_items.specs.Store.{Assertion, Store, Resolved, resolve, store_of, premises_of, empty_store}
 use Rattle.ft_items.specs.Rows.{when, statements, atoms, differ, on_earlier, are_arguments, conclusion, result_set}
 use Rattle.ft_items.specs.Good.{of_kind, given, AllowedIn}
-use Rattle.ft_items.proofs.SetLemmas.{wrong, both, both_true}
 use Rattle.ft_items.proofs.Lists.{good_last}
 use Rattle.ft_sound.proofs.Good.{entry_valid}
 use Rattle.ft_sound.proofs.Reasons.{no_reason, well_formed_all, well_formed_empty}
@@ -19,12 +21,6 @@ use Rattle.ft_nucleus_laws.proofs.Lists.{passes, passed, fails_first, first_fail
 use Rattle.ft_nucleus_laws.proofs.StepRows.{asks_its_row}
 
 -- options and results
-none_some : {A : Type 0} {P : Type 0} (a : A) → None ≡ Some a → P
-none_some {A} {P} a e = absurd (clash e)
-  where
-    clash : None ≡ Some a → ⊥
-    clash e = cc
-
 abbrev answers : Assertion → Result Assertion Refusal
 answers a = Ok a
 
@@ -39,26 +35,26 @@ given_concludes : (W : Store) (s : Resolved) (a : Assertion) → given W s ≡ S
 given_concludes W s a h = go (of_kind s) (conclusion W s) h
   where
     go : (b : Bool) (o : Option Statement) → cond b (option_map (λ x. record { statement = x; set = result_set s }) o) None ≡ Some a → (b ≡ true) × (is_some o ≡ true)
-    go true None h = none_some a h
+    go true None h = none_some h
     go true (Some x) h = (refl, refl)
-    go false o h = none_some a h
+    go false o h = none_some h
 
 concludes_given : (W : Store) (s : Resolved) → of_kind s ≡ true → is_some (conclusion W s) ≡ true → (a : Assertion) × (given W s ≡ Some a)
 concludes_given W s k h = go (of_kind s) (conclusion W s) k h
   where
     go : (b : Bool) (o : Option Statement) → b ≡ true → is_some o ≡ true → (a : Assertion) × (cond b (option_map (λ x. record { statement = x; set = result_set s }) o) None ≡ Some a)
-    go true None k h = wrong h
+    go true None k h = false_true h
     go true (Some x) k h = (record { statement = x; set = result_set s }, refl)
-    go false o k h = wrong k
+    go false o k h = false_true k
 
 -- an instance that concludes meets its own condition
 when_true : (b : Bool) (x : Statement) → is_some (when b x) ≡ true → b ≡ true
 when_true true x h = refl
-when_true false x h = wrong h
+when_true false x h = false_true h
 
 concludes_allowed : (W : Store) (s : Resolved) → is_some (conclusion W s) ≡ true → instance_allowed s ≡ true
 concludes_allowed W (by_metainst p ms qs) h =
-    (both (differ (atoms ms) && on_earlier [] ms && is_within p.set (atoms ms)) (are_arguments (premises_of ms) (statements qs))
+    (and_parts (differ (atoms ms) && on_earlier [] ms && is_within p.set (atoms ms)) (are_arguments (premises_of ms) (statements qs))
     (when_true (differ (atoms ms) && on_earlier [] ms && is_within p.set (atoms ms) && are_arguments (premises_of ms) (statements qs)) _ h)).0
 concludes_allowed W (by_var v) h = refl
 concludes_allowed W (by_generic m) h = refl
@@ -114,7 +110,7 @@ answers_its_row W s a = (there, back)
     back : (given W s ≡ Some a) × AllSmall (formed (checks W s)) → answer W s ≡ Ok a
     back h =
         let k : (of_kind s ≡ true) × (is_some (conclusion W s) ≡ true) = given_concludes W s a h.0 in
-        let m : may_be_made s ≡ true = both_true (of_kind s) (instance_allowed s) k.0 (concludes_allowed W s k.1) in
+        let m : may_be_made s ≡ true = and_from (of_kind s) (instance_allowed s) k.0 (concludes_allowed W s k.1) in
         ap₂ answered (passes (checks W s) (asks_its_row W s m ∙ k.1) h.1) h.0
 
 -- refusals
@@ -132,7 +128,7 @@ pub refuses_first : RefusesFirst
 refuses_first W s r m = (there, back)
   where
     gives_some : first_refusal (checks W s) ≡ None → (a : Assertion) × (given W s ≡ Some a)
-    gives_some h = concludes_given W s (both (of_kind s) (instance_allowed s) m).0 (sym (asks_its_row W s m) ∙ (passed (checks W s) h).0)
+    gives_some h = concludes_given W s (and_parts (of_kind s) (instance_allowed s) m).0 (sym (asks_its_row W s m) ∙ (passed (checks W s) h).0)
 
     there : answer W s ≡ Err r → FailsFirst (checks W s) r
     there h = fails_first (checks W s) r (answered_err (first_refusal (checks W s)) (given W s) r gives_some h)

@@ -1,20 +1,23 @@
 -- Declaring variables, metavariables and rules: allowed items, and what stays after a refusal.
-use Rattle.std.proofs.Common.{◌≡◌, ◌≢◌, ℕ, suc, Bool, true, false, cond, nat_lt, ◌&&◌, not, Option, Some, None, List, [], ◌∷◌, ◌++◌, ◌⊎◌, length, inl, inr, refl, sym, ap, ap₂, ◌∙◌, subst, append_assoc, append-nil}
+use Rattle.std.proofs.Common.{◌≡◌, ◌≢◌, ℕ, suc, Bool, true, false, cond, nat_lt, ◌&&◌, not, Option, Some, None, List, [], ◌∷◌, ◌++◌, ◌⊎◌, length, inl, inr, refl, sym, ap, ap₂, ◌∙◌, subst, append_assoc, append-nil, arith}
 use Rattle.std.specs.Prelude.{option_map, option_and_then, Result, Ok, Err}
-use Rattle.std.proofs.lemmas.Bool.{ltb-true, lt-ltb}
+use Rattle.std.proofs.lemmas.Bool.{ltb-true, lt-ltb, and_parts, and_from, not-true}
+use Rattle.std.proofs.lemmas.Option.{same_Some}
+use Rattle.ft_common.proofs.Options.{none_some, some_none}
+use Rattle.ft_common.proofs.Booleans.{false_true}
 use Rattle.ft_theory.specs.Derivability.{FinitaryUpTo}
 use Rattle.ft_items.specs.Sets.{Atom, met, var, has, is_within, metavariables_only, Has}
 use Rattle.ft_items.specs.Item.{Name, variable, metavariable}
 use Rattle.ft_items.specs.Store.{Assertion, Declared, Store, nth, each, entry_named, metavariable_named, add_variable, add_metavariable, add_rule, empty_store, store_of}
 use Rattle.ft_items.specs.Rows.{atoms, differ, on_earlier}
 use Rattle.ft_items.specs.Good.{is_plain_type, is_new, Allowed}
-use Rattle.ft_items.proofs.SetLemmas.{wrong, both, both_true, not_true, by_bool, has_true, has_false}
-use Rattle.ft_items.proofs.Lists.{store_last, good_last, Before, nth_before, each_before}
-use Rattle.ft_laws.proofs.Fresh.{Some_injective}
+use Rattle.ft_items.proofs.SetLemmas.{by_bool, has_true, has_false}
+use Rattle.ft_items.proofs.Lists.{store_last, good_last, Before, nth_before, each_before, nth_end, nth_past, store_append, before_all}
 use Rattle.ft_sound.proofs.Theorems.{rules_finitary}
 use Rattle.ft_reference.specs.Refusals.{Refusal, WrongForm, OpenBoundary}
 use Rattle.ft_reference.specs.Declare.{outcome, refused_unless, first_of, new_variable, first_variable, new_metavariable, RuleFault, Duplicate, TooMany, OpenPremise, OpenConclusion, Draft, name_fault, first_outside, begin, premise, finish}
-use Rattle.ft_nucleus_laws.specs.Laws.{LeavesOld, RefusalsChangeNothing, VariablesAllowed, MetavariablesAllowed, numbers, IsDraft, DraftsGrow, drafted, FinishesAllowed, FinishedIsFinitary}
+use Rattle.ft_nucleus_laws.specs.Laws.{LeavesOld, RefusalsChangeNothing, VariablesAllowed, MetavariablesAllowed, numbers, IsDraft, DraftsGrow, DraftsStay, drafted, FinishesAllowed, FinishedIsFinitary}
+use Rattle.ft_sound.proofs.Good.{atoms_last}
 
 -- outcomes
 ok_path : {A E : Type 0} (a b : A) (x y : Result A E) → x ≡ Ok a → y ≡ Ok b → x ≡ y → a ≡ b
@@ -36,10 +39,7 @@ answers_none (Some e) old made a b h = no_answer e b (outcome (Some e) old made 
 
 none_answers : {S A E : Type 0} (o : Option E) (old made : S) (a : A) → o ≡ None → ((outcome o old made a).answer ≡ Ok a) × ((outcome o old made a).after ≡ made)
 none_answers None old made a h = (refl, refl)
-none_answers (Some e) old made a h = absurd (clash h)
-  where
-    clash : Some e ≡ None → ⊥
-    clash h = cc
+none_answers (Some e) old made a h = some_none h
 
 pub refusals_change_nothing : RefusalsChangeNothing
 refusals_change_nothing W d v n p = (stays _ _ _ _, stays _ _ _ _, stays _ _ _ _, stays _ _ _ _, stays _ _ _ _)
@@ -47,35 +47,26 @@ refusals_change_nothing W d v n p = (stays _ _ _ _, stays _ _ _ _, stays _ _ _ _
 -- refusals that are none
 unless_true : {E : Type 0} (b : Bool) (e : E) → refused_unless b e ≡ None → b ≡ true
 unless_true true e h = refl
-unless_true false e h = absurd (clash h)
-  where
-    clash : Some e ≡ None → ⊥
-    clash h = cc
+unless_true false e h = some_none h
 
 true_unless : {E : Type 0} (b : Bool) (e : E) → b ≡ true → refused_unless b e ≡ None
 true_unless true e h = refl
-true_unless false e h = wrong h
+true_unless false e h = false_true h
 
 both_none : {E : Type 0} (o p : Option E) → first_of o p ≡ None → (o ≡ None) × (p ≡ None)
 both_none None p h = (refl, h)
-both_none (Some e) p h = absurd (clash h)
-  where
-    clash : Some e ≡ None → ⊥
-    clash h = cc
+both_none (Some e) p h = some_none h
 
 none_both : {E : Type 0} (o p : Option E) → o ≡ None → p ≡ None → first_of o p ≡ None
 none_both o p h k = ap (λ z. first_of z p) h ∙ k
 
 map_none : {A B : Type 0} (f : A → B) (o : Option A) → option_map f o ≡ None → o ≡ None
 map_none f None h = refl
-map_none f (Some a) h = absurd (clash h)
-  where
-    clash : Some (f a) ≡ None → ⊥
-    clash h = cc
+map_none f (Some a) h = some_none h
 
 -- the entry is the one named
 same_entry : (W : Store) (p : ℕ) (a b : Assertion) → entry_named W p ≡ Some a → entry_named W p ≡ Some b → b ≡ a
-same_entry W p a b h k = Some_injective b a (sym k ∙ h)
+same_entry W p a b h k = same_Some b a (sym k ∙ h)
 
 -- variables
 pub variables_allowed : VariablesAllowed
@@ -102,15 +93,12 @@ variables_allowed items v p n a next named = (there, back)
 no_first : (S : List Atom) → first_variable S ≡ None → metavariables_only S ≡ true
 no_first [] h = refl
 no_first (met m ∷ S) h = no_first S h
-no_first (var v ∷ S) h = absurd (clash h)
-  where
-    clash : Some v ≡ None → ⊥
-    clash h = cc
+no_first (var v ∷ S) h = some_none h
 
 first_none : (S : List Atom) → metavariables_only S ≡ true → first_variable S ≡ None
 first_none [] h = refl
 first_none (met m ∷ S) h = first_none S h
-first_none (var v ∷ S) h = wrong h
+first_none (var v ∷ S) h = false_true h
 
 pub metavariables_allowed : MetavariablesAllowed
 metavariables_allowed items p n a kind named = (there, back)
@@ -150,31 +138,13 @@ no_outside R (a ∷ S) h = go (has a R) h (no_outside R S)
 outside_none : (R S : List Atom) → is_within S R ≡ true → first_outside R S ≡ None
 outside_none R [] h = refl
 outside_none R (a ∷ S) h =
-    let k : (has a R ≡ true) × (is_within S R ≡ true) = both (has a R) (is_within S R) h in
+    let k : (has a R ≡ true) × (is_within S R ≡ true) = and_parts (has a R) (is_within S R) h in
     ap (λ z. cond z (first_outside R S) (Some a)) k.0 ∙ outside_none R S k.1
 
 -- drafts: one more metavariable
 numbers_last : (ds : List (ℕ × Declared)) (x : ℕ × Declared) → numbers (ds ++ (x ∷ [])) ≡ numbers ds ++ (x.0 ∷ [])
 numbers_last [] x = refl
 numbers_last (d ∷ ds) x = ap (λ z. d.0 ∷ z) (numbers_last ds x)
-
-atoms_last : (ds : List (ℕ × Declared)) (x : ℕ × Declared) → atoms (ds ++ (x ∷ [])) ≡ atoms ds ++ (met x.0 ∷ [])
-atoms_last [] x = refl
-atoms_last (d ∷ ds) x = ap (λ z. met d.0 ∷ z) (atoms_last ds x)
-
-nth_length : {A : Type 0} (xs : List A) (x : A) → nth (xs ++ (x ∷ [])) (length xs) ≡ Some x
-nth_length [] x = refl
-nth_length (y ∷ xs) x = nth_length xs x
-
-nth_end : {A : Type 0} (xs : List A) → nth xs (length xs) ≡ None
-nth_end [] = refl
-nth_end (y ∷ xs) = nth_end xs
-
-none_some : {A : Type 0} {P : Type 0} (x : A) → None ≡ Some x → P
-none_some {A} {P} x e = absurd (clash e)
-  where
-    clash : None ≡ Some x → ⊥
-    clash e = cc
 
 -- the parts of a list that each names
 abbrev Parts : Store → ℕ → List ℕ → List (ℕ × Declared) → Type 0
@@ -184,12 +154,12 @@ parts : (W : Store) (m : ℕ) (ms : List ℕ) (ds : List (ℕ × Declared)) → 
 parts W m ms ds h = go (metavariable_named W m) refl (each (metavariable_named W) ms) refl h
   where
     go : (o : Option (ℕ × Declared)) → metavariable_named W m ≡ o → (os : Option (List (ℕ × Declared))) → each (metavariable_named W) ms ≡ os → option_and_then (λ d. option_map (λ ds. d ∷ ds) os) o ≡ Some ds → Parts W m ms ds
-    go None q os r h = none_some ds h
-    go (Some d) q None r h = none_some ds h
-    go (Some d) q (Some es) r h = (d, es, q, r, sym (Some_injective (d ∷ es) ds h))
+    go None q os r h = none_some h
+    go (Some d) q None r h = none_some h
+    go (Some d) q (Some es) r h = (d, es, q, r, sym (same_Some (d ∷ es) ds h))
 
 each_last : (W : Store) (ms : List ℕ) (ds : List (ℕ × Declared)) (m : ℕ) (x : ℕ × Declared) → each (metavariable_named W) ms ≡ Some ds → metavariable_named W m ≡ Some x → each (metavariable_named W) (ms ++ (m ∷ [])) ≡ Some (ds ++ (x ∷ []))
-each_last W [] ds m x h k = ap (option_and_then (λ d. Some (d ∷ []))) k ∙ ap (λ z. Some (z ++ (x ∷ []))) (Some_injective [] ds h)
+each_last W [] ds m x h k = ap (option_and_then (λ d. Some (d ∷ []))) k ∙ ap (λ z. Some (z ++ (x ∷ []))) (same_Some [] ds h)
 each_last W (l ∷ ms) ds m x h k =
     let p : Parts W l ms ds = parts W l ms ds h in
     ap (option_and_then (λ d. option_map (λ ds. d ∷ ds) (each (metavariable_named W) (ms ++ (m ∷ []))))) p.2
@@ -205,7 +175,7 @@ not_there W [] es m h k i = i
 not_there W (d ∷ ds) es m h k i = go (parts W d.0 (numbers ds) es h) i (λ es h i. not_there W ds es m h k i)
   where
     go : Parts W d.0 (numbers ds) es → (met m ≡ met d.0) ⊎ Has (met m) (atoms ds) → ((es : List (ℕ × Declared)) → each (metavariable_named W) (numbers ds) ≡ Some es → Has (met m) (atoms ds) → ⊥) → ⊥
-    go p (inl e) ih = none_some p.0 (sym (ap (λ z. option_map (λ d. (z, d)) (nth W.metavariables z)) (sym (met_path m d.0 e)) ∙ ap (option_map (λ d. (m, d))) k) ∙ p.2)
+    go p (inl e) ih = none_some (sym (ap (λ z. option_map (λ d. (z, d)) (nth W.metavariables z)) (sym (met_path m d.0 e)) ∙ ap (option_map (λ d. (m, d))) k) ∙ p.2)
     go p (inr i) ih = ih p.1 p.3 i
 
 has_last : (b a : Atom) (S : List Atom) → Has b (S ++ (a ∷ [])) → Has b S ⊎ (b ≡ a)
@@ -228,14 +198,14 @@ not_has b a S h n = by_bool (not (has b (S ++ (a ∷ []))) ≡ true) (has b (S +
 differ_last : (S : List Atom) (a : Atom) → differ S ≡ true → (Has a S → ⊥) → differ (S ++ (a ∷ [])) ≡ true
 differ_last [] a h n = refl
 differ_last (b ∷ S) a h n =
-    let k : (not (has b S) ≡ true) × (differ S ≡ true) = both (not (has b S)) (differ S) h in
-    both_true (not (has b (S ++ (a ∷ [])))) (differ (S ++ (a ∷ []))) (not_has b a S (not_true (has b S) k.0) (λ e. n (inl (sym e)))) (differ_last S a k.1 (λ i. n (inr i)))
+    let k : (not (has b S) ≡ true) × (differ S ≡ true) = and_parts (not (has b S)) (differ S) h in
+    and_from (not (has b (S ++ (a ∷ [])))) (differ (S ++ (a ∷ []))) (not_has b a S (not-true (has b S) k.0) (λ e. n (inl (sym e)))) (differ_last S a k.1 (λ i. n (inr i)))
 
 earlier_last : (before : List Atom) (ds : List (ℕ × Declared)) (x : ℕ × Declared) → on_earlier before ds ≡ true → is_within x.1.set (before ++ atoms ds) ≡ true → on_earlier before (ds ++ (x ∷ [])) ≡ true
-earlier_last before [] x h k = both_true (is_within x.1.set before) true (subst (λ z. is_within x.1.set z ≡ true) (append-nil before) k) refl
+earlier_last before [] x h k = and_from (is_within x.1.set before) true (subst (λ z. is_within x.1.set z ≡ true) (append-nil before) k) refl
 earlier_last before (d ∷ ds) x h k =
-    let i : (is_within d.1.set before ≡ true) × (on_earlier (before ++ (met d.0 ∷ [])) ds ≡ true) = both (is_within d.1.set before) (on_earlier (before ++ (met d.0 ∷ [])) ds) h in
-    both_true (is_within d.1.set before) (on_earlier (before ++ (met d.0 ∷ [])) (ds ++ (x ∷ []))) i.0
+    let i : (is_within d.1.set before ≡ true) × (on_earlier (before ++ (met d.0 ∷ [])) ds ≡ true) = and_parts (is_within d.1.set before) (on_earlier (before ++ (met d.0 ∷ [])) ds) h in
+    and_from (is_within d.1.set before) (on_earlier (before ++ (met d.0 ∷ [])) (ds ++ (x ∷ []))) i.0
     (earlier_last (before ++ (met d.0 ∷ [])) ds x i.1 (subst (λ z. is_within x.1.set z ≡ true) (sym (append_assoc before (met d.0 ∷ []) (atoms ds))) k))
 
 -- the draft with the premise
@@ -243,8 +213,8 @@ more : (W : Store) (d : Draft) (n : Name) (b : Assertion) → IsDraft W d → is
     → IsDraft (add_metavariable W n (Some b)) (record d { premises = d.premises ++ ((length W.metavariables, record { name = n; boundary = b.statement; set = b.set }) ∷ []) })
 more W d n b i h = record {
   named = ap (each (metavariable_named X)) (numbers_last d.premises x)
-      ∙ each_last X (numbers d.premises) d.premises m x (each_before W X stays_there (numbers d.premises) d.premises i.named) (ap (option_map (λ d. (m, d))) (nth_length W.metavariables x.1));
-  different = ap differ (atoms_last d.premises x) ∙ differ_last (atoms d.premises) (met m) i.different (not_there W d.premises d.premises m i.named (nth_end W.metavariables));
+      ∙ each_last X (numbers d.premises) d.premises m x (each_before W X stays_there (numbers d.premises) d.premises i.named) (ap (option_map (λ d. (m, d))) (nth_end W.metavariables x.1));
+  different = ap differ (atoms_last d.premises x) ∙ differ_last (atoms d.premises) (met m) i.different (not_there W d.premises d.premises m i.named (nth_past W.metavariables (length W.metavariables) (omega arith)));
   ordered = earlier_last [] d.premises x i.ordered h;
 }
   where
@@ -259,6 +229,13 @@ more W d n b i h = record {
 
     stays_there : Before W X
     stays_there = record { entries = λ p a q. q; metavariables = λ k e q. nth_before W.metavariables (x.1 ∷ []) k e q }
+
+pub drafts_stay : DraftsStay
+drafts_stay items more d i =
+    let W = store_of items in
+    let X = store_of (items ++ more) in
+    let later : Before W X = subst (λ Y. Before W Y) (sym (store_append empty_store items more)) (before_all W more) in
+    record { named = each_before W X later (numbers d.premises) d.premises i.named; different = i.different; ordered = i.ordered }
 
 pub drafts_grow : DraftsGrow
 drafts_grow = (begun, grown)
@@ -317,7 +294,7 @@ finishes_allowed items d p c i named kind flat = (there, back)
             (true_unless (nat_lt (length W.rules) 65536) TooMany (lt-ltb (length W.rules) 65536 h.0.1))
 
         same : (h.0.2 ≡ d.premises) × (h.0.4 ≡ c)
-        same = (Some_injective h.0.2 d.premises (sym h.0.3 ∙ i.named), same_entry W p c h.0.4 named h.0.5)
+        same = (same_Some h.0.2 d.premises (sym h.0.3 ∙ i.named), same_entry W p c h.0.4 named h.0.5)
 
         closed : option_map OpenConclusion (first_outside (atoms d.premises) c.set) ≡ None
         closed = ap (option_map OpenConclusion) (outside_none (atoms d.premises) c.set (subst (λ z. is_within c.set (atoms z) ≡ true) same.0 (subst (λ (z : Assertion). is_within z.set (atoms h.0.2) ≡ true) same.1 h.0.10)))

@@ -1,9 +1,10 @@
 -- A thesis fits exactly where filling the boundary with its head gives it.
 use Rattle.std.proofs.Common.{◌≡◌, ℕ, suc, true, false, ◌&&◌, None, refl, sym, ◌∙◌, subst}
+use Rattle.std.proofs.lemmas.Bool.{and_from}
+use Rattle.ft_common.proofs.Booleans.{true_false}
 use Rattle.ft_theory.specs.Expressions.{Expression}
 use Rattle.ft_theory.specs.Statements.{Claim, is_type, has_type, equal_types, equal_terms, type_goal, term_goal, type_equation_goal, term_equation_goal, Statement, plain, abstracted, fill_goal, fill, boundary_of}
 use Rattle.ft_items.specs.Equal.{equal_expressions, is_thesis_claim, is_thesis, head, fits_goal, fits}
-use Rattle.ft_items.proofs.SetLemmas.{wrong', both_true}
 use Rattle.ft_sound.proofs.EqualLemmas.{expression_self, fits_true}
 use Rattle.ft_reference.specs.Refusals.{first_refusal, formed, AllSmall}
 use Rattle.ft_reference.specs.Compare.{goal_checks, domain_checks, fit_checks}
@@ -15,17 +16,17 @@ use Rattle.ft_nucleus_laws.proofs.Tests.{fit_asked}
 filled_goal : (c : Claim) (h : Expression) → is_thesis_claim c ≡ false → fits_goal (fill_goal c h) c ≡ true
 filled_goal type_goal h k = refl
 filled_goal (term_goal A) h k = expression_self A
-filled_goal (type_equation_goal A B) h k = both_true (equal_expressions A A) (equal_expressions B B) (expression_self A) (expression_self B)
+filled_goal (type_equation_goal A B) h k = and_from (equal_expressions A A) (equal_expressions B B) (expression_self A) (expression_self B)
 filled_goal (term_equation_goal s t A) h k =
-    both_true (equal_expressions A A && equal_expressions s s) (equal_expressions t t) (both_true (equal_expressions A A) (equal_expressions s s) (expression_self A) (expression_self s)) (expression_self t)
-filled_goal (is_type A) h k = wrong' k
-filled_goal (has_type t A) h k = wrong' k
-filled_goal (equal_types A B) h k = wrong' k
-filled_goal (equal_terms s t A) h k = wrong' k
+    and_from (equal_expressions A A && equal_expressions s s) (equal_expressions t t) (and_from (equal_expressions A A) (equal_expressions s s) (expression_self A) (expression_self s)) (expression_self t)
+filled_goal (is_type A) h k = true_false k
+filled_goal (has_type t A) h k = true_false k
+filled_goal (equal_types A B) h k = true_false k
+filled_goal (equal_terms s t A) h k = true_false k
 
 filled_fits : (b : Statement) (h : Expression) → is_thesis b ≡ false → fits (fill b h) b ≡ true
 filled_fits (plain c) h k = filled_goal c h k
-filled_fits (abstracted A b) h k = both_true (equal_expressions A A) (fits (fill b h) b) (expression_self A) (filled_fits b h k)
+filled_fits (abstracted A b) h k = and_from (equal_expressions A A) (fits (fill b h) b) (expression_self A) (filled_fits b h k)
 
 -- comparison forms nothing
 no_goal_formed : (n : ℕ) (c d : Claim) → AllSmall (formed (goal_checks n c d))

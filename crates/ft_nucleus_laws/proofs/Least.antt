@@ -1,11 +1,13 @@
 -- The atoms that refusals name are the least ones.
-use Rattle.std.proofs.Common.{◌≡◌, ℕ, Bool, true, false, cond, nat_eq, ◌&&◌, not, Some, List, [], ◌∷◌, ◌⊎◌, inl, inr, refl, sym, ap, ◌∙◌, subst}
+use Rattle.std.proofs.Common.{◌≡◌, ℕ, Bool, true, false, cond, nat_eq, ◌&&◌, not, Some, List, [], ◌∷◌, ◌⊎◌, inl, inr, refl, sym, ◌∙◌, subst}
+use Rattle.std.proofs.lemmas.Bool.{and_parts, and_from, not-true, not_from_false}
+use Rattle.std.proofs.lemmas.Option.{same_Some}
+use Rattle.ft_common.proofs.Options.{none_some}
+use Rattle.ft_common.proofs.Booleans.{true_false}
 use Rattle.ft_theory.specs.Rules.{look_up}
 use Rattle.ft_items.specs.Sets.{Atom, met, var, precedes, has, Has, Ascending}
 use Rattle.ft_items.specs.Rows.{rests_on}
-use Rattle.ft_items.proofs.SetLemmas.{wrong', both, both_true, not_true, all_after, has_true, has_false}
-use Rattle.ft_laws.proofs.Fresh.{Some_injective}
-use Rattle.ft_laws.proofs.Rules.{nothing}
+use Rattle.ft_items.proofs.SetLemmas.{all_after, has_true, has_false}
 use Rattle.ft_reference.specs.Declare.{first_outside}
 use Rattle.ft_reference.specs.Checks.{first_dependent}
 use Rattle.ft_nucleus_laws.specs.Laws.{IsLeast, FirstOutsideIsLeast, IsVariable, FirstVariableIsLeast, RestsOn, FirstDependentIsLeast}
@@ -27,41 +29,38 @@ behind P c S a n l = (inr l.0, l.1, others)
     others b (inr k) q = l.2 b k q
 
 pub first_outside_is_least : FirstOutsideIsLeast
-first_outside_is_least others [] a asc h = nothing h
+first_outside_is_least others [] a asc h = none_some h
 first_outside_is_least others (c ∷ S) a asc h = go (has c others) refl h (first_outside_is_least others S a asc.1)
   where
     go : (t : Bool) → has c others ≡ t → cond t (first_outside others S) (Some c) ≡ Some a → (first_outside others S ≡ Some a → IsLeast (λ b. Has b others → ⊥) S a) → IsLeast (λ b. Has b others → ⊥) (c ∷ S) a
     go true q h ih = behind (λ b. Has b others → ⊥) c S a (λ n. n (has_true c others q)) (ih h)
-    go false q h ih = subst (IsLeast (λ b. Has b others → ⊥) (c ∷ S)) (Some_injective c a h) (at_front (λ b. Has b others → ⊥) c S asc (λ k. has_false c others q k))
+    go false q h ih = subst (IsLeast (λ b. Has b others → ⊥) (c ∷ S)) (same_Some c a h) (at_front (λ b. Has b others → ⊥) c S asc (λ k. has_false c others q k))
 
 no_metavariable : (m v : ℕ) → met m ≡ var v → ⊥
 no_metavariable m v e = cc
 
 pub first_variable_is_least : FirstVariableIsLeast
-first_variable_is_least [] v asc h = nothing h
+first_variable_is_least [] v asc h = none_some h
 first_variable_is_least (met m ∷ S) v asc h = behind IsVariable (met m) S (var v) (λ p. no_metavariable m p.0 p.1) (first_variable_is_least S v asc.1 h)
-first_variable_is_least (var w ∷ S) v asc h = subst (λ z. IsLeast IsVariable (var w ∷ S) (var z)) (Some_injective w v h) (at_front IsVariable (var w) S asc (w, refl))
+first_variable_is_least (var w ∷ S) v asc h = subst (λ z. IsLeast IsVariable (var w ∷ S) (var z)) (same_Some w v h) (at_front IsVariable (var w) S asc (w, refl))
 
 one_variable : (w u : ℕ) → var w ≡ var u → u ≡ w
 one_variable w u e = cc
 
-not_false : (b : Bool) → b ≡ false → not b ≡ true
-not_false b h = ap not h
-
 pub first_dependent_is_least : FirstDependentIsLeast
-first_dependent_is_least G v w [] asc h = nothing h
+first_dependent_is_least G v w [] asc h = none_some h
 first_dependent_is_least G v w (met m ∷ S) asc h = behind (RestsOn G v) (met m) S (var w) (λ p. no_metavariable m p.0 p.1) (first_dependent_is_least G v w S asc.1 h)
 first_dependent_is_least G v w (var u ∷ S) asc h = go (not (nat_eq u v) && rests_on v (look_up G u)) refl h (first_dependent_is_least G v w S asc.1)
   where
     go : (t : Bool) → (not (nat_eq u v) && rests_on v (look_up G u)) ≡ t → cond t (Some u) (first_dependent G v S) ≡ Some w → (first_dependent G v S ≡ Some w → IsLeast (RestsOn G v) S (var w)) → IsLeast (RestsOn G v) (var u ∷ S) (var w)
     go true q h ih =
-        let k : (not (nat_eq u v) ≡ true) × (rests_on v (look_up G u) ≡ true) = both (not (nat_eq u v)) (rests_on v (look_up G u)) q in
-        subst (λ z. IsLeast (RestsOn G v) (var u ∷ S) (var z)) (Some_injective u w h) (at_front (RestsOn G v) (var u) S asc (u, refl, not_true (nat_eq u v) k.0, k.1))
+        let k : (not (nat_eq u v) ≡ true) × (rests_on v (look_up G u) ≡ true) = and_parts (not (nat_eq u v)) (rests_on v (look_up G u)) q in
+        subst (λ z. IsLeast (RestsOn G v) (var u ∷ S) (var z)) (same_Some u w h) (at_front (RestsOn G v) (var u) S asc (u, refl, not-true (nat_eq u v) k.0, k.1))
     go false q h ih = behind (RestsOn G v) (var u) S (var w) none (ih h)
       where
         none : RestsOn G v (var u) → ⊥
         none p =
-            wrong' (sym (both_true (not (nat_eq u v)) (rests_on v (look_up G u))
-            (not_false (nat_eq u v) (subst (λ z. nat_eq z v ≡ false) (one_variable u p.0 p.1) p.2))
+            true_false (sym (and_from (not (nat_eq u v)) (rests_on v (look_up G u))
+            (not_from_false (nat_eq u v) (subst (λ z. nat_eq z v ≡ false) (one_variable u p.0 p.1) p.2))
             (subst (λ z. rests_on v (look_up G z) ≡ true) (one_variable u p.0 p.1) p.3))
             ∙ q)

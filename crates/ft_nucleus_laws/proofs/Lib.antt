@@ -8,3 +8,4 @@ pub mod Least
 pub mod Rows
 pub mod Refused
 pub mod SmallAnswers
+pub mod Closing

@@ -2,6 +2,9 @@
 use Rattle.std.proofs.Common.{◌≡◌, ℕ, zero, suc, ◌<◌, ◌≤◌, Bool, true, false, cond, nat_lt, nat_le, ◌&&◌, ◌↔◌, Option, Some, None, [], length, refl, sym, ap, ◌∙◌, arith}
 use Rattle.std.specs.Prelude.{option_map, Result, Ok, Err}
 use Rattle.std.proofs.lemmas.Bool.{ltb-true, ltb-false, lt-ltb, le-ltb, lt-leb}
+use Rattle.std.proofs.lemmas.Option.{same_Some}
+use Rattle.ft_common.proofs.Options.{none_some}
+use Rattle.ft_common.proofs.Booleans.{false_true, true_false}
 use Rattle.ft_theory.specs.Expressions.{meta}
 use Rattle.ft_theory.specs.Statements.{domain_count}
 use Rattle.ft_theory.specs.Small.{depth, size, size_of_terms, numbers_fit, is_small}
@@ -9,7 +12,6 @@ use Rattle.ft_items.specs.Sets.{Atom}
 use Rattle.ft_items.specs.Item.{by_generic}
 use Rattle.ft_items.specs.Rows.{bounds, atoms}
 use Rattle.ft_items.specs.Good.{is_new, given}
-use Rattle.ft_items.proofs.SetLemmas.{wrong, wrong'}
 use Rattle.ft_reference.specs.Refusals.{first_refusal, TooBig}
 use Rattle.ft_reference.specs.Checks.{forms_application}
 use Rattle.ft_reference.specs.Calls.{answered}
@@ -18,20 +20,14 @@ use Rattle.ft_nucleus_laws.specs.Laws.{Answers, NamesRefused, OpenRefused, WideR
 
 -- an outcome is refused with e exactly where e is the refusal
 refused : {S A : Type 0} (o : Option RuleFault) (old made : S) (a : A) (e : RuleFault) → Answers (outcome o old made a) (Err e) ↔ (o ≡ Some e)
-refused {S} {A} None old made a e = (λ h. absurd (clash (outcome None old made a).answer refl h), λ h. absurd (nothing h))
+refused {S} {A} None old made a e = (λ h. absurd (clash (outcome None old made a).answer refl h), λ h. none_some h)
   where
     clash : (x : Result A RuleFault) → x ≡ Ok a → x ≡ Err e → ⊥
     clash x p q = cc
-
-    nothing : None ≡ Some e → ⊥
-    nothing h = cc
-refused {S} {A} (Some f) old made a e = (λ h. ap Some (same (outcome (Some f) old made a).answer refl h), λ h. ap Err (inside h))
+refused {S} {A} (Some f) old made a e = (λ h. ap Some (same (outcome (Some f) old made a).answer refl h), λ h. ap Err (same_Some f e h))
   where
     same : (x : Result A RuleFault) → x ≡ Err f → x ≡ Err e → f ≡ e
     same x p q = cc
-
-    inside : Some f ≡ Some e → f ≡ e
-    inside h = cc
 
 -- the faults of a name, by the two tests
 abbrev faults : Bool → Bool → Option RuleFault
@@ -39,36 +35,30 @@ faults b c = first_of (refused_unless b Duplicate) (refused_unless c TooMany)
 
 duplicate_is : (b c : Bool) (o : Option RuleFault) → ((a : RuleFault) → o ≡ Some a → a ≡ Duplicate → ⊥) → (first_of (faults b c) o ≡ Some Duplicate) ↔ (b ≡ false)
 duplicate_is false c o n = (λ h. refl, λ h. refl)
-duplicate_is true false o n = (λ h. absurd (clash h), λ h. wrong' h)
+duplicate_is true false o n = (λ h. absurd (clash h), λ h. true_false h)
   where
     clash : Some TooMany ≡ Some Duplicate → ⊥
     clash h = cc
-duplicate_is true true o n = (λ h. absurd (n Duplicate h refl), λ h. wrong' h)
+duplicate_is true true o n = (λ h. absurd (n Duplicate h refl), λ h. true_false h)
 
 too_many_is : (b c : Bool) (o : Option RuleFault) → ((a : RuleFault) → o ≡ Some a → a ≡ TooMany → ⊥) → (first_of (faults b c) o ≡ Some TooMany) ↔ ((b ≡ true) × (c ≡ false))
-too_many_is false c o n = (λ h. absurd (clash h), λ h. wrong h.0)
+too_many_is false c o n = (λ h. absurd (clash h), λ h. false_true h.0)
   where
     clash : Some Duplicate ≡ Some TooMany → ⊥
     clash h = cc
 too_many_is true false o n = (λ h. (refl, refl), λ h. refl)
-too_many_is true true o n = (λ h. absurd (n TooMany h refl), λ h. wrong' h.1)
+too_many_is true true o n = (λ h. absurd (n TooMany h refl), λ h. true_false h.1)
 
 open_is : (b c : Bool) (o : Option Atom) (a : Atom) → (first_of (faults b c) (option_map OpenConclusion o) ≡ Some (OpenConclusion a)) ↔ ((b ≡ true) × (c ≡ true) × (o ≡ Some a))
-open_is false c o a = (λ h. absurd (clash h), λ h. wrong h.0)
+open_is false c o a = (λ h. absurd (clash h), λ h. false_true h.0)
   where
     clash : Some Duplicate ≡ Some (OpenConclusion a) → ⊥
     clash h = cc
-open_is true false o a = (λ h. absurd (clash h), λ h. wrong h.1)
+open_is true false o a = (λ h. absurd (clash h), λ h. false_true h.1)
   where
     clash : Some TooMany ≡ Some (OpenConclusion a) → ⊥
     clash h = cc
-open_is true true None a = (λ h. absurd (clash h), λ h. absurd (nothing h.2))
-  where
-    clash : None ≡ Some (OpenConclusion a) → ⊥
-    clash h = cc
-
-    nothing : None ≡ Some a → ⊥
-    nothing h = cc
+open_is true true None a = (λ h. none_some h, λ h. none_some h.2)
 open_is true true (Some b) a = (λ h. (refl, refl, ap Some (inside h)), λ h. ap (λ z. option_map OpenConclusion z) h.2)
   where
     inside : Some (OpenConclusion b) ≡ Some (OpenConclusion a) → b ≡ a
@@ -89,10 +79,7 @@ with_many : (P : Type 0) (n : ℕ) → (P × (nat_lt n 65536 ≡ false)) ↔ (P 
 with_many P n = (λ h. (h.0, (many n).0 h.1), λ h. (h.0, (many n).1 h.1))
 
 none_fault : (e : RuleFault) (f : RuleFault) → None ≡ Some f → f ≡ e → ⊥
-none_fault e f h k = absurd (clash h)
-  where
-    clash : None ≡ Some f → ⊥
-    clash h = cc
+none_fault e f h k = none_some h
 
 no_more : (o : Option RuleFault) → first_of o None ≡ o
 no_more None = refl
@@ -132,13 +119,7 @@ names_refused W d c = (
     begun = record { name = d.name; premises = [] }
 
 premise_is : (i : ℕ) (o : Option Atom) (a : Atom) → (option_map (OpenPremise i) o ≡ Some (OpenPremise i a)) ↔ (o ≡ Some a)
-premise_is i None a = (λ h. absurd (clash h), λ h. absurd (nothing h))
-  where
-    clash : None ≡ Some (OpenPremise i a) → ⊥
-    clash h = cc
-
-    nothing : None ≡ Some a → ⊥
-    nothing h = cc
+premise_is i None a = (λ h. none_some h, λ h. none_some h)
 premise_is i (Some b) a = (λ h. ap Some (inside h), λ h. ap (λ z. option_map (OpenPremise i) z) h)
   where
     inside : Some (OpenPremise i b) ≡ Some (OpenPremise i a) → b ≡ a

@@ -1,7 +1,7 @@
 -- The worked rows, by computation.
 use Rattle.std.proofs.Common.{refl}
 use Rattle.ft_theory.specs.Expressions.{act, body_or, count, put, open_at, close_at, rename, lifts, lift, pushes, push}
-use Rattle.ft_nucleus_laws.specs.Rows.{VariableRows, SubstitutionRows, EqualityRows, SideRows, RuleRows, DeepRows, CongruenceRows, ApplicationRows, DraftRows, NewRows}
+use Rattle.ft_nucleus_laws.specs.Rows.{VariableRows, SubstitutionRows, EqualityRows, SideRows, RuleRows, DeepRows, CongruenceRows, ApplicationRows, NaturalRows, DraftRows, NewRows}
 
 pub variable_rows : VariableRows
 unfolding act body_or count put open_at close_at rename lifts lift pushes push
@@ -34,6 +34,10 @@ congruence_rows = refl
 pub application_rows : ApplicationRows
 unfolding act body_or count put open_at close_at rename lifts lift pushes push
 application_rows = refl
+
+pub natural_rows : NaturalRows
+unfolding act body_or count put open_at close_at rename lifts lift pushes push
+natural_rows = refl
 
 pub draft_rows : DraftRows
 draft_rows = (refl, refl, refl, refl, refl, refl, refl, refl, refl)

@@ -1,6 +1,9 @@
 -- What is small stays small.
 use Rattle.std.proofs.Common.{◌≡◌, ℕ, Bool, true, false, cond, Option, Some, None, List, [], ◌∷◌, ◌++◌, refl, sym, ap, subst}
 use Rattle.std.specs.Prelude.{option_map}
+use Rattle.std.proofs.lemmas.Option.{same_Some}
+use Rattle.ft_common.proofs.Options.{none_some}
+use Rattle.ft_common.proofs.Booleans.{true_false}
 use Rattle.ft_theory.specs.Expressions.{Expression, bound, free, meta, Arguments}
 use Rattle.ft_theory.specs.Statements.{Claim, is_type, has_type, equal_types, equal_terms, type_goal, term_goal, type_equation_goal, term_equation_goal, Statement, plain, abstracted, domain_count, fill_goal, fill, equate_goal, equate, boundary_of_claim, boundary_of}
 use Rattle.ft_theory.specs.Rules.{conclusion_at}
@@ -8,17 +11,14 @@ use Rattle.ft_theory.specs.Small.{IsSmall}
 use Rattle.ft_items.specs.Equal.{is_object_goal, is_object, head_of_claim, head, heads, fits, right_heads}
 use Rattle.ft_items.specs.Item.{by_var, by_generic, by_meta, by_metacong, by_abs, by_subst, by_substeq, by_refl, by_sym, by_trans, by_conv, by_conveq, by_left, by_right, by_typeof, by_domain, by_boundary, by_widen, by_btype, by_bterm, by_beqty, by_beqtm, by_rule, by_rulewith, by_inst, by_cong, by_convprem, by_convback, by_arg, by_natural, by_metainst}
 use Rattle.ft_items.specs.Store.{Assertion, Store, Resolved, premises_of}
-use Rattle.ft_items.specs.Rows.{when, statements, bounds, applied_meta, meta_congruence, substitution, equal_substitution, symmetry, transitivity, conversion, equation_conversion, left_side, right_side, type_part, under_domains, first_domain, term_boundary, type_equation_boundary, term_equation_boundary, at_arguments, rule_instance, rule_instance_with, first_premises, later_premises, boundary_instance, congruence_of, moved, argument, natural_type, natural, instantiated, conclusion, result_set}
+use Rattle.ft_items.specs.Rows.{when, statements, bounds, applied_meta, meta_congruence, substitution, equal_substitution, symmetry, transitivity, conversion, equation_conversion, left_side, right_side, type_part, under_domains, first_domain, term_boundary, type_equation_boundary, term_equation_boundary, at_arguments, rule_instance, rule_instance_with, first_premises, later_premises, boundary_instance, congruence_of, moved_argument, argument, natural_type, natural, instantiated, conclusion, result_set}
 use Rattle.ft_items.specs.Good.{of_kind, given}
-use Rattle.ft_items.proofs.SetLemmas.{wrong'}
-use Rattle.ft_laws.proofs.Fresh.{Some_injective}
-use Rattle.ft_laws.proofs.Rules.{nothing}
 use Rattle.ft_reference.specs.Refusals.{Check, asks, forms, formed, AllSmall, claim_expressions, expressions, forms_all, forms_statement, forms_result}
 use Rattle.ft_reference.specs.Compare.{fit_checks, boundary_checks, term_checks, pair_checks}
 use Rattle.ft_reference.specs.Checks.{substitution_checks, equal_substitution_checks, forms_application, all_argument_checks, first_argument_checks, all_equation_checks, rule_checks, moved_checks, before_premise_checks, application_checks, forms_natural, natural_checks, checks}
 use Rattle.ft_nucleus_laws.specs.SmallAnswers.{all_expressions, given_expressions, is_abstraction, AnswersSmall}
-use Rattle.ft_nucleus_laws.proofs.Lists.{small_true}
 use Rattle.ft_nucleus_laws.proofs.Calls.{answers_its_row}
+use Rattle.ft_items.proofs.Smallness.{true_small}
 
 -- lists
 small_split : (xs ys : List Expression) → AllSmall (xs ++ ys) → AllSmall xs × AllSmall ys
@@ -39,19 +39,19 @@ formed_forms (e ∷ es) = ap (λ z. e ∷ z) (formed_forms es)
 
 -- a result that is formed is small
 result : (o : Option Statement) (x : Statement) → AllSmall (formed (forms_result o)) → o ≡ Some x → AllSmall (expressions x)
-result None x h e = nothing e
-result (Some y) x h e = subst (λ z. AllSmall (expressions z)) (Some_injective y x e) (subst AllSmall (formed_forms (expressions y)) h)
+result None x h e = none_some e
+result (Some y) x h e = subst (λ z. AllSmall (expressions z)) (same_Some y x e) (subst AllSmall (formed_forms (expressions y)) h)
 
 ends : (cs : List Check) (o : Option Statement) (x : Statement) → AllSmall (formed (cs ++ forms_result o)) → o ≡ Some x → AllSmall (expressions x)
 ends cs o x h e = result o x (later cs (forms_result o) h) e
 
 when_path : (b : Bool) (x y : Statement) → when b x ≡ Some y → x ≡ y
-when_path true x y e = Some_injective x y e
-when_path false x y e = nothing e
+when_path true x y e = same_Some x y e
+when_path false x y e = none_some e
 
 -- heads, boundaries, fillings
 bound_small : IsSmall (bound 0)
-bound_small = small_true (bound 0) refl
+bound_small = true_small (bound 0) refl
 
 head_small_claim : (c : Claim) → AllSmall (claim_expressions c) → IsSmall (head_of_claim c)
 head_small_claim (is_type A) h = h.0
@@ -111,103 +111,103 @@ fill_small (abstracted A b) e h i = (h.0, fill_small b e h.1 i)
 
 application_small : (t : Bool) (e : Expression) → AllSmall (formed (forms_application t e)) → t ≡ true → IsSmall e
 application_small true e h k = h.0
-application_small false e h k = wrong' (sym k)
+application_small false e h k = true_false (sym k)
 
 -- substitution, equality and conversion
 substitution_small : (x y z : Statement) → AllSmall (formed (substitution_checks x y)) → substitution x y ≡ Some z → AllSmall (expressions z)
-substitution_small (plain c) y z h e = nothing e
+substitution_small (plain c) y z h e = none_some e
 substitution_small (abstracted A x) (plain (has_type t B)) z h e = result (substitution (abstracted A x) (plain (has_type t B))) z h e
-substitution_small (abstracted A x) y z h e = nothing e
+substitution_small (abstracted A x) y z h e = none_some e
 
 equal_substitution_small : (x y z : Statement) → AllSmall (formed (equal_substitution_checks x y)) → equal_substitution x y ≡ Some z → AllSmall (expressions z)
-equal_substitution_small (plain c) y z h e = nothing e
+equal_substitution_small (plain c) y z h e = none_some e
 equal_substitution_small (abstracted A x) (plain (equal_terms s t B)) z h e = result (equal_substitution (abstracted A x) (plain (equal_terms s t B))) z h e
-equal_substitution_small (abstracted A x) y z h e = nothing e
+equal_substitution_small (abstracted A x) y z h e = none_some e
 
 -- what is small, at the statement that an option has
 at_some : (y z : Statement) → AllSmall (expressions y) → Some y ≡ Some z → AllSmall (expressions z)
-at_some y z h e = subst (λ w. AllSmall (expressions w)) (Some_injective y z e) h
+at_some y z h e = subst (λ w. AllSmall (expressions w)) (same_Some y z e) h
 
-at_when : (b : Bool) (y z : Statement) → AllSmall (expressions y) → when b y ≡ Some z → AllSmall (expressions z)
+pub at_when : (b : Bool) (y z : Statement) → AllSmall (expressions y) → when b y ≡ Some z → AllSmall (expressions z)
 at_when b y z h e = subst (λ w. AllSmall (expressions w)) (when_path b y z e) h
 
 symmetry_small : (x z : Statement) → AllSmall (expressions x) → symmetry x ≡ Some z → AllSmall (expressions z)
 symmetry_small (plain (equal_types A B)) z h e = at_some (plain (equal_types B A)) z (h.1.0, (h.0, tt)) e
 symmetry_small (plain (equal_terms s t A)) z h e = at_some (plain (equal_terms t s A)) z (h.1.0, (h.0, h.1.1)) e
-symmetry_small x z h e = nothing e
+symmetry_small x z h e = none_some e
 
 transitivity_small : (x y z : Statement) → AllSmall (expressions x) → AllSmall (expressions y) → transitivity x y ≡ Some z → AllSmall (expressions z)
 transitivity_small (plain (equal_types A B)) (plain (equal_types C D)) z h k e = at_when _ (plain (equal_types A D)) z (h.0, k.1) e
 transitivity_small (plain (equal_terms s t A)) (plain (equal_terms u v B)) z h k e = at_when _ (plain (equal_terms s v A)) z (h.0, (k.1.0, h.1.1)) e
-transitivity_small x y z h k e = nothing e
+transitivity_small x y z h k e = none_some e
 
 conversion_small : (x y z : Statement) → AllSmall (expressions x) → AllSmall (expressions y) → conversion x y ≡ Some z → AllSmall (expressions z)
 conversion_small (plain (has_type t A)) (plain (equal_types B C)) z h k e = at_when _ (plain (has_type t C)) z (h.0, k.1) e
-conversion_small x y z h k e = nothing e
+conversion_small x y z h k e = none_some e
 
 equation_conversion_small : (x y z : Statement) → AllSmall (expressions x) → AllSmall (expressions y) → equation_conversion x y ≡ Some z → AllSmall (expressions z)
 equation_conversion_small (plain (equal_terms s t A)) (plain (equal_types B C)) z h k e = at_when _ (plain (equal_terms s t C)) z (h.0, (h.1.0, k.1)) e
-equation_conversion_small x y z h k e = nothing e
+equation_conversion_small x y z h k e = none_some e
 
 -- sides and boundaries
 abbrev Keeps : (Claim → Option Claim) → Type 0
 Keeps f = (c d : Claim) → AllSmall (claim_expressions c) → f c ≡ Some d → AllSmall (claim_expressions d)
 
 claim_some : (c d : Claim) → AllSmall (claim_expressions c) → Some c ≡ Some d → AllSmall (claim_expressions d)
-claim_some c d h e = subst (λ w. AllSmall (claim_expressions w)) (Some_injective c d e) h
+claim_some c d h e = subst (λ w. AllSmall (claim_expressions w)) (same_Some c d e) h
 
 left_keeps : Keeps left_side
 left_keeps (equal_types A B) d h e = claim_some (is_type A) d (h.0, tt) e
 left_keeps (equal_terms s t A) d h e = claim_some (has_type s A) d (h.0, h.1.1) e
 left_keeps (type_equation_goal A B) d h e = claim_some (is_type A) d (h.0, tt) e
 left_keeps (term_equation_goal s t A) d h e = claim_some (has_type s A) d (h.0, h.1.1) e
-left_keeps c d h e = nothing e
+left_keeps c d h e = none_some e
 
 right_keeps : Keeps right_side
 right_keeps (equal_types A B) d h e = claim_some (is_type B) d h.1 e
 right_keeps (equal_terms s t A) d h e = claim_some (has_type t A) d h.1 e
 right_keeps (type_equation_goal A B) d h e = claim_some (is_type B) d h.1 e
 right_keeps (term_equation_goal s t A) d h e = claim_some (has_type t A) d h.1 e
-right_keeps c d h e = nothing e
+right_keeps c d h e = none_some e
 
 type_keeps : Keeps type_part
 type_keeps (has_type t A) d h e = claim_some (is_type A) d h.1 e
 type_keeps (equal_terms s t A) d h e = claim_some (is_type A) d h.1.1 e
 type_keeps (term_goal A) d h e = claim_some (is_type A) d (h.0, tt) e
 type_keeps (term_equation_goal s t A) d h e = claim_some (is_type A) d h.1.1 e
-type_keeps c d h e = nothing e
+type_keeps c d h e = none_some e
 
 part_small : (f : Claim → Option Claim) → Keeps f → (x z : Statement) → AllSmall (expressions x) → under_domains f x ≡ Some z → AllSmall (expressions z)
 part_small f k (plain c) z h e = go (f c) refl e
   where
     go : (o : Option Claim) → f c ≡ o → option_map plain o ≡ Some z → AllSmall (expressions z)
-    go None q e = nothing e
+    go None q e = none_some e
     go (Some d) q e = at_some (plain d) z (k c d h q) e
 part_small f k (abstracted A x) z h e = go (under_domains f x) refl e (λ y. part_small f k x y h.1)
   where
     go : (o : Option Statement) → under_domains f x ≡ o → option_map (abstracted A) o ≡ Some z → ((y : Statement) → under_domains f x ≡ Some y → AllSmall (expressions y)) → AllSmall (expressions z)
-    go None q e ih = nothing e
+    go None q e ih = none_some e
     go (Some y) q e ih = at_some (abstracted A y) z (h.0, ih y q) e
 
 domain_small : (x z : Statement) → AllSmall (expressions x) → first_domain x ≡ Some z → AllSmall (expressions z)
-domain_small (plain c) z h e = nothing e
+domain_small (plain c) z h e = none_some e
 domain_small (abstracted A x) z h e = at_some (plain (is_type A)) z (h.0, tt) e
 
 term_boundary_small : (x z : Statement) → AllSmall (expressions x) → term_boundary x ≡ Some z → AllSmall (expressions z)
 term_boundary_small (plain (is_type A)) z h e = at_some (plain (term_goal A)) z h e
-term_boundary_small x z h e = nothing e
+term_boundary_small x z h e = none_some e
 
 type_equation_small : (x y z : Statement) → AllSmall (expressions x) → AllSmall (expressions y) → type_equation_boundary x y ≡ Some z → AllSmall (expressions z)
 type_equation_small (plain (is_type A)) (plain (is_type B)) z h k e = at_some (plain (type_equation_goal A B)) z (h.0, k) e
-type_equation_small x y z h k e = nothing e
+type_equation_small x y z h k e = none_some e
 
 term_equation_small : (w x y z : Statement) → AllSmall (expressions w) → AllSmall (expressions x) → AllSmall (expressions y) → term_equation_boundary w x y ≡ Some z → AllSmall (expressions z)
 term_equation_small (plain (is_type A)) (plain (has_type s B)) (plain (has_type t C)) z h k l e = at_when _ (plain (term_equation_goal s t A)) z (k.0, (l.0, h)) e
-term_equation_small w x y z h k l e = nothing e
+term_equation_small w x y z h k l e = none_some e
 
 -- arguments moved along equations
-moved_small : (ps : List (ℕ × Statement)) (a c : Arguments) (qs : List (ℕ × Statement)) (y z : Statement) → AllSmall (expressions y) → AllSmall (formed (moved_checks ps a c qs y)) → moved ps a c qs y ≡ Some z → AllSmall (expressions z)
-moved_small ps a c [] y z h k e = nothing e
+moved_small : (ps : List (ℕ × Statement)) (a c : Arguments) (qs : List (ℕ × Statement)) (y z : Statement) → AllSmall (expressions y) → AllSmall (formed (moved_checks ps a c qs y)) → moved_argument ps a c qs y ≡ Some z → AllSmall (expressions z)
+moved_small ps a c [] y z h k e = none_some e
 moved_small ps a c (q ∷ qs) y z h k e =
     at_when (fits y (at_arguments ps a q.1)) (fill (at_arguments ps c q.1) (head y)) z
     (fill_small (at_arguments ps c q.1) (head y)
@@ -218,21 +218,21 @@ moved_small ps a c (q ∷ qs) y z h k e =
 
 guarded_small : (b : Bool) (o : Option Statement) (z : Statement) → (o ≡ Some z → AllSmall (expressions z)) → cond b o None ≡ Some z → AllSmall (expressions z)
 guarded_small true o z h e = h e
-guarded_small false o z h e = nothing e
+guarded_small false o z h e = none_some e
 
 -- what an application tells
 argument_small : (W : Store) (i : ℕ) (x z : Statement) → AllSmall (formed (application_checks W i x)) → argument W i x ≡ Some z → AllSmall (expressions z)
 argument_small W i (plain (is_type e)) z h p = result (argument W i (plain (is_type e))) z h p
 argument_small W i (plain (has_type e A)) z h p = result (argument W i (plain (has_type e A))) z h p
-argument_small W i x z h p = nothing p
+argument_small W i x z h p = none_some p
 
 natural_small : (W : Store) (x z : Statement) → AllSmall (expressions x) → AllSmall (formed (natural_checks W x)) → natural W x ≡ Some z → AllSmall (expressions z)
 natural_small W (plain (has_type e A)) z h k p = go (natural_type W e) k p
   where
     go : (o : Option Expression) → AllSmall (formed (forms_natural o)) → option_map (λ N. plain (equal_types N A)) o ≡ Some z → AllSmall (expressions z)
-    go None k p = nothing p
+    go None k p = none_some p
     go (Some N) k p = at_some (plain (equal_types N A)) z (k.0, h.1) p
-natural_small W x z h k p = nothing p
+natural_small W x z h k p = none_some p
 
 -- the first of some assertions, and the second
 one : (p : Assertion) (ps : List Assertion) → AllSmall (all_expressions (p ∷ ps)) → AllSmall (expressions p.statement)
@@ -242,13 +242,13 @@ rest : (p : Assertion) (ps : List Assertion) → AllSmall (all_expressions (p �
 rest p ps h = (small_split (expressions p.statement) (all_expressions ps) h).1
 
 row : (W : Store) (s : Resolved) (z : Statement) → is_abstraction s ≡ false → AllSmall (given_expressions s) → AllSmall (formed (checks W s)) → conclusion W s ≡ Some z → AllSmall (expressions z)
-row W (by_var v) z n g f e = at_some (plain (has_type (free v.0) v.1.annotation)) z (small_true (free v.0) refl, g) e
+row W (by_var v) z n g f e = at_some (plain (has_type (free v.0) v.1.annotation)) z (true_small (free v.0) refl, g) e
 row W (by_generic m) z n g f e =
     at_some (fill m.1.boundary (meta m.0 (bounds (domain_count m.1.boundary)))) z
     (fill_small m.1.boundary (meta m.0 (bounds (domain_count m.1.boundary))) g (application_small (is_object m.1.boundary) (meta m.0 (bounds (domain_count m.1.boundary))) f)) e
 row W (by_meta m ps) z n g f e = ends (term_checks m.1.boundary (statements ps)) (applied_meta m.0 m.1.boundary (statements ps)) z f e
 row W (by_metacong m es) z n g f e = ends (pair_checks m.1.boundary (statements es)) (meta_congruence m.0 m.1.boundary (statements es)) z f e
-row W (by_abs v p) z n g f e = wrong' n
+row W (by_abs v p) z n g f e = true_false n
 row W (by_subst p t) z n g f e = substitution_small p.statement t.statement z f e
 row W (by_substeq p t) z n g f e = equal_substitution_small p.statement t.statement z f e
 row W (by_refl p) z n g f e =
@@ -281,23 +281,23 @@ row W (by_cong r ps es) z n g f e =
     let o : Option Statement = congruence_of r.0 r.1 (statements ps) (statements es) in
     ends (all_equation_checks (statements ps) (statements es)) o z (later (rule_checks r.0 r.1 (statements ps)) (all_equation_checks (statements ps) (statements es) ++ forms_result o) f) e
 row W (by_convprem r ps es q) z n g f e =
-    guarded_small _ (moved (first_premises r.1 (statements ps)) (heads (statements ps)) (right_heads (statements ps) (statements es)) (later_premises r.1 (statements ps)) q.statement) z
+    guarded_small _ (moved_argument (first_premises r.1 (statements ps)) (heads (statements ps)) (right_heads (statements ps) (statements es)) (later_premises r.1 (statements ps)) q.statement) z
     (moved_small (first_premises r.1 (statements ps)) (heads (statements ps)) (right_heads (statements ps) (statements es)) (later_premises r.1 (statements ps)) q.statement z (one q (ps ++ es) g) (later (before_premise_checks r.1 (statements ps) (statements es)) _ f)) e
 row W (by_convback r ps es q) z n g f e =
-    guarded_small _ (moved (first_premises r.1 (statements ps)) (right_heads (statements ps) (statements es)) (heads (statements ps)) (later_premises r.1 (statements ps)) q.statement) z
+    guarded_small _ (moved_argument (first_premises r.1 (statements ps)) (right_heads (statements ps) (statements es)) (heads (statements ps)) (later_premises r.1 (statements ps)) q.statement) z
     (moved_small (first_premises r.1 (statements ps)) (right_heads (statements ps) (statements es)) (heads (statements ps)) (later_premises r.1 (statements ps)) q.statement z (one q (ps ++ es) g) (later (before_premise_checks r.1 (statements ps) (statements es)) _ f)) e
 row W (by_arg i p) z n g f e = argument_small W i p.statement z f e
 row W (by_natural p) z n g f e = natural_small W p.statement z g f e
 row W (by_metainst p ms qs) z n g f e = ends (all_argument_checks (premises_of ms) (statements qs)) (instantiated ms p (statements qs)) z f e
 
 -- the statement that is given is the conclusion
-given_conclusion : (W : Store) (s : Resolved) (a : Assertion) → given W s ≡ Some a → conclusion W s ≡ Some a.statement
+pub given_conclusion : (W : Store) (s : Resolved) (a : Assertion) → given W s ≡ Some a → conclusion W s ≡ Some a.statement
 given_conclusion W s a h = go (of_kind s) (conclusion W s) h
   where
     go : (b : Bool) (o : Option Statement) → cond b (option_map (λ x. record { statement = x; set = result_set s }) o) None ≡ Some a → o ≡ Some a.statement
-    go true None h = nothing h
-    go true (Some x) h = ap (λ (z : Assertion). Some z.statement) (Some_injective (record { statement = x; set = result_set s }) a h)
-    go false o h = nothing h
+    go true None h = none_some h
+    go true (Some x) h = ap (λ (z : Assertion). Some z.statement) (same_Some (record { statement = x; set = result_set s }) a h)
+    go false o h = none_some h
 
 pub answers_small : AnswersSmall
 answers_small W s a n g h =

@@ -1,8 +1,10 @@
 -- What the checks of a call ask is what its row asks: they hold exactly where the step has a conclusion.
 use Rattle.std.proofs.Common.{◌≡◌, ℕ, zero, suc, Bool, true, false, cond, nat_eq, nat_lt, nat_le, ◌&&◌, not, Option, Some, None, List, [], ◌∷◌, ◌++◌, length, refl, sym, ap, ap₂, ◌∙◌, arith}
-use Rattle.std.proofs.lemmas.Bool.{ltb-true, le-leb}
-use Rattle.std.specs.Prelude.{is_some, option_map, take, drop}
+use Rattle.std.proofs.lemmas.Bool.{ltb-true, le-leb, and_parts, not-true}
+use Rattle.std.specs.Prelude.{is_some, take, drop}
 use Rattle.std.proofs.Math.Dec.{eqb-suc-zero, eqb-suc-suc, leb-zero, leb-suc-zero, leb-suc-suc}
+use Rattle.std.proofs.Math.Bool.{and-true}
+use Rattle.ft_common.proofs.Options.{is_some-option_map}
 use Rattle.ft_theory.specs.Expressions.{Expression, bound, free, symbol, meta, Arguments}
 use Rattle.ft_theory.specs.Statements.{is_type, has_type, equal_types, equal_terms, Statement, plain, abstracted, domain_count}
 use Rattle.ft_theory.specs.Rules.{look_up, Rule, conclusion_at}
@@ -10,40 +12,36 @@ use Rattle.ft_items.specs.Sets.{Atom, met, var, is_within}
 use Rattle.ft_items.specs.Equal.{equal_expressions, equal_statements, is_thesis, is_object_goal, is_object, has_head, fits, heads, start_all, right_heads, typed, paired}
 use Rattle.ft_items.specs.Item.{by_var, by_generic, by_meta, by_metacong, by_abs, by_subst, by_substeq, by_refl, by_sym, by_trans, by_conv, by_conveq, by_left, by_right, by_typeof, by_domain, by_boundary, by_widen, by_btype, by_bterm, by_beqty, by_beqtm, by_rule, by_rulewith, by_inst, by_cong, by_convprem, by_convback, by_arg, by_natural, by_metainst}
 use Rattle.ft_items.specs.Store.{Assertion, Annotation, Declared, Store, Resolved, premises_of}
-use Rattle.ft_items.specs.Rows.{when, statements, bounds, applied_meta, meta_congruence, rests_on, depends, substitution, equal_substitution, symmetry, transitivity, conversion, equation_conversion, left_side, right_side, type_part, under_domains, first_domain, term_boundary, type_equation_boundary, term_equation_boundary, at_arguments, are_arguments, rule_instance, rule_instance_with, first_premises, later_premises, boundary_instance, congruence_of, moved, arguments_of, from_one, argument, natural_type, natural, atoms, differ, on_earlier, instantiated, conclusion, theses, boundaries}
+use Rattle.ft_items.specs.Rows.{when, statements, bounds, applied_meta, meta_congruence, rests_on, depends, substitution, equal_substitution, symmetry, transitivity, conversion, equation_conversion, left_side, right_side, type_part, under_domains, first_domain, term_boundary, type_equation_boundary, term_equation_boundary, at_arguments, are_arguments, rule_instance, rule_instance_with, first_premises, later_premises, boundary_instance, congruence_of, moved_argument, arguments_of, from_one, argument, natural_type, natural, atoms, differ, on_earlier, instantiated, conclusion, theses, boundaries}
 use Rattle.ft_items.specs.Good.{all_theses, all_boundaries, of_kind}
-use Rattle.ft_items.proofs.SetLemmas.{both, not_true}
 use Rattle.ft_reference.specs.Refusals.{DependentVariable, forms_statement, forms_result, none_check, expressions}
 use Rattle.ft_reference.specs.Compare.{fit_checks, boundary_checks, term_checks, pair_checks}
 use Rattle.ft_reference.specs.Checks.{first_dependent, substitution_checks, equal_substitution_checks, transitivity_checks, conversion_checks, equation_conversion_checks, term_equation_checks, all_argument_checks, first_argument_checks, all_equation_checks, rule_checks, rule_with_checks, instance_checks, congruence_checks, moved_checks, before_premise_checks, forms_application, meta_checks, meta_congruence_checks, place_checks, application_checks, forms_natural, natural_checks, checks}
 use Rattle.ft_reference.specs.Calls.{instance_allowed, may_be_made}
-use Rattle.ft_nucleus_laws.proofs.Lists.{and_true, and_assoc, asked, asked_append, asked_forms, asked_result, before_result, after_forms}
-use Rattle.ft_nucleus_laws.proofs.Tests.{turned, boundary_asked, fit_asked, Theses, arguments_asked, equations_asked, terms_asked, pairs_asked}
+use Rattle.ft_nucleus_laws.proofs.Lists.{and_assoc, asked, asked_append, asked_forms, asked_result, before_result, after_forms}
+use Rattle.ft_nucleus_laws.proofs.Tests.{boundary_asked, fit_asked, Theses, arguments_asked, equations_asked, terms_asked, pairs_asked}
+use Rattle.ft_sound.proofs.EqualLemmas.{equal_back}
 
 -- options
 when_some : {A : Type 0} (b : Bool) (x : A) → is_some (when b x) ≡ b
 when_some true x = refl
 when_some false x = refl
 
-map_some : {A B : Type 0} (f : A → B) (o : Option A) → is_some (option_map f o) ≡ is_some o
-map_some f None = refl
-map_some f (Some a) = refl
-
 -- a test, then a result
 asked_when : (b : Bool) (x : Statement) → (b && asked (forms_result (when b x))) ≡ is_some (when b x)
-asked_when b x = ap (λ z. b && z) (asked_result (when b x)) ∙ and_true b ∙ sym (when_some b x)
+asked_when b x = ap (λ z. b && z) (asked_result (when b x)) ∙ and-true b ∙ sym (when_some b x)
 
 -- the kinds of what is named
 theses_of : (ps : List Assertion) → all_theses ps ≡ true → Theses (statements ps)
 theses_of [] h = tt
 theses_of (p ∷ ps) h =
-    let k : (is_thesis p.statement ≡ true) × (all_theses ps ≡ true) = both (is_thesis p.statement) (all_theses ps) h in
+    let k : (is_thesis p.statement ≡ true) × (all_theses ps ≡ true) = and_parts (is_thesis p.statement) (all_theses ps) h in
     (k.0, theses_of ps k.1)
 
 theses_append : (ps qs : List Assertion) → all_theses (ps ++ qs) ≡ true → (all_theses ps ≡ true) × (all_theses qs ≡ true)
 theses_append [] qs h = (refl, h)
 theses_append (p ∷ ps) qs h =
-    let k : (is_thesis p.statement ≡ true) × (all_theses (ps ++ qs) ≡ true) = both (is_thesis p.statement) (all_theses (ps ++ qs)) h in
+    let k : (is_thesis p.statement ≡ true) × (all_theses (ps ++ qs) ≡ true) = and_parts (is_thesis p.statement) (all_theses (ps ++ qs)) h in
     let r : (all_theses ps ≡ true) × (all_theses qs ≡ true) = theses_append ps qs k.1 in
     (ap₂ (λ y z. y && z) k.0 r.0, r.1)
 
@@ -74,36 +72,36 @@ dependents_asked G v (var w ∷ S) = go (not (nat_eq w v) && rests_on v (look_up
 substitution_asked : (x y : Statement) → asked (substitution_checks x y) ≡ is_some (substitution x y)
 substitution_asked (plain c) y = refl
 substitution_asked (abstracted A x) (plain (has_type t B)) =
-    ap (λ z. z && asked (forms_result (substitution (abstracted A x) (plain (has_type t B))))) (turned B A) ∙ asked_when (equal_expressions A B) _
+    ap (λ z. z && asked (forms_result (substitution (abstracted A x) (plain (has_type t B))))) (equal_back B A) ∙ asked_when (equal_expressions A B) _
 substitution_asked (abstracted A x) y = refl
 
 equal_substitution_asked : (x y : Statement) → asked (equal_substitution_checks x y) ≡ is_some (equal_substitution x y)
 equal_substitution_asked (plain c) y = refl
 equal_substitution_asked (abstracted A x) (plain (equal_terms s t B)) =
-    ap (λ z. has_head x && (z && asked (forms_result (equal_substitution (abstracted A x) (plain (equal_terms s t B)))))) (turned B A)
+    ap (λ z. has_head x && (z && asked (forms_result (equal_substitution (abstracted A x) (plain (equal_terms s t B)))))) (equal_back B A)
     ∙ and_assoc (has_head x) (equal_expressions A B) (asked (forms_result (equal_substitution (abstracted A x) (plain (equal_terms s t B)))))
     ∙ asked_when (has_head x && equal_expressions A B) _
 equal_substitution_asked (abstracted A x) y = refl
 
 transitivity_asked : (x y : Statement) → asked (transitivity_checks x y) ≡ is_some (transitivity x y)
-transitivity_asked (plain (equal_types A B)) (plain (equal_types C D)) = and_true (equal_expressions C B) ∙ turned C B ∙ sym (when_some (equal_expressions B C) _)
+transitivity_asked (plain (equal_types A B)) (plain (equal_types C D)) = and-true (equal_expressions C B) ∙ equal_back C B ∙ sym (when_some (equal_expressions B C) _)
 transitivity_asked (plain (equal_terms s t A)) (plain (equal_terms u v B)) =
-    ap (λ z. equal_expressions B A && z) (and_true (equal_expressions u t))
-    ∙ ap₂ (λ y z. y && z) (turned B A) (turned u t)
+    ap (λ z. equal_expressions B A && z) (and-true (equal_expressions u t))
+    ∙ ap₂ (λ y z. y && z) (equal_back B A) (equal_back u t)
     ∙ sym (when_some (equal_expressions A B && equal_expressions t u) _)
 transitivity_asked x y = refl
 
 conversion_asked : (x y : Statement) → asked (conversion_checks x y) ≡ is_some (conversion x y)
-conversion_asked (plain (has_type t A)) (plain (equal_types B C)) = and_true (equal_expressions A B) ∙ sym (when_some (equal_expressions A B) _)
+conversion_asked (plain (has_type t A)) (plain (equal_types B C)) = and-true (equal_expressions A B) ∙ sym (when_some (equal_expressions A B) _)
 conversion_asked x y = refl
 
 equation_conversion_asked : (x y : Statement) → asked (equation_conversion_checks x y) ≡ is_some (equation_conversion x y)
-equation_conversion_asked (plain (equal_terms s t A)) (plain (equal_types B C)) = and_true (equal_expressions A B) ∙ sym (when_some (equal_expressions A B) _)
+equation_conversion_asked (plain (equal_terms s t A)) (plain (equal_types B C)) = and-true (equal_expressions A B) ∙ sym (when_some (equal_expressions A B) _)
 equation_conversion_asked x y = refl
 
 term_equation_asked : (x y z : Statement) → asked (term_equation_checks x y z) ≡ is_some (term_equation_boundary x y z)
 term_equation_asked (plain (is_type A)) (plain (has_type s B)) (plain (has_type t C)) =
-    ap (λ z. equal_expressions B A && z) (and_true (equal_expressions C A)) ∙ sym (when_some (equal_expressions B A && equal_expressions C A) _)
+    ap (λ z. equal_expressions B A && z) (and-true (equal_expressions C A)) ∙ sym (when_some (equal_expressions B A && equal_expressions C A) _)
 term_equation_asked x y z = refl
 
 -- rules at arguments
@@ -173,7 +171,7 @@ guarded false c x = refl
 
 moved_asked : (R : Rule) (xs es : List Statement) (a c : Arguments) (y : Statement) → Theses xs → is_thesis y ≡ true
     → asked (before_premise_checks R xs es ++ moved_checks (first_premises R xs) a c (later_premises R xs) y)
-    ≡ is_some (cond (are_arguments (first_premises R xs) xs && start_all xs es) (moved (first_premises R xs) a c (later_premises R xs) y) None)
+    ≡ is_some (cond (are_arguments (first_premises R xs) xs && start_all xs es) (moved_argument (first_premises R xs) a c (later_premises R xs) y) None)
 moved_asked R xs es a c y h k = go (later_premises R xs) (next_there xs R.premises)
   where
     ps : List (ℕ × Statement)
@@ -182,7 +180,7 @@ moved_asked R xs es a c y h k = go (later_premises R xs) (next_there xs R.premis
     B : Bool
     B = are_arguments ps xs && start_all xs es
 
-    go : (qs : List (ℕ × Statement)) → nat_lt (length xs) (length R.premises) ≡ is_cons qs → asked (before_premise_checks R xs es ++ moved_checks ps a c qs y) ≡ is_some (cond B (moved ps a c qs y) None)
+    go : (qs : List (ℕ × Statement)) → nat_lt (length xs) (length R.premises) ≡ is_cons qs → asked (before_premise_checks R xs es ++ moved_checks ps a c qs y) ≡ is_some (cond B (moved_argument ps a c qs y) None)
     go [] e =
         asked_append (before_premise_checks R xs es) []
         ∙ ap (λ z. (z && asked (first_argument_checks R xs ++ all_equation_checks xs es)) && true) e
@@ -204,7 +202,7 @@ moved_asked R xs es a c y h k = go (later_premises R xs) (next_there xs R.premis
             after_forms (expressions (at_arguments ps a q.1)) (fit_checks y (at_arguments ps a q.1) ++ forms_statement (at_arguments ps c q.1))
             ∙ asked_append (fit_checks y (at_arguments ps a q.1)) (forms_statement (at_arguments ps c q.1))
             ∙ ap₂ (λ u v. u && v) (fit_asked y (at_arguments ps a q.1) k) (asked_forms (expressions (at_arguments ps c q.1)))
-            ∙ and_true (fits y (at_arguments ps a q.1))
+            ∙ and-true (fits y (at_arguments ps a q.1))
 
 -- applications
 no_place : (i : ℕ) → false ≡ is_some (from_one [] i)
@@ -212,7 +210,7 @@ no_place zero = refl
 no_place (suc i) = refl
 
 with_result : (b : Bool) (o : Option Statement) → (b && asked (forms_result o)) ≡ b
-with_result b o = ap (λ z. b && z) (asked_result o) ∙ and_true b
+with_result b o = ap (λ z. b && z) (asked_result o) ∙ and-true b
 
 place_asked : (W : Store) (i : ℕ) (e : Expression) (x : Statement) → asked (place_checks W i e x) ≡ is_some (from_one (arguments_of W e) i)
 place_asked W i (bound j) x = no_place i
@@ -230,7 +228,7 @@ natural_expression None = refl
 natural_expression (Some N) = refl
 
 natural_asked : (W : Store) (x : Statement) → asked (natural_checks W x) ≡ is_some (natural W x)
-natural_asked W (plain (has_type e A)) = natural_expression (natural_type W e) ∙ sym (map_some (λ N. plain (equal_types N A)) (natural_type W e))
+natural_asked W (plain (has_type e A)) = natural_expression (natural_type W e) ∙ sym (is_some-option_map (λ N. plain (equal_types N A)) (natural_type W e))
 natural_asked W x = refl
 
 -- instances of entries
@@ -251,31 +249,31 @@ row W (by_metacong m es) h b i = meta_congruence_asked m.0 m.1.boundary (stateme
 row W (by_abs v p) h b i = dependents_asked W.variables v.0 p.set ∙ sym (when_some (not (depends W.variables v.0 p.set)) _)
 row W (by_subst p t) h b i = substitution_asked p.statement t.statement
 row W (by_substeq p e) h b i = equal_substitution_asked p.statement e.statement
-row W (by_refl p) h b i = and_true (has_head p.statement) ∙ sym (when_some (has_head p.statement) _)
-row W (by_sym p) h b i = and_true (is_some (symmetry p.statement))
+row W (by_refl p) h b i = and-true (has_head p.statement) ∙ sym (when_some (has_head p.statement) _)
+row W (by_sym p) h b i = and-true (is_some (symmetry p.statement))
 row W (by_trans p q) h b i = transitivity_asked p.statement q.statement
 row W (by_conv p e) h b i = conversion_asked p.statement e.statement
 row W (by_conveq p e) h b i = equation_conversion_asked p.statement e.statement
-row W (by_left p) h b i = and_true (is_some (under_domains left_side p.statement))
-row W (by_right p) h b i = and_true (is_some (under_domains right_side p.statement))
-row W (by_typeof p) h b i = and_true (is_some (under_domains type_part p.statement))
-row W (by_domain p) h b i = and_true (is_some (first_domain p.statement))
+row W (by_left p) h b i = and-true (is_some (under_domains left_side p.statement))
+row W (by_right p) h b i = and-true (is_some (under_domains right_side p.statement))
+row W (by_typeof p) h b i = and-true (is_some (under_domains type_part p.statement))
+row W (by_domain p) h b i = and-true (is_some (first_domain p.statement))
 row W (by_boundary p) h b i = refl
 row W (by_widen p q) h b i = refl
 row W by_btype h b i = refl
-row W (by_bterm p) h b i = and_true (is_some (term_boundary p.statement))
-row W (by_beqty p q) h b i = and_true (is_some (type_equation_boundary p.statement q.statement))
+row W (by_bterm p) h b i = and-true (is_some (term_boundary p.statement))
+row W (by_beqty p q) h b i = and-true (is_some (type_equation_boundary p.statement q.statement))
 row W (by_beqtm p s t) h b i = term_equation_asked p.statement s.statement t.statement
 row W (by_rule r ps) h b i = rule_asked r.0 r.1 (statements ps) (theses_of ps h) ∙ sym (when_some (are_arguments r.1.premises (statements ps)) _)
-row W (by_rulewith r c ps) h b i = rule_with_asked r.0 r.1 c.statement (statements ps) (theses_of ps h) (not_true (is_thesis c.statement) (both (not (is_thesis c.statement)) true b).0)
+row W (by_rulewith r c ps) h b i = rule_with_asked r.0 r.1 c.statement (statements ps) (theses_of ps h) (not-true (is_thesis c.statement) (and_parts (not (is_thesis c.statement)) true b).0)
 row W (by_inst r ps) h b i = instance_asked r.1 (statements ps) (theses_of ps h)
 row W (by_cong r ps es) h b i = congruence_asked r.0 r.1 (statements ps) (statements es) (theses_of ps (theses_append ps es h).0)
 row W (by_convprem r ps es q) h b i =
     let k : (all_theses ps ≡ true) × (all_theses (es ++ (q ∷ [])) ≡ true) = theses_append ps (es ++ (q ∷ [])) h in
-    moved_asked r.1 (statements ps) (statements es) (heads (statements ps)) (right_heads (statements ps) (statements es)) q.statement (theses_of ps k.0) (both (is_thesis q.statement) true (theses_append es (q ∷ []) k.1).1).0
+    moved_asked r.1 (statements ps) (statements es) (heads (statements ps)) (right_heads (statements ps) (statements es)) q.statement (theses_of ps k.0) (and_parts (is_thesis q.statement) true (theses_append es (q ∷ []) k.1).1).0
 row W (by_convback r ps es q) h b i =
     let k : (all_theses ps ≡ true) × (all_theses (es ++ (q ∷ [])) ≡ true) = theses_append ps (es ++ (q ∷ [])) h in
-    moved_asked r.1 (statements ps) (statements es) (right_heads (statements ps) (statements es)) (heads (statements ps)) q.statement (theses_of ps k.0) (both (is_thesis q.statement) true (theses_append es (q ∷ []) k.1).1).0
+    moved_asked r.1 (statements ps) (statements es) (right_heads (statements ps) (statements es)) (heads (statements ps)) q.statement (theses_of ps k.0) (and_parts (is_thesis q.statement) true (theses_append es (q ∷ []) k.1).1).0
 row W (by_arg i p) h b k = argument_asked W i p.statement
 row W (by_natural p) h b i = natural_asked W p.statement
 row W (by_metainst p ms qs) h b i = instantiated_asked ms p (statements qs) (theses_of qs h) i
@@ -283,6 +281,6 @@ row W (by_metainst p ms qs) h b i = instantiated_asked ms p (statements qs) (the
 -- A call that may be made asks what its row asks.
 pub asks_its_row : (W : Store) (s : Resolved) → may_be_made s ≡ true → asked (checks W s) ≡ is_some (conclusion W s)
 asks_its_row W s h =
-    let k : (of_kind s ≡ true) × (instance_allowed s ≡ true) = both (of_kind s) (instance_allowed s) h in
-    let l : (all_theses (theses s) ≡ true) × (all_boundaries (boundaries s) ≡ true) = both (all_theses (theses s)) (all_boundaries (boundaries s)) k.0 in
+    let k : (of_kind s ≡ true) × (instance_allowed s ≡ true) = and_parts (of_kind s) (instance_allowed s) h in
+    let l : (all_theses (theses s) ≡ true) × (all_boundaries (boundaries s) ≡ true) = and_parts (all_theses (theses s)) (all_boundaries (boundaries s)) k.0 in
     row W s l.0 l.1 k.1

@@ -1,44 +1,32 @@
 -- The comparisons of the nucleus ask what the tests of fit, of start and of type ask.
 use Rattle.std.proofs.Common.{◌≡◌, ℕ, zero, suc, Bool, true, false, cond, nat_eq, ◌&&◌, List, [], ◌∷◌, ◌++◌, length, refl, sym, ap, ap₂, ◌∙◌}
 use Rattle.std.proofs.Math.Dec.{eqb-suc-zero, eqb-zero-suc, eqb-suc-suc}
-use Rattle.ft_theory.specs.Expressions.{Expression}
+use Rattle.std.proofs.Math.Bool.{and-true, and-false, and_comm}
+use Rattle.ft_common.proofs.Booleans.{false_true, true_false}
 use Rattle.ft_theory.specs.Statements.{Claim, is_type, has_type, equal_types, equal_terms, type_goal, term_goal, type_equation_goal, term_equation_goal, Statement, plain, abstracted, opened, domain_count, boundary_of_claim, boundary_of}
 use Rattle.ft_items.specs.Equal.{equal_expressions, equal_claims, equal_statements, is_thesis_claim, is_thesis, has_head, fits_goal, fits, fit_all, starts, start_all, typed, paired}
-use Rattle.ft_items.proofs.SetLemmas.{wrong, wrong', by_bool}
 use Rattle.ft_laws.proofs.Statements.{domain_count-opened}
-use Rattle.ft_sound.proofs.EqualLemmas.{expression_true}
+use Rattle.ft_sound.proofs.EqualLemmas.{equal_back}
 use Rattle.ft_reference.specs.Refusals.{expressions}
 use Rattle.ft_reference.specs.Compare.{same_form, is_alike, goal_checks, domain_checks, boundary_checks, fit_checks, argument_checks, is_equation_of, left_checks_under, start_checks, head_count, equation_checks, term_checks, pair_checks}
-use Rattle.ft_nucleus_laws.proofs.Lists.{and_true, and_false, and_swap, and_comm, and_assoc, asked, asked_append, after_forms}
-
--- equality of expressions, from either side
-pub turned : (e f : Expression) → equal_expressions e f ≡ equal_expressions f e
-turned e f = by_bool (equal_expressions e f ≡ equal_expressions f e) (equal_expressions e f) yes_case no_case
-  where
-    yes_case : equal_expressions e f ≡ true → equal_expressions e f ≡ equal_expressions f e
-    yes_case h = ap (λ z. equal_expressions z f) (expression_true e f h) ∙ ap (λ z. equal_expressions f z) (sym (expression_true e f h))
-
-    no_case : equal_expressions e f ≡ false → equal_expressions e f ≡ equal_expressions f e
-    no_case h = by_bool (equal_expressions e f ≡ equal_expressions f e) (equal_expressions f e)
-        (λ k. ap (λ z. equal_expressions z f) (sym (expression_true f e k)) ∙ ap (λ z. equal_expressions f z) (expression_true f e k))
-        (λ k. h ∙ sym k)
+use Rattle.ft_nucleus_laws.proofs.Lists.{and_swap, and_assoc, asked, asked_append, after_forms}
 
 -- three tests, the first of which is stated last
 last_first : (a b c : Bool) → (a && (b && (c && true))) ≡ ((b && c) && a)
-last_first a b c = ap (λ z. a && (b && z)) (and_true c) ∙ and_comm a (b && c)
+last_first a b c = ap (λ z. a && (b && z)) (and-true c) ∙ and_comm a (b && c)
 
 -- the thesis fits
 fit_goal : (n : ℕ) (c d : Claim) → is_thesis_claim c ≡ true → (same_form (boundary_of_claim c) d && asked (goal_checks n (boundary_of_claim c) d)) ≡ fits_goal c d
 fit_goal n (is_type A) type_goal h = refl
-fit_goal n (has_type t A) (term_goal B) h = and_true (equal_expressions A B)
-fit_goal n (equal_types A B) (type_equation_goal C D) h = ap (λ z. equal_expressions A C && z) (and_true (equal_expressions B D))
+fit_goal n (has_type t A) (term_goal B) h = and-true (equal_expressions A B)
+fit_goal n (equal_types A B) (type_equation_goal C D) h = ap (λ z. equal_expressions A C && z) (and-true (equal_expressions B D))
 fit_goal n (equal_terms s t A) (term_equation_goal u v B) h =
-    ap (λ z. equal_expressions A B && (equal_expressions s u && z)) (and_true (equal_expressions t v))
+    ap (λ z. equal_expressions A B && (equal_expressions s u && z)) (and-true (equal_expressions t v))
     ∙ and_assoc (equal_expressions A B) (equal_expressions s u) (equal_expressions t v)
-fit_goal n type_goal d h = wrong h
-fit_goal n (term_goal A) d h = wrong h
-fit_goal n (type_equation_goal A B) d h = wrong h
-fit_goal n (term_equation_goal s t A) d h = wrong h
+fit_goal n type_goal d h = false_true h
+fit_goal n (term_goal A) d h = false_true h
+fit_goal n (type_equation_goal A B) d h = false_true h
+fit_goal n (term_equation_goal s t A) d h = false_true h
 fit_goal n c d h = refl
 
 fit_domains : (n : ℕ) (x b : Statement) → is_thesis x ≡ true → (is_alike (boundary_of x) b && asked (domain_checks n (boundary_of x) b)) ≡ fits x b
@@ -55,13 +43,13 @@ fit_asked x b h = fit_domains zero x b h
 -- the boundary is the one wanted
 same_goal : (n : ℕ) (c d : Claim) → is_thesis_claim c ≡ false → (same_form c d && asked (goal_checks n c d)) ≡ equal_claims c d
 same_goal n type_goal type_goal h = refl
-same_goal n (term_goal A) (term_goal B) h = and_true (equal_expressions A B)
-same_goal n (type_equation_goal A B) (type_equation_goal C D) h = ap (λ z. equal_expressions A C && z) (and_true (equal_expressions B D))
+same_goal n (term_goal A) (term_goal B) h = and-true (equal_expressions A B)
+same_goal n (type_equation_goal A B) (type_equation_goal C D) h = ap (λ z. equal_expressions A C && z) (and-true (equal_expressions B D))
 same_goal n (term_equation_goal s t A) (term_equation_goal u v B) h = last_first (equal_expressions A B) (equal_expressions s u) (equal_expressions t v)
-same_goal n (is_type A) d h = wrong' h
-same_goal n (has_type t A) d h = wrong' h
-same_goal n (equal_types A B) d h = wrong' h
-same_goal n (equal_terms s t A) d h = wrong' h
+same_goal n (is_type A) d h = true_false h
+same_goal n (has_type t A) d h = true_false h
+same_goal n (equal_types A B) d h = true_false h
+same_goal n (equal_terms s t A) d h = true_false h
 same_goal n c d h = refl
 
 same_domains : (n : ℕ) (b c : Statement) → is_thesis b ≡ false → (is_alike b c && asked (domain_checks n b c)) ≡ equal_statements b c
@@ -94,15 +82,15 @@ arguments_asked i (p ∷ ps) (x ∷ xs) h =
 
 -- the equation starts at the thesis
 start_domains : (n : ℕ) (x e : Statement) → (is_equation_of x e && asked (left_checks_under n x e)) ≡ starts x e
-start_domains n (plain (is_type A)) (plain (equal_types B C)) = and_true (equal_expressions B A) ∙ turned B A
+start_domains n (plain (is_type A)) (plain (equal_types B C)) = and-true (equal_expressions B A) ∙ equal_back B A
 start_domains n (plain (has_type t A)) (plain (equal_terms s u B)) =
-    ap (λ z. equal_expressions B A && z) (and_true (equal_expressions s t)) ∙ ap₂ (λ y z. y && z) (turned B A) (turned s t)
+    ap (λ z. equal_expressions B A && z) (and-true (equal_expressions s t)) ∙ ap₂ (λ y z. y && z) (equal_back B A) (equal_back s t)
 start_domains n (plain c) (plain d) = refl
 start_domains n (plain c) (abstracted B e) = refl
 start_domains n (abstracted A x) (plain d) = refl
 start_domains n (abstracted A x) (abstracted B e) =
     and_swap (is_equation_of x e) (equal_expressions B A) (asked (left_checks_under (suc n) x e))
-    ∙ ap₂ (λ y z. y && z) (turned B A) (start_domains (suc n) x e)
+    ∙ ap₂ (λ y z. y && z) (equal_back B A) (start_domains (suc n) x e)
 
 pub start_asked : (x e : Statement) → asked (start_checks x e) ≡ starts x e
 start_asked x e = start_domains zero x e
@@ -137,8 +125,8 @@ terms_asked (plain c) (x ∷ xs) = ap (λ z. z && asked (term_checks (plain c) (
 terms_asked (abstracted A b) (plain (has_type t B) ∷ xs) =
     ap (λ z. z && (equal_expressions B A && asked (term_checks (opened t (abstracted A b)) xs))) (eqb-suc-suc (length xs) (domain_count b) ∙ ap (λ n. nat_eq (length xs) n) (sym (domain_count-opened (abstracted A b) t (domain_count b) refl)))
     ∙ and_swap (nat_eq (length xs) (domain_count (opened t (abstracted A b)))) (equal_expressions B A) (asked (term_checks (opened t (abstracted A b)) xs))
-    ∙ ap₂ (λ y z. y && z) (turned B A) (terms_asked (opened t (abstracted A b)) xs)
-terms_asked (abstracted A b) (x ∷ xs) = and_false (nat_eq (suc (length xs)) (suc (domain_count b)))
+    ∙ ap₂ (λ y z. y && z) (equal_back B A) (terms_asked (opened t (abstracted A b)) xs)
+terms_asked (abstracted A b) (x ∷ xs) = and-false (nat_eq (suc (length xs)) (suc (domain_count b)))
 
 -- equations for domains
 pub pairs_asked : (b : Statement) (es : List Statement) → (nat_eq (length es) (domain_count b) && asked (pair_checks b es)) ≡ paired b es
@@ -148,5 +136,5 @@ pairs_asked (plain c) (e ∷ es) = ap (λ z. z && asked (pair_checks (plain c) (
 pairs_asked (abstracted A b) (plain (equal_terms s t B) ∷ es) =
     ap (λ z. z && (equal_expressions B A && asked (pair_checks (opened s (abstracted A b)) es))) (eqb-suc-suc (length es) (domain_count b) ∙ ap (λ n. nat_eq (length es) n) (sym (domain_count-opened (abstracted A b) s (domain_count b) refl)))
     ∙ and_swap (nat_eq (length es) (domain_count (opened s (abstracted A b)))) (equal_expressions B A) (asked (pair_checks (opened s (abstracted A b)) es))
-    ∙ ap₂ (λ y z. y && z) (turned B A) (pairs_asked (opened s (abstracted A b)) es)
-pairs_asked (abstracted A b) (e ∷ es) = and_false (nat_eq (suc (length es)) (suc (domain_count b)))
+    ∙ ap₂ (λ y z. y && z) (equal_back B A) (pairs_asked (opened s (abstracted A b)) es)
+pairs_asked (abstracted A b) (e ∷ es) = and-false (nat_eq (suc (length es)) (suc (domain_count b)))

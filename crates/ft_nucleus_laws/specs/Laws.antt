@@ -85,6 +85,10 @@ abbrev pub DraftsGrow : Type 0
 DraftsGrow = ((W : Store) (n : Name) (d : Draft) → (begin W n).answer ≡ Ok d → IsDraft W d)
     × ((W : Store) (d : Draft) (n : Name) (b : Assertion) (m : ℕ) → IsDraft W d → (premise W d n b).answer ≡ Ok m → IsDraft (premise W d n b).after.0 (premise W d n b).after.1)
 
+-- And it stays one as the list goes on, by whatever items.
+abbrev pub DraftsStay : Type 0
+DraftsStay = (items more : List Item) (d : Draft) → IsDraft (store_of items) d → IsDraft (store_of (items ++ more)) d
+
 -- the item of a draft with the entry of its conclusion
 abbrev pub drafted : Draft → ℕ → Item
 drafted d p = rule d.name (numbers d.premises) p

@@ -8,7 +8,7 @@ use Rattle.ft_items.specs.Store.{Assertion, Store, empty_store}
 use Rattle.ft_items.specs.Worked.{Nat, O, S}
 use Rattle.ft_reference.specs.Refusals.{WrongForm, NotAbstracted, TypeDiffers, SidesDiffer, DependentVariable, OpenBoundary, ArgumentCount, TooBig, NotApplication}
 use Rattle.ft_reference.specs.Declare.{Duplicate, OpenPremise, OpenConclusion, Draft, new_variable, new_metavariable, begin, premise, finish}
-use Rattle.ft_nucleus_laws.specs.Worked.{Vec, Sum, Fix, Bool, alone, at_one, nat_rule, successor_rule, fixed_rule, sum_rule, fix_rule, x_annotation, y_annotation, term_metavariable, equation_metavariable, declared, store, of, type_of, term_of, types_of, terms_of, under, type_boundary, term_boundary_of, types_boundary_of, terms_boundary_of, x_term, numeral, big, differs, ok, refused, Answer}
+use Rattle.ft_nucleus_laws.specs.Worked.{Vec, Sum, Fix, Bool, alone, at_one, nat_rule, successor_rule, fixed_rule, sum_rule, fix_rule, x_annotation, y_annotation, term_metavariable, equation_metavariable, declared, store, of, type_of, term_of, types_of, terms_of, under, type_boundary, term_boundary_of, types_boundary_of, terms_boundary_of, x_term, numeral, big, differs, ok, refused, Answer, AnswerOver, dependent_store}
 
 -- variables and metavariables
 abbrev pub VariableRows : Type 0
@@ -42,6 +42,7 @@ SubstitutionRows = Answer (
     ∷ (by_subst (under Nat (term_of (S (bound 0)) Nat)) (type_of Nat), refused WrongForm)
     ∷ (by_subst (under Nat (term_of (S (bound 0)) Nat)) (term_of O Bool), refused (TypeDiffers (differs Bool Nat)))
     ∷ (by_subst (under Nat (term_of (S (bound 0)) Nat)) (term_of big Nat), refused TooBig)
+    ∷ (by_subst (under Nat (under (Vec (bound 0)) (type_of Nat))) (term_of big Nat), refused TooBig)
     ∷ (by_substeq (under Nat (term_of (S (bound 0)) Nat)) (terms_of O (S O) Nat), ok (terms_of (S O) (S (S O)) Nat))
     ∷ (by_substeq (under Nat (type_of (Vec (bound 0)))) (terms_of O (S O) Nat), ok (types_of (Vec O) (Vec (S O))))
     ∷ (by_substeq (term_of O Nat) (terms_of O (S O) Nat), refused NotAbstracted)
@@ -126,6 +127,7 @@ RuleRows = Answer (
     ∷ (by_inst (2, successor_rule) (term_of O Nat ∷ term_of O Nat ∷ []), refused (ArgumentCount 2 1))
     ∷ (by_inst (5, sum_rule) (term_of O Nat ∷ []), refused WrongForm)
     ∷ (by_inst (6, fix_rule) (term_of big Nat ∷ []), refused TooBig)
+    ∷ (by_inst (5, sum_rule) (type_of big ∷ []), refused TooBig)
     ∷ [])
 
 -- a symbol at 999 further symbols is as deep as may be, at 1,000 it is too deep
@@ -158,6 +160,12 @@ CongruenceRows = Answer (
     ∷ (by_convprem (5, sum_rule) (type_of Nat ∷ []) (types_of Nat big ∷ []) (under Nat (type_of Nat)), refused TooBig)
     ∷ (by_convback (5, sum_rule) (type_of Nat ∷ []) (types_of Nat Bool ∷ []) (under Bool (type_of (Vec (bound 0)))), ok (under Nat (type_of (Vec (bound 0)))))
     ∷ (by_convback (5, sum_rule) (type_of Nat ∷ []) (types_of Nat Bool ∷ []) (under Nat (type_of (Vec (bound 0)))), refused (TypeDiffers (differs Nat Bool)))
+    ∷ (by_convback (2, successor_rule) (term_of O Nat ∷ []) [] (term_of O Nat), refused (ArgumentCount 1 1))
+    ∷ (by_convback (5, sum_rule) (term_of O Nat ∷ []) [] (term_of O Nat), refused WrongForm)
+    ∷ (by_convback (5, sum_rule) (type_of Nat ∷ []) [] (term_of O Nat), refused (ArgumentCount 0 1))
+    ∷ (by_convback (5, sum_rule) (type_of Nat ∷ []) (types_of Bool Nat ∷ []) (term_of O Nat), refused (SidesDiffer (differs Bool Nat)))
+    ∷ (by_convback (5, sum_rule) (type_of Nat ∷ []) (types_of Nat big ∷ []) (type_of Nat), refused TooBig)
+    ∷ (by_convback (5, sum_rule) (type_of big ∷ []) (types_of big Nat ∷ []) (under Nat (type_of Nat)), refused TooBig)
     ∷ [])
 
 -- what an application tells, and instances of whole entries
@@ -181,6 +189,13 @@ ApplicationRows = Answer (
     ∷ (by_metainst (of (plain (has_type (S (alone 0)) Nat)) (met 0 ∷ [])) ((0, declared (plain (term_goal Nat))) ∷ []) [], refused (ArgumentCount 0 1))
     ∷ (by_metainst (of (plain (has_type (S (alone 0)) Nat)) (met 0 ∷ [])) ((0, declared (plain (term_goal Nat))) ∷ []) (term_of O Bool ∷ []), refused (TypeDiffers (differs Bool Nat)))
     ∷ (by_metainst (of (plain (has_type (S (alone 0)) Nat)) (met 0 ∷ [])) ((0, declared (plain (term_goal Nat))) ∷ []) (term_of big Nat ∷ []), refused TooBig)
+    ∷ [])
+
+-- types by declaration that rest on an argument
+abbrev pub NaturalRows : Type 0
+NaturalRows = AnswerOver dependent_store (
+    (by_natural (term_of (at_one 9 O) Nat), ok (types_of (Vec O) Nat))
+    ∷ (by_natural (term_of (at_one 9 big) Nat), refused TooBig)
     ∷ [])
 
 -- Declarations.

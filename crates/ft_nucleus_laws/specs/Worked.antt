@@ -1,5 +1,5 @@
 -- A store to work in: the natural numbers with some further rules, metavariables and variables; and short forms of statements.
-use Rattle.std.specs.Prelude.{ℕ, zero, suc, List, [], ◌∷◌, map, codes, Result, Ok, Err, ◌≡◌}
+use Rattle.std.specs.Prelude.{ℕ, zero, suc, List, [], ◌∷◌, ◌++◌, map, codes, Result, Ok, Err, ◌≡◌}
 use Rattle.ft_theory.specs.Expressions.{Expression, bound, free, symbol, meta, no_arguments, with_body, dummy, no_terms, also}
 use Rattle.ft_theory.specs.Statements.{is_type, has_type, equal_types, equal_terms, type_goal, term_goal, type_equation_goal, term_equation_goal, Statement, plain, abstracted}
 use Rattle.ft_theory.specs.Rules.{Rule}
@@ -147,6 +147,13 @@ ok a = Ok a
 abbrev pub refused : Refusal → Result Assertion Refusal
 refused r = Err r
 
--- each call over the store answers what stands beside it
+-- each call over a store answers what stands beside it
+abbrev pub AnswerOver : Store → List (Resolved × Result Assertion Refusal) → Type 0
+AnswerOver W ps = map (λ (p : Resolved × Result Assertion Refusal). answer W p.0) ps ≡ map (λ (p : Resolved × Result Assertion Refusal). p.1) ps
+
 abbrev pub Answer : List (Resolved × Result Assertion Refusal) → Type 0
-Answer ps = map (λ (p : Resolved × Result Assertion Refusal). answer store p.0) ps ≡ map (λ (p : Resolved × Result Assertion Refusal). p.1) ps
+Answer ps = AnswerOver store ps
+
+-- the store with metavariable 9, a term over {x : Nat} of type Vec at x
+abbrev pub dependent_store : Store
+dependent_store = record store { metavariables = store.metavariables ++ (declared (abstracted Nat (plain (term_goal (Vec (bound 0))))) ∷ []) }

@@ -1,9 +1,9 @@
 // Laws of the nucleus. Each function states one fact on its calls, over the definitions alone.
 #![tactic(auto)]
 
-ghost use Rattle.ft_nucleus_laws.specs.Laws.{AnswersItsRow, RefusesFirst, AnswersDerivable, AnswersAllowed, FitsIsFilling, RefusalsChangeNothing, VariablesAllowed, MetavariablesAllowed, DraftsGrow, FinishesAllowed, FinishedIsFinitary, FirstOutsideIsLeast, FirstVariableIsLeast, FirstDependentIsLeast, NamesRefused, OpenRefused, WideRefused};
-ghost use Rattle.ft_nucleus_laws.specs.SmallAnswers.{AnswersSmall};
-ghost use Rattle.ft_nucleus_laws.specs.Rows.{VariableRows, SubstitutionRows, EqualityRows, SideRows, RuleRows, DeepRows, CongruenceRows, ApplicationRows, DraftRows, NewRows};
+ghost use Rattle.ft_nucleus_laws.specs.Laws.{AnswersItsRow, RefusesFirst, AnswersDerivable, AnswersAllowed, FitsIsFilling, RefusalsChangeNothing, VariablesAllowed, MetavariablesAllowed, DraftsGrow, DraftsStay, FinishesAllowed, FinishedIsFinitary, FirstOutsideIsLeast, FirstVariableIsLeast, FirstDependentIsLeast, NamesRefused, OpenRefused, WideRefused};
+ghost use Rattle.ft_nucleus_laws.specs.SmallAnswers.{AnswersSmall, ClosingKeepsSize, ClosingKeepsSmall, AbstractionsSmall};
+ghost use Rattle.ft_nucleus_laws.specs.Rows.{VariableRows, SubstitutionRows, EqualityRows, SideRows, RuleRows, DeepRows, CongruenceRows, ApplicationRows, NaturalRows, DraftRows, NewRows};
 
 /// A call answers a statement and its set exactly where its row gives these after the store's items and all that it forms is small.
 pub fn answers_its_row()
@@ -50,6 +50,11 @@ pub fn drafts_grow()
     ensures law { DraftsGrow }
 {}
 
+/// A draft stays one as the list goes on, by whatever items.
+pub fn drafts_stay()
+    ensures law { DraftsStay }
+{}
+
 /// A draft finishes exactly where its rule is allowed; the store is then that of the longer list.
 pub fn finishes_allowed()
     ensures law { FinishesAllowed }
@@ -70,6 +75,17 @@ pub fn names_the_least()
 /// Where all that a call has is small, all that it answers is; but for abstraction.
 pub fn answers_small()
     ensures law { AnswersSmall }
+{}
+
+/// Closing over a variable changes neither depth nor size, and keeps what is small so, under at most so many domains.
+pub fn closing_keeps_small()
+    ensures size { ClosingKeepsSize }
+    ensures small { ClosingKeepsSmall }
+{}
+
+/// So abstraction is never too big: where all that it has is small, all that it answers is.
+pub fn abstractions_small()
+    ensures law { AbstractionsSmall }
 {}
 
 /// Rules, premises and conclusions are refused in their order, each exactly where its reason holds.
@@ -93,6 +109,7 @@ pub fn worked_calls()
     ensures deep { DeepRows }
     ensures congruence { CongruenceRows }
     ensures applications { ApplicationRows }
+    ensures natural { NaturalRows }
 {}
 
 /// Worked declarations, with a row for each refusal.

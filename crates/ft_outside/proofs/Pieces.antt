@@ -1,9 +1,9 @@
 -- Pieces of what is left and of what was written.
 use Rattle.std.proofs.Common.{◌≡◌, ◌∙◌, sym, ap, refl, ◌+◌, ◌++◌, ℕ, List, [], Option, Some, None, inl, take, drop, option_map, ◌-◌, append_assoc, length, arith}
 use Rattle.std.proofs.Math.Seq.{take-add}
-use Rattle.std.proofs.lemmas.List.{take-append-drop, drop-drop, length-drop}
-use Rattle.std.proofs.Math.Seq.{take-length}
+use Rattle.std.proofs.lemmas.List.{take-append-drop, drop-drop}
 use Rattle.std.specs.Prelude.{Result, Ok, Err, OnErr}
+use Rattle.ft_common.proofs.Lists.{range_from}
 use Rattle.ft_outside.specs.Outside.{Gives, GivesSome, Appends, raised_count, CountsOn}
 
 -- a piece, and the next one
@@ -20,10 +20,6 @@ gives_next l l1 (Some r) xs ys h k =
 
 pub gives_front : (xs piece : List ℕ) (at n : ℕ) → piece ≡ take n (drop at xs) → Some (drop at xs) ≡ Some (piece ++ drop (at + n) xs)
 gives_front xs piece at n h = ap Some (sym (rw h (ap (λ r. take n (drop at xs) ++ r) (sym (drop-drop n at xs)) ∙ take-append-drop n (drop at xs))))
-
--- `&xs[at..]`
-pub range_from : (xs : List ℕ) (at : ℕ) → take (length xs - at) (drop at xs) ≡ drop at xs
-range_from xs at = ap (λ n. take n (drop at xs)) (sym (length-drop at xs)) ∙ take-length (drop at xs)
 
 pub appends_from : (w w1 w2 : Option (List ℕ)) (xs : List ℕ) (a n : ℕ) → Appends w (take a xs) w1 → Appends w1 (take n (take (length xs - a) (drop a xs))) w2 → Appends w (take (a + n) xs) w2
 appends_from w w1 w2 xs a n h k = appends_next w w1 w2 xs a n h (rw (← range_from xs a) k)

@@ -16,6 +16,3 @@ pub use mem_source::MemSource;
 pub use streams::{StdSink, StdSource};
 pub use traits::{Failed, Sink, Source};
 pub use whole::{read_source, write_all};
-
-#[cfg(test)]
-mod tests;

@@ -63,7 +63,7 @@ impl MemSource {
 }
 
 // Fills the front of `buf`, and answers how many bytes that took.
-#[tactic(auto, using(crate::proofs::Pieces::range_from))]
+#[tactic(auto, using(ft_common::proofs::Lists::range_from))]
 fn give(from: &[u8], at: usize, buf: &mut [u8], most: usize) -> usize
     requires { at ≤ length from.now }
     ensures count { result ≡ min (min (length buf.old) most) (length from.now - at) }

@@ -1,16 +1,16 @@
 -- What the answer of a function that reads a whole source says of the grammar.
 use Rattle.std.proofs.Common.{◌≡◌, ◌≢◌, ◌∙◌, sym, ap, refl, ℕ, Bool, true, false, ◌&&◌, not, IsTrue, IfOk, IfErr, IsErrOf, List, [], ◌∷◌, Ok, Err, Result}
-use Rattle.ft_lexer.specs.declared.token.Kind.{Kind}
-use Rattle.ft_lexer.specs.declared.token.Kind.TheVariants as kind
-use Rattle.ft_lexer.specs.declared.token.Token.{Token}
-use Rattle.ft_lexer.specs.Made.{is_end, is_ended}
-use Rattle.ft_parser.specs.declared.fault.SyntaxFault.{SyntaxFault}
-use Rattle.ft_parser.specs.declared.fault.SyntaxFault.TheVariants.{Memory, TooNested, Unexpected}
-use Rattle.ft_parser.specs.declared.syntax.Command.{Command}
-use Rattle.ft_parser.specs.Forms.{is_no_end}
-use Rattle.ft_parser.specs.Grammar.{IsSource, nesting}
-use Rattle.ft_parser.specs.Reading.{parse, ReadsAll}
-use Rattle.ft_parser.specs.Sources.{IsClosed, IsFirstTooNested, IsFirstUnexpected}
+use Rattle.ft_grammar.specs.declared.token.Kind.{Kind}
+use Rattle.ft_grammar.specs.declared.token.Kind.TheVariants as kind
+use Rattle.ft_grammar.specs.declared.token.Token.{Token}
+use Rattle.ft_grammar.specs.Made.{is_end, is_ended}
+use Rattle.ft_grammar.specs.declared.fault.SyntaxFault.{SyntaxFault}
+use Rattle.ft_grammar.specs.declared.fault.SyntaxFault.TheVariants.{Memory, TooNested, Unexpected}
+use Rattle.ft_grammar.specs.declared.syntax.Command.{Command}
+use Rattle.ft_grammar.specs.Forms.{is_no_end}
+use Rattle.ft_grammar.specs.Grammar.{IsSource, nesting}
+use Rattle.ft_grammar.specs.Reading.{parse, ReadsAll}
+use Rattle.ft_grammar.specs.Sources.{IsClosed, IsFirstTooNested, IsFirstUnexpected}
 use Rattle.ft_parser.proofs.SourceLaws.{accepted_is_in_grammar, in_grammar_is_accepted}
 use Rattle.ft_parser.proofs.Refusals.{unexpected_is_first, too_nested_is_first}
 

@@ -1,7 +1,7 @@
 -- What an outcome tells of the steps that gave it.
 use Rattle.std.proofs.Common.{◌≡◌, ap, refl, Bool, true, false, if◌then◌else◌, List, [], ◌∷◌, ◌++◌, Ok, Err, Option, Some, None, ◌⊎◌, inl, inr}
-use Rattle.ft_lexer.specs.declared.token.Token.{Token}
-use Rattle.ft_parser.specs.Reading.{Outcome, Parser, and_then, value_or_refuse}
+use Rattle.ft_grammar.specs.declared.token.Token.{Token}
+use Rattle.ft_grammar.specs.Reading.{Outcome, Parser, and_then, value_or_refuse}
 
 -- the tokens are those of the property, and then the rest
 abbrev pub Front : (List Token → Type 0) → List Token → List Token → Type 0

@@ -1,11 +1,11 @@
 -- What has a value by a rule is read, whatever may follow it.
 use Rattle.std.proofs.Common.{◌≡◌, ◌∙◌, sym, ap, refl, subst, ℕ, zero, suc, ◌≤◌, Bool, true, false, if◌then◌else◌, ◌&&◌, ◌||◌, not, IsTrue, is_some, List, [], ◌∷◌, ◌++◌, length, Ok, Option, Some, None, drop, append_assoc, append-nil, ◌⊎◌, inl, inr, arith}
-use Rattle.ft_lexer.specs.declared.token.Kind.{Kind}
-use Rattle.ft_lexer.specs.declared.token.Kind.TheVariants as kind
-use Rattle.ft_lexer.specs.declared.token.Token.{Token}
-use Rattle.ft_parser.specs.declared.syntax.Named.{Named}
-use Rattle.ft_parser.specs.Rules.{Rule, Part, Tree, AllOf, Is, give, name, number, word, mark, part, starting, sequence, either, either_by_two, unless, more, named, numbered, worded, is_mark, is_name}
-use Rattle.ft_parser.specs.Reading.{Parser, and_then, read, more_from, start_of, kind_of, read_name, read_number, read_word, read_mark, value_or_refuse, refuse}
+use Rattle.ft_grammar.specs.declared.token.Kind.{Kind}
+use Rattle.ft_grammar.specs.declared.token.Kind.TheVariants as kind
+use Rattle.ft_grammar.specs.declared.token.Token.{Token}
+use Rattle.ft_grammar.specs.declared.syntax.Named.{Named}
+use Rattle.ft_grammar.specs.Rules.{Rule, Part, Tree, AllOf, Is, give, name, number, word, mark, part, starting, sequence, either, either_by_two, unless, more, named, numbered, worded, is_mark, is_name}
+use Rattle.ft_grammar.specs.Reading.{Parser, and_then, read, more_from, start_of, kind_of, read_name, read_number, read_word, read_mark, value_or_refuse, refuse}
 use Rattle.std.proofs.lemmas.List.{length-append}
 use Rattle.ft_parser.proofs.Sound.{eats, PartsEat, eaten}
 

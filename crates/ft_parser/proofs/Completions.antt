@@ -1,14 +1,14 @@
 -- The tokens before one that is refused can be completed.
 use Rattle.std.proofs.Common.{◌≡◌, ◌∙◌, sym, ap, refl, subst, ℕ, zero, suc, Bool, true, false, if◌then◌else◌, ◌&&◌, List, [], ◌∷◌, ◌++◌, length, drop, Ok, Err, Option, Some, None, append_assoc, append-nil, ◌⊎◌, inl, inr}
 use Rattle.ft_base.specs.declared.word.Word.{Word}
-use Rattle.ft_lexer.specs.declared.token.Mark.{Mark}
-use Rattle.ft_lexer.specs.declared.token.Mark.TheVariants as m
-use Rattle.ft_lexer.specs.declared.token.Kind.{Kind}
-use Rattle.ft_lexer.specs.declared.token.Kind.TheVariants as kind
-use Rattle.ft_lexer.specs.declared.token.Token.{Token}
-use Rattle.ft_parser.specs.declared.fault.SyntaxFault.{SyntaxFault}
-use Rattle.ft_parser.specs.Rules.{Rule, Part, Tree, AllOf, Is, give, name, number, word, mark, part, starting, sequence, either, either_by_two, unless, more, is_mark, named, numbered, worded}
-use Rattle.ft_parser.specs.Reading.{Outcome, Parser, and_then, read, more_from, start_of, kind_of, read_name, read_number, read_word, read_mark, value_or_refuse, refuse}
+use Rattle.ft_grammar.specs.declared.token.Mark.{Mark}
+use Rattle.ft_grammar.specs.declared.token.Mark.TheVariants as m
+use Rattle.ft_grammar.specs.declared.token.Kind.{Kind}
+use Rattle.ft_grammar.specs.declared.token.Kind.TheVariants as kind
+use Rattle.ft_grammar.specs.declared.token.Token.{Token}
+use Rattle.ft_grammar.specs.declared.fault.SyntaxFault.{SyntaxFault}
+use Rattle.ft_grammar.specs.Rules.{Rule, Part, Tree, AllOf, Is, give, name, number, word, mark, part, starting, sequence, either, either_by_two, unless, more, is_mark, named, numbered, worded}
+use Rattle.ft_grammar.specs.Reading.{Outcome, Parser, and_then, read, more_from, start_of, kind_of, read_name, read_number, read_word, read_mark, value_or_refuse, refuse}
 use Rattle.ft_parser.proofs.Sound.{eaten, PartsEat, IsSound, Proper, sound}
 
 abbrev pub at_zero : Kind → Token

@@ -1,12 +1,12 @@
 -- The tokens before one that is refused begin a source.
 use Rattle.std.proofs.Common.{◌≡◌, sym, ap, refl, ℕ, zero, suc, List, [], ◌∷◌, ◌++◌, Ok, Err, append_assoc}
-use Rattle.ft_lexer.specs.declared.token.Kind.TheVariants as kind
-use Rattle.ft_lexer.specs.declared.token.Token.{Token}
-use Rattle.ft_parser.specs.declared.fault.SyntaxFault.{SyntaxFault}
-use Rattle.ft_parser.specs.Rules.{Part, Tree, Is}
-use Rattle.ft_parser.specs.Grammar.{rule_of, IsPart, commands}
-use Rattle.ft_parser.specs.Reading.{Outcome, read, level, too_nested}
-use Rattle.ft_parser.specs.Sources.{CanGoOn}
+use Rattle.ft_grammar.specs.declared.token.Kind.TheVariants as kind
+use Rattle.ft_grammar.specs.declared.token.Token.{Token}
+use Rattle.ft_grammar.specs.declared.fault.SyntaxFault.{SyntaxFault}
+use Rattle.ft_grammar.specs.Rules.{Part, Tree, Is}
+use Rattle.ft_grammar.specs.Grammar.{rule_of, IsPart, commands}
+use Rattle.ft_grammar.specs.Reading.{Outcome, read, level, too_nested}
+use Rattle.ft_grammar.specs.Sources.{CanGoOn}
 use Rattle.ft_parser.proofs.SourceLaws.{NoEnd, no_end, part_no_end}
 use Rattle.ft_parser.proofs.Sound.{IsSound}
 use Rattle.ft_parser.proofs.ProperRules.{proper_part, proper_commands}

@@ -1,12 +1,12 @@
 -- Where more nesting is allowed, the same is read, or refused, but for parts that were nested too deeply.
 use Rattle.std.proofs.Common.{◌≡◌, ap, refl, subst, ℕ, zero, suc, ◌≤◌, Bool, true, false, if◌then◌else◌, ◌&&◌, List, [], ◌∷◌, ◌++◌, length, drop, Ok, Err, ◌⊎◌, inl, inr, arith}
-use Rattle.ft_lexer.specs.declared.token.Kind.{Kind}
-use Rattle.ft_lexer.specs.declared.token.Token.{Token}
-use Rattle.ft_parser.specs.declared.fault.SyntaxFault.{SyntaxFault}
-use Rattle.ft_parser.specs.declared.fault.SyntaxFault.TheVariants.{Unexpected, TooNested, Memory}
-use Rattle.ft_parser.specs.Rules.{Rule, Part, Tree, give, name, number, word, mark, part, starting, sequence, either, either_by_two, unless, more}
-use Rattle.ft_parser.specs.Grammar.{rule_of}
-use Rattle.ft_parser.specs.Reading.{Outcome, Parser, and_then, read, more_from, start_of, kind_of, refuse, level}
+use Rattle.ft_grammar.specs.declared.token.Kind.{Kind}
+use Rattle.ft_grammar.specs.declared.token.Token.{Token}
+use Rattle.ft_grammar.specs.declared.fault.SyntaxFault.{SyntaxFault}
+use Rattle.ft_grammar.specs.declared.fault.SyntaxFault.TheVariants.{Unexpected, TooNested, Memory}
+use Rattle.ft_grammar.specs.Rules.{Rule, Part, Tree, give, name, number, word, mark, part, starting, sequence, either, either_by_two, unless, more}
+use Rattle.ft_grammar.specs.Grammar.{rule_of}
+use Rattle.ft_grammar.specs.Reading.{Outcome, Parser, and_then, read, more_from, start_of, kind_of, refuse, level}
 
 abbrev pub IsTooNested : SyntaxFault → Type 0
 IsTooNested (TooNested n) = Unit {0}

@@ -3,10 +3,10 @@ use Rattle.std.proofs.Common.{◌≡◌, refl, ap, ◌∙◌, ℕ, Bool, true, f
 use Rattle.ft_base.specs.declared.name.Name.{Name}
 use Rattle.ft_base.specs.declared.word.Word.{Word}
 use Rattle.ft_base.specs.declared.word.Word.TheVariants as w
-use Rattle.ft_lexer.specs.declared.token.Mark.{Mark}
-use Rattle.ft_lexer.specs.declared.token.Mark.TheVariants as m
-use Rattle.ft_lexer.specs.declared.token.Kind.{Kind}
-use Rattle.ft_lexer.specs.declared.token.Kind.TheVariants as kind
+use Rattle.ft_grammar.specs.declared.token.Mark.{Mark}
+use Rattle.ft_grammar.specs.declared.token.Mark.TheVariants as m
+use Rattle.ft_grammar.specs.declared.token.Kind.{Kind}
+use Rattle.ft_grammar.specs.declared.token.Kind.TheVariants as kind
 
 abbrev pub all_words : List Word
 all_words = w.Rule ∷ w.TypeWord ∷ w.Let ∷ w.In ∷ w.If ∷ w.Then ∷ w.Else ∷ w.Match ∷ w.With ∷ w.End ∷ w.Handle ∷ w.Val ∷ w.Perform ∷ w.Operation ∷ w.Computation ∷ w.Extensionality ∷ w.Show ∷ w.By ∷ w.TrueWord ∷ w.FalseWord ∷ w.SomeWord ∷ w.NoneWord ∷ w.Nil ∷ w.Judgement ∷ w.Boundary ∷ w.Unit ∷ w.Bool ∷ w.List ∷ w.Option ∷ w.Refl ∷ w.Sym ∷ w.Trans ∷ w.Convert ∷ w.Left ∷ w.Right ∷ w.Typeof ∷ w.Domain ∷ w.Natural ∷ w.Normal ∷ w.Boundaryof ∷ w.Equal ∷ w.Widen ∷ w.Rewrite ∷ w.Fill ∷ w.Argument ∷ w.Congruence ∷ w.Principal ∷ w.Derive ∷ []

@@ -1,10 +1,10 @@
 -- The tokens that begin parts, and those that may follow them.
 use Rattle.std.proofs.Common.{Bool, true, ◌&&◌, ◌||◌, not}
 use Rattle.ft_base.specs.declared.word.Word.TheVariants as w
-use Rattle.ft_lexer.specs.declared.token.Mark.TheVariants as m
-use Rattle.ft_lexer.specs.declared.token.Kind.{Kind}
-use Rattle.ft_parser.specs.Rules.{Part, expression, pattern, type, type_atom, is_word, is_mark}
-use Rattle.ft_parser.specs.Forms.{begins_one, begins_two, begins_atom, begins_pattern_atom, is_no_end}
+use Rattle.ft_grammar.specs.declared.token.Mark.TheVariants as m
+use Rattle.ft_grammar.specs.declared.token.Kind.{Kind}
+use Rattle.ft_grammar.specs.Rules.{Part, expression, pattern, type, type_atom, is_word, is_mark}
+use Rattle.ft_grammar.specs.Forms.{begins_one, begins_two, begins_atom, begins_pattern_atom, is_no_end}
 
 abbrev pub anything : Kind → Bool
 anything k = true

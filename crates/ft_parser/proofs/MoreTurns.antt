@@ -1,9 +1,9 @@
 -- The turns of a loop that gathers values while the next token passes a test.
 use Rattle.std.proofs.Common.{◌≡◌, ◌∙◌, ap, refl, ℕ, zero, suc, ◌+◌, ◌-◌, ◌<◌, ◌≤◌, Bool, true, false, List, [], ◌∷◌, ◌++◌, Ok, Err}
-use Rattle.ft_lexer.specs.declared.token.Kind.{Kind}
-use Rattle.ft_lexer.specs.declared.token.Token.{Token}
-use Rattle.ft_parser.specs.declared.fault.SyntaxFault.{SyntaxFault}
-use Rattle.ft_parser.specs.Reading.{Outcome, Parser, and_then, kind_of, more_from}
+use Rattle.ft_grammar.specs.declared.token.Kind.{Kind}
+use Rattle.ft_grammar.specs.declared.token.Token.{Token}
+use Rattle.ft_grammar.specs.declared.fault.SyntaxFault.{SyntaxFault}
+use Rattle.ft_grammar.specs.Reading.{Outcome, Parser, and_then, kind_of, more_from}
 use Rattle.ft_parser.proofs.Turns.{one_more, no_more}
 
 one_turn : {A : Type 0} (test : Kind → Bool) (one : Parser A) (n : ℕ) (found : List A) (ts : List Token) → test (kind_of ts) ≡ true

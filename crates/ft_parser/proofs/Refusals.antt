@@ -1,13 +1,13 @@
 -- What is refused, and what may follow it.
 use Rattle.std.proofs.Common.{◌≡◌, ◌∙◌, sym, ap, refl, subst, ℕ, zero, suc, ◌≤◌, ◌⊎◌, inl, inr, arith, append_assoc, append-nil, length, Bool, true, false, List, [], ◌∷◌, ◌++◌, Ok, Err, Result}
-use Rattle.ft_lexer.specs.declared.token.Token.{Token}
-use Rattle.ft_parser.specs.declared.fault.SyntaxFault.{SyntaxFault}
-use Rattle.ft_parser.specs.declared.syntax.Command.{Command}
-use Rattle.ft_parser.specs.Grammar.{IsSource, commands, nesting}
-use Rattle.ft_parser.specs.Reading.{Outcome, read, level, start_of, answer, parse}
-use Rattle.ft_parser.specs.Sources.{IsClosed, HasNoSource, IsFirstUnexpected, IsFirstTooNested}
-use Rattle.ft_parser.specs.Forms.{is_no_end}
-use Rattle.ft_parser.specs.declared.fault.SyntaxFault.TheVariants.{Unexpected, TooNested, Memory}
+use Rattle.ft_grammar.specs.declared.token.Token.{Token}
+use Rattle.ft_grammar.specs.declared.fault.SyntaxFault.{SyntaxFault}
+use Rattle.ft_grammar.specs.declared.syntax.Command.{Command}
+use Rattle.ft_grammar.specs.Grammar.{IsSource, commands, nesting}
+use Rattle.ft_grammar.specs.Reading.{Outcome, read, level, start_of, answer, parse}
+use Rattle.ft_grammar.specs.Sources.{IsClosed, HasNoSource, IsFirstUnexpected, IsFirstTooNested}
+use Rattle.ft_grammar.specs.Forms.{is_no_end}
+use Rattle.ft_grammar.specs.declared.fault.SyntaxFault.TheVariants.{Unexpected, TooNested, Memory}
 use Rattle.ft_parser.proofs.FaultNames.{Names, NamesNext, names_next, level_names}
 use Rattle.ft_parser.proofs.Continued.{refusal_is_begun, refusal_is_continued}
 use Rattle.ft_parser.proofs.SourceLaws.{NoEnd}

@@ -1,19 +1,19 @@
 -- The rules of the grammar have samples.
 use Rattle.std.proofs.Common.{refl, ℕ, List, [], ◌∷◌, inl, inr}
 use Rattle.ft_base.specs.declared.word.Word.TheVariants as w
-use Rattle.ft_lexer.specs.declared.token.Mark.TheVariants as m
-use Rattle.ft_lexer.specs.declared.token.Kind.TheVariants as kind
-use Rattle.ft_lexer.specs.declared.token.Token.{Token}
-use Rattle.ft_parser.specs.declared.form.OneForm.TheVariants as one
-use Rattle.ft_parser.specs.declared.form.TwoForm.TheVariants as two
-use Rattle.ft_parser.specs.declared.syntax.AmlType.TheVariants as ty
-use Rattle.ft_parser.specs.declared.syntax.Pattern.TheVariants as pat
-use Rattle.ft_parser.specs.declared.syntax.Ast.{Ast}
-use Rattle.ft_parser.specs.declared.syntax.Ast.TheVariants as ast
-use Rattle.ft_parser.specs.declared.syntax.Body.TheVariants as body
-use Rattle.ft_parser.specs.Rules.{Part, Tree, Is, expression, pattern, type, type_atom, unless, either_by_two, is_word, is_mark, is_name, exactly}
-use Rattle.ft_parser.specs.Forms.{plain_type, word_pattern, word_expression, one_form, two_form}
-use Rattle.ft_parser.specs.Grammar.{rule_of, list_type, option_type, parenthesized_type, atomic_type, any_type, parenthesized_pattern, atomic_pattern, some_pattern, symbol_pattern, list_pattern, any_pattern, parenthesized, none_of, nil_of, base, brace, braces, atom, call, one_part, two_parts, argument, congruence, perform, application, list_expression, let_in, if_then_else, case, match_with, operation_body, operation_case, value_body, handle_cases, handle_with, abstraction, any_expression, binder, type_body, term_body, equation_type, equation_body, any_body, premise, type_conclusion, term_conclusion, any_conclusion, rule_command, let_command, operation_command, computation_command, extensionality_command, show_command, any_command, commands}
+use Rattle.ft_grammar.specs.declared.token.Mark.TheVariants as m
+use Rattle.ft_grammar.specs.declared.token.Kind.TheVariants as kind
+use Rattle.ft_grammar.specs.declared.token.Token.{Token}
+use Rattle.ft_grammar.specs.declared.form.OneForm.TheVariants as one
+use Rattle.ft_grammar.specs.declared.form.TwoForm.TheVariants as two
+use Rattle.ft_grammar.specs.declared.syntax.AmlType.TheVariants as ty
+use Rattle.ft_grammar.specs.declared.syntax.Pattern.TheVariants as pat
+use Rattle.ft_grammar.specs.declared.syntax.Ast.{Ast}
+use Rattle.ft_grammar.specs.declared.syntax.Ast.TheVariants as ast
+use Rattle.ft_grammar.specs.declared.syntax.Body.TheVariants as body
+use Rattle.ft_grammar.specs.Rules.{Part, Tree, Is, expression, pattern, type, type_atom, unless, either_by_two, is_word, is_mark, is_name, exactly}
+use Rattle.ft_grammar.specs.Forms.{plain_type, word_pattern, word_expression, one_form, two_form}
+use Rattle.ft_grammar.specs.Grammar.{rule_of, list_type, option_type, parenthesized_type, atomic_type, any_type, parenthesized_pattern, atomic_pattern, some_pattern, symbol_pattern, list_pattern, any_pattern, parenthesized, none_of, nil_of, base, brace, braces, atom, call, one_part, two_parts, argument, congruence, perform, application, list_expression, let_in, if_then_else, case, match_with, operation_body, operation_case, value_body, handle_cases, handle_with, abstraction, any_expression, binder, type_body, term_body, equation_type, equation_body, any_body, premise, type_conclusion, term_conclusion, any_conclusion, rule_command, let_command, operation_command, computation_command, extensionality_command, show_command, any_command, commands}
 use Rattle.ft_parser.proofs.Completions.{at_zero, Sample, Sampled}
 
 module _ (R : (p : Part) → Tree p → List Token → Type 0) where

@@ -1,11 +1,11 @@
 -- What is read by a rule has its value by the rule.
 use Rattle.std.proofs.Common.{◌≡◌, ◌∙◌, sym, ap, refl, subst, ℕ, zero, suc, Bool, true, false, if◌then◌else◌, ◌&&◌, IsTrue, List, [], ◌∷◌, ◌++◌, length, Ok, Err, Option, Some, None, drop, append_assoc, append-nil, ◌⊎◌, inl, inr}
-use Rattle.ft_lexer.specs.declared.token.Kind.{Kind}
-use Rattle.ft_lexer.specs.declared.token.Token.{Token}
-use Rattle.ft_lexer.specs.declared.token.Mark.{Mark}
-use Rattle.ft_parser.specs.declared.fault.SyntaxFault.TheVariants.{Unexpected}
-use Rattle.ft_parser.specs.Rules.{Rule, Part, Tree, AllOf, Is, give, name, number, word, mark, part, starting, sequence, either, either_by_two, unless, more, named, numbered, worded, is_mark}
-use Rattle.ft_parser.specs.Reading.{Outcome, Parser, and_then, read, more_from, start_of, kind_of, read_name, read_number, read_word, read_mark, value_or_refuse, refuse}
+use Rattle.ft_grammar.specs.declared.token.Kind.{Kind}
+use Rattle.ft_grammar.specs.declared.token.Token.{Token}
+use Rattle.ft_grammar.specs.declared.token.Mark.{Mark}
+use Rattle.ft_grammar.specs.declared.fault.SyntaxFault.TheVariants.{Unexpected}
+use Rattle.ft_grammar.specs.Rules.{Rule, Part, Tree, AllOf, Is, give, name, number, word, mark, part, starting, sequence, either, either_by_two, unless, more, named, numbered, worded, is_mark}
+use Rattle.ft_grammar.specs.Reading.{Outcome, Parser, and_then, read, more_from, start_of, kind_of, read_name, read_number, read_word, read_mark, value_or_refuse, refuse}
 use Rattle.ft_parser.proofs.Cases.{Front, bind_ok, chosen, taken, ok_value, ok_rest}
 
 -- each list of the rule has a token

@@ -2,18 +2,18 @@
 use Rattle.std.proofs.Common.{◌≡◌, ◌∙◌, sym, ap, refl, subst, ℕ, zero, suc, ◌≤◌, Bool, true, false, if◌then◌else◌, IsTrue, List, [], ◌∷◌, ◌++◌, length, Ok, Err, Result, Option, Some, None, ◌⊎◌, inl, inr, arith}
 use Rattle.std.proofs.lemmas.List.{length-append}
 use Rattle.ft_base.specs.declared.word.Word.{Word}
-use Rattle.ft_lexer.specs.declared.token.Kind.{Kind}
-use Rattle.ft_lexer.specs.declared.token.Kind.TheVariants as kind
-use Rattle.ft_lexer.specs.declared.token.Token.{Token}
-use Rattle.ft_lexer.specs.declared.token.Mark.{Mark}
-use Rattle.ft_parser.specs.declared.fault.SyntaxFault.{SyntaxFault}
-use Rattle.ft_parser.specs.declared.syntax.Named.{Named}
-use Rattle.ft_parser.specs.declared.syntax.Command.{Command}
-use Rattle.ft_parser.specs.Rules.{Rule, Part, Tree, AllOf, Is, give, name, number, word, mark, part, starting, sequence, either, either_by_two, unless, more, named, numbered, worded, is_mark, expression}
-use Rattle.ft_parser.specs.Forms.{is_no_end}
-use Rattle.ft_parser.specs.Grammar.{IsPart, IsSource, commands, any_command, rule_command, let_command, operation_command, computation_command, extensionality_command, show_command, rule_of, nesting}
-use Rattle.ft_parser.specs.Sources.{IsClosed}
-use Rattle.ft_parser.specs.Reading.{Outcome, Parser, read, level, and_then, more_from, kind_of, answer, parse}
+use Rattle.ft_grammar.specs.declared.token.Kind.{Kind}
+use Rattle.ft_grammar.specs.declared.token.Kind.TheVariants as kind
+use Rattle.ft_grammar.specs.declared.token.Token.{Token}
+use Rattle.ft_grammar.specs.declared.token.Mark.{Mark}
+use Rattle.ft_grammar.specs.declared.fault.SyntaxFault.{SyntaxFault}
+use Rattle.ft_grammar.specs.declared.syntax.Named.{Named}
+use Rattle.ft_grammar.specs.declared.syntax.Command.{Command}
+use Rattle.ft_grammar.specs.Rules.{Rule, Part, Tree, AllOf, Is, give, name, number, word, mark, part, starting, sequence, either, either_by_two, unless, more, named, numbered, worded, is_mark, expression}
+use Rattle.ft_grammar.specs.Forms.{is_no_end}
+use Rattle.ft_grammar.specs.Grammar.{IsPart, IsSource, commands, any_command, rule_command, let_command, operation_command, computation_command, extensionality_command, show_command, rule_of, nesting}
+use Rattle.ft_grammar.specs.Sources.{IsClosed}
+use Rattle.ft_grammar.specs.Reading.{Outcome, Parser, read, level, and_then, more_from, kind_of, answer, parse}
 use Rattle.ft_parser.proofs.Cases.{bind_ok, ok_value, ok_rest}
 use Rattle.ft_parser.proofs.Follow.{begins, follows, is_end}
 use Rattle.ft_parser.proofs.Sound.{sound, eaten, eats}

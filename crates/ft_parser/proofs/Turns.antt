@@ -1,9 +1,9 @@
 -- A recursion on a count of turns beside a loop that counts up, and the nesting that is left.
 use Rattle.std.proofs.Common.{◌≡◌, ℕ, suc, ◌+◌, ◌-◌, ◌<◌, ◌≤◌, ap, ◌∙◌, refl, List, Err, arith}
-use Rattle.ft_lexer.specs.declared.token.Token.{Token}
-use Rattle.ft_parser.specs.declared.fault.SyntaxFault.TheVariants.{TooNested}
-use Rattle.ft_parser.specs.Rules.{Part}
-use Rattle.ft_parser.specs.Reading.{level, start_of}
+use Rattle.ft_grammar.specs.declared.token.Token.{Token}
+use Rattle.ft_grammar.specs.declared.fault.SyntaxFault.TheVariants.{TooNested}
+use Rattle.ft_grammar.specs.Rules.{Part}
+use Rattle.ft_grammar.specs.Reading.{level, start_of}
 
 pub one_more : {X : Type 0} {x : X} (f : ℕ → X) (n at : ℕ) → at < n → x ≡ f (n - at) → x ≡ f (suc (n - (at + 1)))
 one_more f n at below e = let turn : n - at ≡ suc (n - (at + 1)) = omega arith in e ∙ ap f turn

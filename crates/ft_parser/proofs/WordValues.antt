@@ -1,9 +1,9 @@
 -- The value of a word, beside the word.
 use Rattle.std.proofs.Common.{◌≡◌, sym, ap, refl, Option, Some, None}
 use Rattle.ft_base.specs.declared.word.Word.{Word}
-use Rattle.ft_lexer.specs.declared.token.Kind.{Kind}
-use Rattle.ft_lexer.specs.declared.token.Kind.TheVariants as kind
-use Rattle.ft_parser.specs.Rules.{worded}
+use Rattle.ft_grammar.specs.declared.token.Kind.{Kind}
+use Rattle.ft_grammar.specs.declared.token.Kind.TheVariants as kind
+use Rattle.ft_grammar.specs.Rules.{worded}
 
 some_is : {A : Type 0} (a b : A) → Some a ≡ Some b → a ≡ b
 some_is a b h = cc

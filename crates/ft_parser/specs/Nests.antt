@@ -2,11 +2,11 @@
 use Rattle.std.specs.Prelude.{ℕ, Bool, Result, List}
 use Rattle.std.specs.declared.alloc.Global.{Global}
 use denote.Ref.{MutBor}
-use Rattle.ft_lexer.specs.declared.token.Token.{Token}
-use Rattle.ft_parser.specs.declared.fault.SyntaxFault.{SyntaxFault}
-use Rattle.ft_parser.specs.declared.syntax.AmlType.{AmlType}
-use Rattle.ft_parser.specs.Rules.{Part, Tree}
-use Rattle.ft_parser.specs.Reading.{Reads, level, type_level}
+use Rattle.ft_grammar.specs.declared.token.Token.{Token}
+use Rattle.ft_grammar.specs.declared.fault.SyntaxFault.{SyntaxFault}
+use Rattle.ft_grammar.specs.declared.syntax.AmlType.{AmlType}
+use Rattle.ft_grammar.specs.Rules.{Part, Tree}
+use Rattle.ft_grammar.specs.Reading.{Reads, level, type_level}
 
 -- a function value reads parts of that kind to the depth
 pub record Nests (p : Part) (depth : ℕ) (pre : Global → MutBor (List Token) → ℕ → Type 0)

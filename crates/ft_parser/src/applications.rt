@@ -1,19 +1,17 @@
 //! Reading applications.
 
 ghost use Rattle.std.specs.Prelude.{◌≡◌, [], length};
-ghost use Rattle.ft_parser.specs.Forms as form;
-ghost use Rattle.ft_parser.specs.Rules.{expression};
-ghost use Rattle.ft_parser.specs.Grammar as rule;
-ghost use Rattle.ft_parser.specs.Reading.{Reads, read, read_word, more_from, level};
+ghost use Rattle.ft_grammar.specs.Forms as form;
+ghost use Rattle.ft_grammar.specs.Rules.{expression};
+ghost use Rattle.ft_grammar.specs.Grammar as rule;
+ghost use Rattle.ft_grammar.specs.Reading.{Reads, read, read_word, more_from, level};
 ghost use Rattle.ft_parser.specs.Nests.{Nests};
 
 use crate::cursor::Cursor;
 use crate::expressions::{Expressions, keep};
-use crate::fault::SyntaxFault;
-use crate::form::{OneForm, TwoForm};
-use crate::syntax::Ast;
+use crate::form;
 use ft_base::Word;
-use ft_lexer::Mark;
+use ft_grammar::{Ast, Mark, OneForm, SyntaxFault, TwoForm};
 use sqlite_items::{Boxed, Items};
 use std::alloc::Global;
 
@@ -33,7 +31,7 @@ impl<F: Fn(Global, &mut Cursor<'_>, usize) -> Result<Boxed<Ast>, SyntaxFault>> E
         Ok(found)
     }
 
-    #[tactic(auto, unfolding(crate::specs::Grammar::call))]
+    #[tactic(auto, unfolding(ft_grammar::specs::Grammar::call))]
     fn call(&self, tokens: &mut Cursor<'_>) -> Result<Boxed<Ast>, SyntaxFault>
         requires { Nests expression self.now.depth (F.pre self.now.nested) (F.post self.now.nested) }
         ensures { Reads (read (level self.now.depth) rule.call tokens.old) result tokens.new }
@@ -50,7 +48,7 @@ impl<F: Fn(Global, &mut Cursor<'_>, usize) -> Result<Boxed<Ast>, SyntaxFault>> E
         }
     }
 
-    #[tactic(auto, unfolding(crate::specs::Grammar::one_part))]
+    #[tactic(auto, unfolding(ft_grammar::specs::Grammar::one_part))]
     fn one_part(&self, tokens: &mut Cursor<'_>) -> Result<Boxed<Ast>, SyntaxFault>
         requires { Nests expression self.now.depth (F.pre self.now.nested) (F.post self.now.nested) }
         ensures { Reads (read (level self.now.depth) rule.one_part tokens.old) result tokens.new }
@@ -58,10 +56,10 @@ impl<F: Fn(Global, &mut Cursor<'_>, usize) -> Result<Boxed<Ast>, SyntaxFault>> E
         let at = tokens.start();
         let form = one_form(tokens)?;
         let part = self.atom(tokens)?;
-        Ok(Boxed::new(self.alloc, form.tree(at, part))?)
+        Ok(Boxed::new(self.alloc, form::one_tree(form, at, part))?)
     }
 
-    #[tactic(auto, unfolding(crate::specs::Grammar::two_parts))]
+    #[tactic(auto, unfolding(ft_grammar::specs::Grammar::two_parts))]
     fn two_parts(&self, tokens: &mut Cursor<'_>) -> Result<Boxed<Ast>, SyntaxFault>
         requires { Nests expression self.now.depth (F.pre self.now.nested) (F.post self.now.nested) }
         ensures { Reads (read (level self.now.depth) rule.two_parts tokens.old) result tokens.new }
@@ -70,10 +68,10 @@ impl<F: Fn(Global, &mut Cursor<'_>, usize) -> Result<Boxed<Ast>, SyntaxFault>> E
         let form = two_form(tokens)?;
         let first = self.atom(tokens)?;
         let second = self.atom(tokens)?;
-        Ok(Boxed::new(self.alloc, form.tree(at, first, second))?)
+        Ok(Boxed::new(self.alloc, form::two_tree(form, at, first, second))?)
     }
 
-    #[tactic(auto, unfolding(crate::specs::Grammar::argument))]
+    #[tactic(auto, unfolding(ft_grammar::specs::Grammar::argument))]
     fn argument(&self, tokens: &mut Cursor<'_>) -> Result<Boxed<Ast>, SyntaxFault>
         requires { Nests expression self.now.depth (F.pre self.now.nested) (F.post self.now.nested) }
         ensures { Reads (read (level self.now.depth) rule.argument tokens.old) result tokens.new }
@@ -85,7 +83,7 @@ impl<F: Fn(Global, &mut Cursor<'_>, usize) -> Result<Boxed<Ast>, SyntaxFault>> E
         Ok(Boxed::new(self.alloc, Ast::Argument(at, whole, number))?)
     }
 
-    #[tactic(auto, unfolding(crate::specs::Grammar::congruence))]
+    #[tactic(auto, unfolding(ft_grammar::specs::Grammar::congruence))]
     fn congruence(&self, tokens: &mut Cursor<'_>) -> Result<Boxed<Ast>, SyntaxFault>
         requires { Nests expression self.now.depth (F.pre self.now.nested) (F.post self.now.nested) }
         ensures { Reads (read (level self.now.depth) rule.congruence tokens.old) result tokens.new }
@@ -98,7 +96,7 @@ impl<F: Fn(Global, &mut Cursor<'_>, usize) -> Result<Boxed<Ast>, SyntaxFault>> E
         Ok(Boxed::new(self.alloc, Ast::Congruence(at, name, left, right))?)
     }
 
-    #[tactic(auto, unfolding(crate::specs::Grammar::perform))]
+    #[tactic(auto, unfolding(ft_grammar::specs::Grammar::perform))]
     fn perform(&self, tokens: &mut Cursor<'_>) -> Result<Boxed<Ast>, SyntaxFault>
         requires { Nests expression self.now.depth (F.pre self.now.nested) (F.post self.now.nested) }
         ensures { Reads (read (level self.now.depth) rule.perform tokens.old) result tokens.new }
@@ -110,7 +108,7 @@ impl<F: Fn(Global, &mut Cursor<'_>, usize) -> Result<Boxed<Ast>, SyntaxFault>> E
         Ok(Boxed::new(self.alloc, Ast::Perform(at, name, given))?)
     }
 
-    #[tactic(auto, unfolding(crate::specs::Grammar::application))]
+    #[tactic(auto, unfolding(ft_grammar::specs::Grammar::application))]
     pub fn application(&self, tokens: &mut Cursor<'_>) -> Result<Boxed<Ast>, SyntaxFault>
         requires { Nests expression self.now.depth (F.pre self.now.nested) (F.post self.now.nested) }
         ensures { Reads (read (level self.now.depth) rule.application tokens.old) result tokens.new }
@@ -133,13 +131,13 @@ impl<F: Fn(Global, &mut Cursor<'_>, usize) -> Result<Boxed<Ast>, SyntaxFault>> E
     }
 }
 
-#[tactic(auto, using(crate::proofs::WordValues::word_there, crate::proofs::WordValues::no_word), unfolding(crate::specs::Reading::read_word))]
+#[tactic(auto, using(crate::proofs::WordValues::word_there, crate::proofs::WordValues::no_word), unfolding(ft_grammar::specs::Reading::read_word))]
 fn one_form(tokens: &mut Cursor<'_>) -> Result<OneForm, SyntaxFault>
     ensures { Reads (read_word form.one_form tokens.old) result tokens.new }
 {
     match tokens.word() {
         None => Err(tokens.unexpected()),
-        Some(word) => match OneForm::of(word) {
+        Some(word) => match form::one_form(word) {
             None => Err(tokens.unexpected()),
             Some(found) => {
                 tokens.take();
@@ -149,13 +147,13 @@ fn one_form(tokens: &mut Cursor<'_>) -> Result<OneForm, SyntaxFault>
     }
 }
 
-#[tactic(auto, using(crate::proofs::WordValues::word_there, crate::proofs::WordValues::no_word), unfolding(crate::specs::Reading::read_word))]
+#[tactic(auto, using(crate::proofs::WordValues::word_there, crate::proofs::WordValues::no_word), unfolding(ft_grammar::specs::Reading::read_word))]
 fn two_form(tokens: &mut Cursor<'_>) -> Result<TwoForm, SyntaxFault>
     ensures { Reads (read_word form.two_form tokens.old) result tokens.new }
 {
     match tokens.word() {
         None => Err(tokens.unexpected()),
-        Some(word) => match TwoForm::of(word) {
+        Some(word) => match form::two_form(word) {
             None => Err(tokens.unexpected()),
             Some(found) => {
                 tokens.take();

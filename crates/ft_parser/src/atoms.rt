@@ -1,25 +1,23 @@
 //! Reading atoms among the expressions.
 
 ghost use Rattle.std.specs.Prelude.{◌≡◌, length};
-ghost use Rattle.ft_lexer.specs.declared.token.Mark.TheVariants.{LeftBrace};
-ghost use Rattle.ft_parser.specs.Forms as form;
-ghost use Rattle.ft_parser.specs.Rules.{expression, is_mark};
-ghost use Rattle.ft_parser.specs.Grammar as rule;
-ghost use Rattle.ft_parser.specs.Reading.{Reads, read, read_word, more_from, level};
+ghost use Rattle.ft_grammar.specs.declared.token.Mark.TheVariants.{LeftBrace};
+ghost use Rattle.ft_grammar.specs.Forms as form;
+ghost use Rattle.ft_grammar.specs.Rules.{expression, is_mark};
+ghost use Rattle.ft_grammar.specs.Grammar as rule;
+ghost use Rattle.ft_grammar.specs.Reading.{Reads, read, read_word, more_from, level};
 ghost use Rattle.ft_parser.specs.Nests.{Nests};
 
 use crate::cursor::Cursor;
 use crate::expressions::{Expressions, keep, single};
-use crate::fault::SyntaxFault;
-use crate::syntax::Ast;
 use crate::types::nested_type;
 use ft_base::Word;
-use ft_lexer::Mark;
+use ft_grammar::{Ast, Mark, SyntaxFault};
 use sqlite_items::{Boxed, Items};
 use std::alloc::Global;
 
 impl<F: Fn(Global, &mut Cursor<'_>, usize) -> Result<Boxed<Ast>, SyntaxFault>> Expressions<F> {
-    #[tactic(auto, unfolding(crate::specs::Grammar::parenthesized))]
+    #[tactic(auto, unfolding(ft_grammar::specs::Grammar::parenthesized))]
     fn parenthesized(&self, tokens: &mut Cursor<'_>) -> Result<Boxed<Ast>, SyntaxFault>
         requires { Nests expression self.now.depth (F.pre self.now.nested) (F.post self.now.nested) }
         ensures { Reads (read (level self.now.depth) rule.parenthesized tokens.old) result tokens.new }
@@ -42,7 +40,7 @@ impl<F: Fn(Global, &mut Cursor<'_>, usize) -> Result<Boxed<Ast>, SyntaxFault>> E
         }
     }
 
-    #[tactic(auto, unfolding(crate::specs::Grammar::none_of))]
+    #[tactic(auto, unfolding(ft_grammar::specs::Grammar::none_of))]
     fn none_of(&self, tokens: &mut Cursor<'_>) -> Result<Boxed<Ast>, SyntaxFault>
         ensures { Reads (read (level self.now.depth) rule.none_of tokens.old) result tokens.new }
     {
@@ -52,7 +50,7 @@ impl<F: Fn(Global, &mut Cursor<'_>, usize) -> Result<Boxed<Ast>, SyntaxFault>> E
         Ok(Boxed::new(self.alloc, Ast::NoneWord(at, item))?)
     }
 
-    #[tactic(auto, unfolding(crate::specs::Grammar::nil_of))]
+    #[tactic(auto, unfolding(ft_grammar::specs::Grammar::nil_of))]
     fn nil_of(&self, tokens: &mut Cursor<'_>) -> Result<Boxed<Ast>, SyntaxFault>
         ensures { Reads (read (level self.now.depth) rule.nil_of tokens.old) result tokens.new }
     {
@@ -62,7 +60,7 @@ impl<F: Fn(Global, &mut Cursor<'_>, usize) -> Result<Boxed<Ast>, SyntaxFault>> E
         Ok(Boxed::new(self.alloc, Ast::Nil(at, item))?)
     }
 
-    #[tactic(auto, unfolding(crate::specs::Grammar::base))]
+    #[tactic(auto, unfolding(ft_grammar::specs::Grammar::base))]
     fn base(&self, tokens: &mut Cursor<'_>) -> Result<Boxed<Ast>, SyntaxFault>
         requires { Nests expression self.now.depth (F.pre self.now.nested) (F.post self.now.nested) }
         ensures { Reads (read (level self.now.depth) rule.base tokens.old) result tokens.new }
@@ -83,7 +81,7 @@ impl<F: Fn(Global, &mut Cursor<'_>, usize) -> Result<Boxed<Ast>, SyntaxFault>> E
         }
     }
 
-    #[tactic(auto, unfolding(crate::specs::Grammar::brace))]
+    #[tactic(auto, unfolding(ft_grammar::specs::Grammar::brace))]
     fn brace(&self, tokens: &mut Cursor<'_>) -> Result<Boxed<Ast>, SyntaxFault>
         requires { Nests expression self.now.depth (F.pre self.now.nested) (F.post self.now.nested) }
         ensures { Reads (read (level self.now.depth) rule.brace tokens.old) result tokens.new }
@@ -114,7 +112,7 @@ impl<F: Fn(Global, &mut Cursor<'_>, usize) -> Result<Boxed<Ast>, SyntaxFault>> E
     }
 
     /// The braces after an expression that begins at the place.
-    #[tactic(auto, unfolding(crate::specs::Grammar::braces))]
+    #[tactic(auto, unfolding(ft_grammar::specs::Grammar::braces))]
     pub fn braces(
         &self,
         tokens: &mut Cursor<'_>,
@@ -130,7 +128,7 @@ impl<F: Fn(Global, &mut Cursor<'_>, usize) -> Result<Boxed<Ast>, SyntaxFault>> E
         Ok(Boxed::new(self.alloc, Ast::Subst(at, before, all))?)
     }
 
-    #[tactic(auto, unfolding(crate::specs::Grammar::atom))]
+    #[tactic(auto, unfolding(ft_grammar::specs::Grammar::atom))]
     pub fn atom(&self, tokens: &mut Cursor<'_>) -> Result<Boxed<Ast>, SyntaxFault>
         requires { Nests expression self.now.depth (F.pre self.now.nested) (F.post self.now.nested) }
         ensures { Reads (read (level self.now.depth) rule.atom tokens.old) result tokens.new }
@@ -146,7 +144,7 @@ impl<F: Fn(Global, &mut Cursor<'_>, usize) -> Result<Boxed<Ast>, SyntaxFault>> E
 }
 
 // The expression that a word is by itself.
-#[tactic(auto, unfolding(crate::specs::Forms::word_expression))]
+#[tactic(auto, unfolding(ft_grammar::specs::Forms::word_expression))]
 fn word_expression_of(at: u64, word: Word) -> Option<Ast>
     ensures { result ≡ form.word_expression at word }
 {
@@ -157,7 +155,7 @@ fn word_expression_of(at: u64, word: Word) -> Option<Ast>
     }
 }
 
-#[tactic(auto, using(crate::proofs::WordValues::word_there, crate::proofs::WordValues::no_word), unfolding(crate::specs::Reading::read_word))]
+#[tactic(auto, using(crate::proofs::WordValues::word_there, crate::proofs::WordValues::no_word), unfolding(ft_grammar::specs::Reading::read_word))]
 fn word_expression(
     alloc: Global,
     tokens: &mut Cursor<'_>,

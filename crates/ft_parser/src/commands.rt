@@ -1,21 +1,19 @@
 //! Reading commands.
 
 ghost use Rattle.std.specs.Prelude.{◌≡◌, [], length};
-ghost use Rattle.ft_parser.specs.Forms.{is_no_end};
-ghost use Rattle.ft_parser.specs.Grammar as rule;
-ghost use Rattle.ft_parser.specs.Grammar.{nesting};
-ghost use Rattle.ft_parser.specs.Reading.{Reads, ReadsInto, read, more_from, level};
+ghost use Rattle.ft_grammar.specs.Forms.{is_no_end};
+ghost use Rattle.ft_grammar.specs.Grammar as rule;
+ghost use Rattle.ft_grammar.specs.Grammar.{nesting};
+ghost use Rattle.ft_grammar.specs.Reading.{Reads, ReadsInto, read, more_from, level};
 
 use crate::cursor::Cursor;
-use crate::fault::SyntaxFault;
 use crate::premises::{NESTING, any_conclusion, outer_expression, premises};
-use crate::syntax::Command;
 use crate::types::nested_type;
 use ft_base::Word;
-use ft_lexer::Mark;
+use ft_grammar::{Command, Mark, SyntaxFault};
 use std::alloc::Global;
 
-#[tactic(auto, unfolding(crate::specs::Grammar::rule_command))]
+#[tactic(auto, unfolding(ft_grammar::specs::Grammar::rule_command))]
 fn rule_command(alloc: Global, tokens: &mut Cursor<'_>) -> Result<Command, SyntaxFault>
     ensures { Reads (read (level nesting) rule.rule_command tokens.old) result tokens.new }
 {
@@ -27,7 +25,7 @@ fn rule_command(alloc: Global, tokens: &mut Cursor<'_>) -> Result<Command, Synta
     Ok(Command::Rule(at, name, premises, concludes))
 }
 
-#[tactic(auto, unfolding(crate::specs::Grammar::let_command))]
+#[tactic(auto, unfolding(ft_grammar::specs::Grammar::let_command))]
 fn let_command(alloc: Global, tokens: &mut Cursor<'_>) -> Result<Command, SyntaxFault>
     ensures { Reads (read (level nesting) rule.let_command tokens.old) result tokens.new }
 {
@@ -39,7 +37,7 @@ fn let_command(alloc: Global, tokens: &mut Cursor<'_>) -> Result<Command, Syntax
     Ok(Command::Let(at, name, value.into_inner()))
 }
 
-#[tactic(auto, unfolding(crate::specs::Grammar::operation_command))]
+#[tactic(auto, unfolding(ft_grammar::specs::Grammar::operation_command))]
 fn operation_command(alloc: Global, tokens: &mut Cursor<'_>) -> Result<Command, SyntaxFault>
     ensures { Reads (read (level nesting) rule.operation_command tokens.old) result tokens.new }
 {
@@ -52,7 +50,7 @@ fn operation_command(alloc: Global, tokens: &mut Cursor<'_>) -> Result<Command, 
     Ok(Command::Operation(at, name, argument, answer))
 }
 
-#[tactic(auto, unfolding(crate::specs::Grammar::computation_command))]
+#[tactic(auto, unfolding(ft_grammar::specs::Grammar::computation_command))]
 fn computation_command(tokens: &mut Cursor<'_>) -> Result<Command, SyntaxFault>
     ensures { Reads (read (level nesting) rule.computation_command tokens.old) result tokens.new }
 {
@@ -62,7 +60,7 @@ fn computation_command(tokens: &mut Cursor<'_>) -> Result<Command, SyntaxFault>
     Ok(Command::Computation(at, name))
 }
 
-#[tactic(auto, unfolding(crate::specs::Grammar::extensionality_command))]
+#[tactic(auto, unfolding(ft_grammar::specs::Grammar::extensionality_command))]
 fn extensionality_command(tokens: &mut Cursor<'_>) -> Result<Command, SyntaxFault>
     ensures { Reads (read (level nesting) rule.extensionality_command tokens.old) result tokens.new }
 {
@@ -72,7 +70,7 @@ fn extensionality_command(tokens: &mut Cursor<'_>) -> Result<Command, SyntaxFaul
     Ok(Command::Extensionality(at, name))
 }
 
-#[tactic(auto, unfolding(crate::specs::Grammar::show_command))]
+#[tactic(auto, unfolding(ft_grammar::specs::Grammar::show_command))]
 fn show_command(alloc: Global, tokens: &mut Cursor<'_>) -> Result<Command, SyntaxFault>
     ensures { Reads (read (level nesting) rule.show_command tokens.old) result tokens.new }
 {
@@ -82,7 +80,7 @@ fn show_command(alloc: Global, tokens: &mut Cursor<'_>) -> Result<Command, Synta
     Ok(Command::Show(at, shown.into_inner()))
 }
 
-#[tactic(auto, unfolding(crate::specs::Grammar::any_command))]
+#[tactic(auto, unfolding(ft_grammar::specs::Grammar::any_command))]
 fn any_command(alloc: Global, tokens: &mut Cursor<'_>) -> Result<Command, SyntaxFault>
     ensures { Reads (read (level nesting) rule.any_command tokens.old) result tokens.new }
 {
@@ -102,7 +100,7 @@ fn any_command(alloc: Global, tokens: &mut Cursor<'_>) -> Result<Command, Syntax
 }
 
 /// The commands up to the end.
-#[tactic(auto, using(crate::proofs::MoreTurns::more_stops, crate::proofs::MoreTurns::more_ends, crate::proofs::MoreTurns::more_goes, crate::proofs::MoreTurns::more_fails), unfolding(crate::specs::Grammar::commands))]
+#[tactic(auto, using(crate::proofs::MoreTurns::more_stops, crate::proofs::MoreTurns::more_ends, crate::proofs::MoreTurns::more_goes, crate::proofs::MoreTurns::more_fails), unfolding(ft_grammar::specs::Grammar::commands))]
 pub fn commands(alloc: Global, tokens: &mut Cursor<'_>) -> Result<Vec<Command>, SyntaxFault>
     ensures { ReadsInto (read (level nesting) rule.commands tokens.old) result tokens.new (λ found. found.items) }
 {

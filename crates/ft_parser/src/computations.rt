@@ -1,22 +1,20 @@
 //! Reading expressions.
 
 ghost use Rattle.std.specs.Prelude.{◌≡◌, suc};
-ghost use Rattle.ft_parser.specs.Rules.{expression};
-ghost use Rattle.ft_parser.specs.Grammar as rule;
-ghost use Rattle.ft_parser.specs.Reading.{Reads, read, level};
+ghost use Rattle.ft_grammar.specs.Rules.{expression};
+ghost use Rattle.ft_grammar.specs.Grammar as rule;
+ghost use Rattle.ft_grammar.specs.Reading.{Reads, read, level};
 ghost use Rattle.ft_parser.specs.Nests.{Nests};
 
 use crate::cursor::Cursor;
 use crate::expressions::Expressions;
-use crate::fault::SyntaxFault;
-use crate::syntax::Ast;
 use ft_base::Word;
-use ft_lexer::Mark;
+use ft_grammar::{Ast, Mark, SyntaxFault};
 use sqlite_items::Boxed;
 use std::alloc::Global;
 
 impl<F: Fn(Global, &mut Cursor<'_>, usize) -> Result<Boxed<Ast>, SyntaxFault>> Expressions<F> {
-    #[tactic(auto, unfolding(crate::specs::Grammar::list_expression))]
+    #[tactic(auto, unfolding(ft_grammar::specs::Grammar::list_expression))]
     fn list_expression(&self, tokens: &mut Cursor<'_>) -> Result<Boxed<Ast>, SyntaxFault>
         requires { Nests expression self.now.depth (F.pre self.now.nested) (F.post self.now.nested) }
         ensures { Reads (read (level self.now.depth) rule.list_expression tokens.old) result tokens.new }
@@ -32,7 +30,7 @@ impl<F: Fn(Global, &mut Cursor<'_>, usize) -> Result<Boxed<Ast>, SyntaxFault>> E
         }
     }
 
-    #[tactic(auto, unfolding(crate::specs::Grammar::let_in))]
+    #[tactic(auto, unfolding(ft_grammar::specs::Grammar::let_in))]
     fn let_in(&self, tokens: &mut Cursor<'_>) -> Result<Boxed<Ast>, SyntaxFault>
         requires { Nests expression self.now.depth (F.pre self.now.nested) (F.post self.now.nested) }
         ensures { Reads (read (level self.now.depth) rule.let_in tokens.old) result tokens.new }
@@ -47,7 +45,7 @@ impl<F: Fn(Global, &mut Cursor<'_>, usize) -> Result<Boxed<Ast>, SyntaxFault>> E
         Ok(Boxed::new(self.alloc, Ast::LetIn(at, name, value, body))?)
     }
 
-    #[tactic(auto, unfolding(crate::specs::Grammar::if_then_else))]
+    #[tactic(auto, unfolding(ft_grammar::specs::Grammar::if_then_else))]
     fn if_then_else(&self, tokens: &mut Cursor<'_>) -> Result<Boxed<Ast>, SyntaxFault>
         requires { Nests expression self.now.depth (F.pre self.now.nested) (F.post self.now.nested) }
         ensures { Reads (read (level self.now.depth) rule.if_then_else tokens.old) result tokens.new }
@@ -62,7 +60,7 @@ impl<F: Fn(Global, &mut Cursor<'_>, usize) -> Result<Boxed<Ast>, SyntaxFault>> E
         Ok(Boxed::new(self.alloc, Ast::If(at, test, then_part, else_part))?)
     }
 
-    #[tactic(auto, unfolding(crate::specs::Grammar::abstraction))]
+    #[tactic(auto, unfolding(ft_grammar::specs::Grammar::abstraction))]
     fn abstraction(&self, tokens: &mut Cursor<'_>) -> Result<Boxed<Ast>, SyntaxFault>
         requires { Nests expression self.now.depth (F.pre self.now.nested) (F.post self.now.nested) }
         ensures { Reads (read (level self.now.depth) rule.abstraction tokens.old) result tokens.new }
@@ -77,7 +75,7 @@ impl<F: Fn(Global, &mut Cursor<'_>, usize) -> Result<Boxed<Ast>, SyntaxFault>> E
         Ok(Boxed::new(self.alloc, Ast::Abstract(at, name, domain, body))?)
     }
 
-    #[tactic(auto, unfolding(crate::specs::Reading::level, crate::specs::Grammar::any_expression))]
+    #[tactic(auto, unfolding(ft_grammar::specs::Reading::level, ft_grammar::specs::Grammar::any_expression))]
     fn level(&self, tokens: &mut Cursor<'_>) -> Result<Boxed<Ast>, SyntaxFault>
         requires { Nests expression self.now.depth (F.pre self.now.nested) (F.post self.now.nested) }
         ensures { Reads (level (suc self.now.depth) expression tokens.old) result tokens.new }

@@ -1,17 +1,15 @@
 //! The tokens that are left.
 
 ghost use Rattle.std.specs.Prelude.{◌≡◌, ◌&&◌, IfSome, IfNone, Some, None, drop, length};
-ghost use Rattle.ft_parser.specs.Rules.{exactly, is_word, is_mark, is_name, worded};
-ghost use Rattle.ft_parser.specs.Forms.{begins_one, begins_two, begins_atom, begins_pattern_atom, is_no_end};
-ghost use Rattle.ft_parser.specs.Reading as spec;
-ghost use Rattle.ft_parser.specs.Reading.{Reads, kind_of, start_of};
-ghost use Rattle.ft_parser.specs.declared.fault.SyntaxFault.TheVariants.{Unexpected, TooNested};
+ghost use Rattle.ft_grammar.specs.Rules.{exactly, is_word, is_mark, is_name, worded};
+ghost use Rattle.ft_grammar.specs.Forms.{begins_one, begins_two, begins_atom, begins_pattern_atom, is_no_end};
+ghost use Rattle.ft_grammar.specs.Reading as spec;
+ghost use Rattle.ft_grammar.specs.Reading.{Reads, kind_of, start_of};
+ghost use Rattle.ft_grammar.specs.declared.fault.SyntaxFault.TheVariants.{Unexpected, TooNested};
 
-use crate::fault::SyntaxFault;
-use crate::form::{OneForm, TwoForm};
-use crate::syntax::Named;
+use crate::form::{one_form, two_form};
 use ft_base::Word;
-use ft_lexer::{Kind, Mark, Token};
+use ft_grammar::{Kind, Mark, Named, SyntaxFault, Token};
 use std::marker::Model;
 
 #[derive(Drop)]
@@ -20,7 +18,7 @@ pub struct Cursor<'a> {
 }
 
 impl<'a> Model for Cursor<'a> {
-    ghost use Rattle.ft_lexer.specs.declared.token.Token.{Token};
+    ghost use Rattle.ft_grammar.specs.declared.token.Token.{Token};
     ghost use Rattle.std.specs.Prelude.{List};
 
     ghost Value = { List Token };
@@ -76,7 +74,7 @@ impl<'a> Cursor<'a> {
         SyntaxFault::TooNested(self.start())
     }
 
-    #[tactic(auto, unfolding(crate::specs::Rules::is_word))]
+    #[tactic(auto, unfolding(ft_grammar::specs::Rules::is_word))]
     pub fn sees_word(&self, word: Word) -> bool
         ensures { result ≡ is_word word (kind_of self.now) }
     {
@@ -89,7 +87,7 @@ impl<'a> Cursor<'a> {
         }
     }
 
-    #[tactic(auto, unfolding(crate::specs::Rules::is_mark))]
+    #[tactic(auto, unfolding(ft_grammar::specs::Rules::is_mark))]
     pub fn sees_mark(&self, mark: Mark) -> bool
         ensures { result ≡ is_mark mark (kind_of self.now) }
     {
@@ -102,7 +100,7 @@ impl<'a> Cursor<'a> {
         }
     }
 
-    #[tactic(auto, unfolding(crate::specs::Rules::is_name))]
+    #[tactic(auto, unfolding(ft_grammar::specs::Rules::is_name))]
     pub fn sees_name(&self) -> bool
         ensures { result ≡ is_name (kind_of self.now) }
     {
@@ -116,7 +114,7 @@ impl<'a> Cursor<'a> {
     }
 
     /// Whether a token other than the end is next.
-    #[tactic(auto, unfolding(crate::specs::Forms::is_no_end))]
+    #[tactic(auto, unfolding(ft_grammar::specs::Forms::is_no_end))]
     pub fn sees_no_end(&self) -> bool
         ensures { result ≡ is_no_end (kind_of self.now) }
     {
@@ -154,7 +152,7 @@ impl<'a> Cursor<'a> {
     }
 
     /// Whether an atom among the expressions is next.
-    #[tactic(auto, unfolding(crate::specs::Forms::begins_atom))]
+    #[tactic(auto, unfolding(ft_grammar::specs::Forms::begins_atom))]
     pub fn sees_atom(&self) -> bool
         ensures { result ≡ begins_atom (kind_of self.now) }
     {
@@ -170,7 +168,7 @@ impl<'a> Cursor<'a> {
     }
 
     /// Whether an atom among the patterns is next.
-    #[tactic(auto, unfolding(crate::specs::Forms::begins_pattern_atom))]
+    #[tactic(auto, unfolding(ft_grammar::specs::Forms::begins_pattern_atom))]
     pub fn sees_pattern_atom(&self) -> bool
         ensures { result ≡ begins_pattern_atom (kind_of self.now) }
     {
@@ -186,28 +184,28 @@ impl<'a> Cursor<'a> {
     }
 
     /// Whether a word is next that stands before one atom.
-    #[tactic(auto, unfolding(crate::specs::Forms::begins_one))]
+    #[tactic(auto, unfolding(ft_grammar::specs::Forms::begins_one))]
     pub fn sees_one_form(&self) -> bool
         ensures { result ≡ begins_one (kind_of self.now) }
     {
         match self.rest {
             [] => false,
             [t, ..] => match &t.kind {
-                Kind::Word(word) => OneForm::of(*word).is_some(),
+                Kind::Word(word) => one_form(*word).is_some(),
                 _ => false,
             },
         }
     }
 
     /// Whether a word is next that stands before two atoms.
-    #[tactic(auto, unfolding(crate::specs::Forms::begins_two))]
+    #[tactic(auto, unfolding(ft_grammar::specs::Forms::begins_two))]
     pub fn sees_two_form(&self) -> bool
         ensures { result ≡ begins_two (kind_of self.now) }
     {
         match self.rest {
             [] => false,
             [t, ..] => match &t.kind {
-                Kind::Word(word) => TwoForm::of(*word).is_some(),
+                Kind::Word(word) => two_form(*word).is_some(),
                 _ => false,
             },
         }
@@ -227,7 +225,7 @@ impl<'a> Cursor<'a> {
     }
 
     /// Goes past that word.
-    #[tactic(auto, unfolding(crate::specs::Reading::read_word, crate::specs::Rules::exactly))]
+    #[tactic(auto, unfolding(ft_grammar::specs::Reading::read_word, ft_grammar::specs::Rules::exactly))]
     pub fn expect_word(&mut self, word: Word) -> Result<(), SyntaxFault>
         ensures { Reads (spec.read_word (exactly word) self.old) result self.new }
     {
@@ -248,7 +246,7 @@ impl<'a> Cursor<'a> {
     }
 
     /// Goes past that mark.
-    #[tactic(auto, unfolding(crate::specs::Reading::read_mark))]
+    #[tactic(auto, unfolding(ft_grammar::specs::Reading::read_mark))]
     pub fn expect_mark(&mut self, mark: Mark) -> Result<(), SyntaxFault>
         ensures { Reads (spec.read_mark mark self.old) result self.new }
     {
@@ -261,7 +259,7 @@ impl<'a> Cursor<'a> {
     }
 
     /// The name that is next.
-    #[tactic(auto, unfolding(crate::specs::Reading::read_name))]
+    #[tactic(auto, unfolding(ft_grammar::specs::Reading::read_name))]
     pub fn name(&mut self) -> Result<Named, SyntaxFault>
         ensures { Reads (spec.read_name self.old) result self.new }
     {
@@ -279,7 +277,7 @@ impl<'a> Cursor<'a> {
     }
 
     /// The number that is next.
-    #[tactic(auto, unfolding(crate::specs::Reading::read_number))]
+    #[tactic(auto, unfolding(ft_grammar::specs::Reading::read_number))]
     pub fn number(&mut self) -> Result<u64, SyntaxFault>
         ensures { Reads (spec.read_number self.old) result self.new }
     {

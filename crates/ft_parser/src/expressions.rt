@@ -1,13 +1,12 @@
 //! What the rules for expressions share.
 
 ghost use Rattle.std.specs.Prelude.{◌≡◌, IfOk, OnOk, [], ◌∷◌, ◌++◌};
-ghost use Rattle.ft_parser.specs.Rules.{expression};
-ghost use Rattle.ft_parser.specs.Reading.{Reads, level};
+ghost use Rattle.ft_grammar.specs.Rules.{expression};
+ghost use Rattle.ft_grammar.specs.Reading.{Reads, level};
 ghost use Rattle.ft_parser.specs.Nests.{Nests};
 
 use crate::cursor::Cursor;
-use crate::fault::SyntaxFault;
-use crate::syntax::Ast;
+use ft_grammar::{Ast, SyntaxFault};
 use sqlite_items::{Boxed, Items};
 use std::alloc::{AllocError, Global};
 

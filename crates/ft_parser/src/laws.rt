@@ -1,12 +1,12 @@
 //! Laws of the grammar.
 
 ghost use Rattle.std.specs.Prelude.{◌≡◌, ℕ, List, Ok, Err};
-ghost use Rattle.ft_lexer.specs.declared.token.Token.{Token as AnyToken};
-ghost use Rattle.ft_parser.specs.declared.syntax.Command.{Command as AnyCommand};
-ghost use Rattle.ft_parser.specs.Grammar.{IsSource, nesting};
-ghost use Rattle.ft_parser.specs.Sources.{IsClosed, IsFirstTooNested, IsFirstUnexpected};
-ghost use Rattle.ft_parser.specs.Reading.{parse};
-ghost use Rattle.ft_parser.specs.declared.fault.SyntaxFault.TheVariants.{TooNested, Unexpected};
+ghost use Rattle.ft_grammar.specs.declared.token.Token.{Token as AnyToken};
+ghost use Rattle.ft_grammar.specs.declared.syntax.Command.{Command as AnyCommand};
+ghost use Rattle.ft_grammar.specs.Grammar.{IsSource, nesting};
+ghost use Rattle.ft_grammar.specs.Sources.{IsClosed, IsFirstTooNested, IsFirstUnexpected};
+ghost use Rattle.ft_grammar.specs.Reading.{parse};
+ghost use Rattle.ft_grammar.specs.declared.fault.SyntaxFault.TheVariants.{TooNested, Unexpected};
 
 /// A list of tokens has at most one list of commands, whatever the nesting that is allowed.
 pub fn one_tree()

@@ -1,24 +1,22 @@
 //! Reading expressions with cases.
 
 ghost use Rattle.std.specs.Prelude.{◌≡◌, length};
-ghost use Rattle.ft_lexer.specs.declared.token.Mark.TheVariants.{Bar};
-ghost use Rattle.ft_parser.specs.Rules.{expression, is_mark};
-ghost use Rattle.ft_parser.specs.Grammar as rule;
-ghost use Rattle.ft_parser.specs.Reading.{Reads, read, more_from, level};
+ghost use Rattle.ft_grammar.specs.declared.token.Mark.TheVariants.{Bar};
+ghost use Rattle.ft_grammar.specs.Rules.{expression, is_mark};
+ghost use Rattle.ft_grammar.specs.Grammar as rule;
+ghost use Rattle.ft_grammar.specs.Reading.{Reads, read, more_from, level};
 ghost use Rattle.ft_parser.specs.Nests.{Nests};
 
 use crate::cursor::Cursor;
 use crate::expressions::{Expressions, single};
-use crate::fault::SyntaxFault;
 use crate::patterns::nested_pattern;
-use crate::syntax::{Ast, Case, OpCase, ValCase};
 use ft_base::Word;
-use ft_lexer::Mark;
+use ft_grammar::{Ast, Case, Mark, OpCase, SyntaxFault, ValCase};
 use sqlite_items::{Boxed, Items};
 use std::alloc::Global;
 
 impl<F: Fn(Global, &mut Cursor<'_>, usize) -> Result<Boxed<Ast>, SyntaxFault>> Expressions<F> {
-    #[tactic(auto, unfolding(crate::specs::Grammar::case))]
+    #[tactic(auto, unfolding(ft_grammar::specs::Grammar::case))]
     fn case(&self, tokens: &mut Cursor<'_>) -> Result<Case, SyntaxFault>
         requires { Nests expression self.now.depth (F.pre self.now.nested) (F.post self.now.nested) }
         ensures { Reads (read (level self.now.depth) rule.case tokens.old) result tokens.new }
@@ -50,7 +48,7 @@ impl<F: Fn(Global, &mut Cursor<'_>, usize) -> Result<Boxed<Ast>, SyntaxFault>> E
         Ok(found)
     }
 
-    #[tactic(auto, unfolding(crate::specs::Grammar::match_with))]
+    #[tactic(auto, unfolding(ft_grammar::specs::Grammar::match_with))]
     pub fn match_with(&self, tokens: &mut Cursor<'_>) -> Result<Boxed<Ast>, SyntaxFault>
         requires { Nests expression self.now.depth (F.pre self.now.nested) (F.post self.now.nested) }
         ensures { Reads (read (level self.now.depth) rule.match_with tokens.old) result tokens.new }
@@ -66,7 +64,7 @@ impl<F: Fn(Global, &mut Cursor<'_>, usize) -> Result<Boxed<Ast>, SyntaxFault>> E
     }
 
     // A case for an operation, after its bar.
-    #[tactic(auto, unfolding(crate::specs::Grammar::operation_body))]
+    #[tactic(auto, unfolding(ft_grammar::specs::Grammar::operation_body))]
     fn operation_body(&self, tokens: &mut Cursor<'_>, at: u64) -> Result<OpCase, SyntaxFault>
         requires { Nests expression self.now.depth (F.pre self.now.nested) (F.post self.now.nested) }
         ensures { Reads (read (level self.now.depth) (rule.operation_body at) tokens.old) result tokens.new }
@@ -83,7 +81,7 @@ impl<F: Fn(Global, &mut Cursor<'_>, usize) -> Result<Boxed<Ast>, SyntaxFault>> E
         })
     }
 
-    #[tactic(auto, unfolding(crate::specs::Grammar::operation_case))]
+    #[tactic(auto, unfolding(ft_grammar::specs::Grammar::operation_case))]
     fn operation_case(&self, tokens: &mut Cursor<'_>) -> Result<OpCase, SyntaxFault>
         requires { Nests expression self.now.depth (F.pre self.now.nested) (F.post self.now.nested) }
         ensures { Reads (read (level self.now.depth) rule.operation_case tokens.old) result tokens.new }
@@ -113,7 +111,7 @@ impl<F: Fn(Global, &mut Cursor<'_>, usize) -> Result<Boxed<Ast>, SyntaxFault>> E
     }
 
     // The case for the value, after its bar.
-    #[tactic(auto, unfolding(crate::specs::Grammar::value_body))]
+    #[tactic(auto, unfolding(ft_grammar::specs::Grammar::value_body))]
     fn value_body(&self, tokens: &mut Cursor<'_>, at: u64) -> Result<ValCase, SyntaxFault>
         requires { Nests expression self.now.depth (F.pre self.now.nested) (F.post self.now.nested) }
         ensures { Reads (read (level self.now.depth) (rule.value_body at) tokens.old) result tokens.new }
@@ -126,7 +124,7 @@ impl<F: Fn(Global, &mut Cursor<'_>, usize) -> Result<Boxed<Ast>, SyntaxFault>> E
     }
 
     // The cases of a handle: the first one may be that for the value.
-    #[tactic(auto, unfolding(crate::specs::Grammar::handle_cases))]
+    #[tactic(auto, unfolding(ft_grammar::specs::Grammar::handle_cases))]
     fn handle_cases(
         &self,
         tokens: &mut Cursor<'_>,
@@ -150,7 +148,7 @@ impl<F: Fn(Global, &mut Cursor<'_>, usize) -> Result<Boxed<Ast>, SyntaxFault>> E
         }
     }
 
-    #[tactic(auto, unfolding(crate::specs::Grammar::handle_with))]
+    #[tactic(auto, unfolding(ft_grammar::specs::Grammar::handle_with))]
     pub fn handle_with(&self, tokens: &mut Cursor<'_>) -> Result<Boxed<Ast>, SyntaxFault>
         requires { Nests expression self.now.depth (F.pre self.now.nested) (F.post self.now.nested) }
         ensures { Reads (read (level self.now.depth) rule.handle_with tokens.old) result tokens.new }

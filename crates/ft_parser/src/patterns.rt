@@ -1,17 +1,15 @@
 //! Reading patterns.
 
 ghost use Rattle.std.specs.Prelude.{◌≡◌, [], suc, length};
-ghost use Rattle.ft_parser.specs.Forms as form;
-ghost use Rattle.ft_parser.specs.Rules.{pattern};
-ghost use Rattle.ft_parser.specs.Grammar as rule;
-ghost use Rattle.ft_parser.specs.Reading.{Reads, read, read_word, more_from, level};
+ghost use Rattle.ft_grammar.specs.Forms as form;
+ghost use Rattle.ft_grammar.specs.Rules.{pattern};
+ghost use Rattle.ft_grammar.specs.Grammar as rule;
+ghost use Rattle.ft_grammar.specs.Reading.{Reads, read, read_word, more_from, level};
 ghost use Rattle.ft_parser.specs.Nests.{Nests};
 
 use crate::cursor::Cursor;
-use crate::fault::SyntaxFault;
-use crate::syntax::Pattern;
 use ft_base::Word;
-use ft_lexer::Mark;
+use ft_grammar::{Mark, Pattern, SyntaxFault};
 use sqlite_items::{Boxed, Items};
 use std::alloc::Global;
 
@@ -31,7 +29,7 @@ impl<F: Fn(Global, &mut Cursor<'_>, usize) -> Result<Pattern, SyntaxFault>> Patt
         (self.nested)(self.alloc, tokens, self.depth)
     }
 
-    #[tactic(auto, unfolding(crate::specs::Grammar::parenthesized_pattern))]
+    #[tactic(auto, unfolding(ft_grammar::specs::Grammar::parenthesized_pattern))]
     fn parenthesized_pattern(&self, tokens: &mut Cursor<'_>) -> Result<Pattern, SyntaxFault>
         requires { Nests pattern self.now.depth (F.pre self.now.nested) (F.post self.now.nested) }
         ensures { Reads (read (level self.now.depth) rule.parenthesized_pattern tokens.old) result tokens.new }
@@ -58,7 +56,7 @@ impl<F: Fn(Global, &mut Cursor<'_>, usize) -> Result<Pattern, SyntaxFault>> Patt
         }
     }
 
-    #[tactic(auto, unfolding(crate::specs::Grammar::atomic_pattern))]
+    #[tactic(auto, unfolding(ft_grammar::specs::Grammar::atomic_pattern))]
     fn atomic_pattern(&self, tokens: &mut Cursor<'_>) -> Result<Pattern, SyntaxFault>
         requires { Nests pattern self.now.depth (F.pre self.now.nested) (F.post self.now.nested) }
         ensures { Reads (read (level self.now.depth) rule.atomic_pattern tokens.old) result tokens.new }
@@ -77,7 +75,7 @@ impl<F: Fn(Global, &mut Cursor<'_>, usize) -> Result<Pattern, SyntaxFault>> Patt
         }
     }
 
-    #[tactic(auto, unfolding(crate::specs::Grammar::some_pattern))]
+    #[tactic(auto, unfolding(ft_grammar::specs::Grammar::some_pattern))]
     fn some_pattern(&self, tokens: &mut Cursor<'_>) -> Result<Pattern, SyntaxFault>
         requires { Nests pattern self.now.depth (F.pre self.now.nested) (F.post self.now.nested) }
         ensures { Reads (read (level self.now.depth) rule.some_pattern tokens.old) result tokens.new }
@@ -88,7 +86,7 @@ impl<F: Fn(Global, &mut Cursor<'_>, usize) -> Result<Pattern, SyntaxFault>> Patt
         Ok(Pattern::SomeWord(at, Boxed::new(self.alloc, inside)?))
     }
 
-    #[tactic(auto, unfolding(crate::specs::Reading::more_from))]
+    #[tactic(auto, unfolding(ft_grammar::specs::Reading::more_from))]
     fn atomic_patterns(&self, tokens: &mut Cursor<'_>) -> Result<Items<Pattern>, SyntaxFault>
         requires { Nests pattern self.now.depth (F.pre self.now.nested) (F.post self.now.nested) }
         ensures { Reads (more_from form.begins_pattern_atom (read (level self.now.depth) rule.atomic_pattern) (length tokens.old) [] tokens.old) result tokens.new }
@@ -103,7 +101,7 @@ impl<F: Fn(Global, &mut Cursor<'_>, usize) -> Result<Pattern, SyntaxFault>> Patt
         Ok(found)
     }
 
-    #[tactic(auto, unfolding(crate::specs::Grammar::symbol_pattern))]
+    #[tactic(auto, unfolding(ft_grammar::specs::Grammar::symbol_pattern))]
     fn symbol_pattern(&self, tokens: &mut Cursor<'_>) -> Result<Pattern, SyntaxFault>
         requires { Nests pattern self.now.depth (F.pre self.now.nested) (F.post self.now.nested) }
         ensures { Reads (read (level self.now.depth) rule.symbol_pattern tokens.old) result tokens.new }
@@ -115,7 +113,7 @@ impl<F: Fn(Global, &mut Cursor<'_>, usize) -> Result<Pattern, SyntaxFault>> Patt
         Ok(Pattern::Symbol(at, name, parts))
     }
 
-    #[tactic(auto, unfolding(crate::specs::Grammar::list_pattern))]
+    #[tactic(auto, unfolding(ft_grammar::specs::Grammar::list_pattern))]
     fn list_pattern(&self, tokens: &mut Cursor<'_>) -> Result<Pattern, SyntaxFault>
         requires { Nests pattern self.now.depth (F.pre self.now.nested) (F.post self.now.nested) }
         ensures { Reads (read (level self.now.depth) rule.list_pattern tokens.old) result tokens.new }
@@ -135,7 +133,7 @@ impl<F: Fn(Global, &mut Cursor<'_>, usize) -> Result<Pattern, SyntaxFault>> Patt
         }
     }
 
-    #[tactic(auto, unfolding(crate::specs::Reading::level, crate::specs::Grammar::any_pattern))]
+    #[tactic(auto, unfolding(ft_grammar::specs::Reading::level, ft_grammar::specs::Grammar::any_pattern))]
     fn level(&self, tokens: &mut Cursor<'_>) -> Result<Pattern, SyntaxFault>
         requires { Nests pattern self.now.depth (F.pre self.now.nested) (F.post self.now.nested) }
         ensures { Reads (level (suc self.now.depth) pattern tokens.old) result tokens.new }
@@ -151,7 +149,7 @@ impl<F: Fn(Global, &mut Cursor<'_>, usize) -> Result<Pattern, SyntaxFault>> Patt
 }
 
 // The pattern that a word is by itself.
-#[tactic(auto, unfolding(crate::specs::Forms::word_pattern))]
+#[tactic(auto, unfolding(ft_grammar::specs::Forms::word_pattern))]
 fn word_pattern_of(at: u64, word: Word) -> Option<Pattern>
     ensures { result ≡ form.word_pattern at word }
 {
@@ -164,7 +162,7 @@ fn word_pattern_of(at: u64, word: Word) -> Option<Pattern>
     }
 }
 
-#[tactic(auto, using(crate::proofs::WordValues::word_there, crate::proofs::WordValues::no_word), unfolding(crate::specs::Reading::read_word))]
+#[tactic(auto, using(crate::proofs::WordValues::word_there, crate::proofs::WordValues::no_word), unfolding(ft_grammar::specs::Reading::read_word))]
 fn word_pattern(tokens: &mut Cursor<'_>, at: u64) -> Result<Pattern, SyntaxFault>
     ensures { Reads (read_word (form.word_pattern at) tokens.old) result tokens.new }
 {

@@ -1,23 +1,22 @@
 //! Reading premises and conclusions.
 
 ghost use Rattle.std.specs.Prelude.{◌≡◌, [], length};
-ghost use Rattle.ft_lexer.specs.declared.token.Mark.TheVariants.{LeftBrace, LeftParen};
-ghost use Rattle.ft_parser.specs.Rules.{expression, is_mark};
-ghost use Rattle.ft_parser.specs.Grammar as rule;
-ghost use Rattle.ft_parser.specs.Grammar.{nesting};
-ghost use Rattle.ft_parser.specs.Reading.{Reads, read, more_from, level};
+ghost use Rattle.ft_grammar.specs.declared.token.Mark.TheVariants.{LeftBrace, LeftParen};
+ghost use Rattle.ft_grammar.specs.Rules.{expression, is_mark};
+ghost use Rattle.ft_grammar.specs.Grammar as rule;
+ghost use Rattle.ft_grammar.specs.Grammar.{nesting};
+ghost use Rattle.ft_grammar.specs.Reading.{Reads, read, more_from, level};
 
 use crate::computations::nested_expression;
 use crate::cursor::Cursor;
-use crate::fault::SyntaxFault;
-use crate::syntax::{Ast, Binder, Body, Conclusion, Premise};
 use ft_base::Word;
-use ft_lexer::Mark;
+use ft_base::limits::MAX_NESTING;
+use ft_grammar::{Ast, Binder, Body, Conclusion, Mark, Premise, SyntaxFault};
 use sqlite_items::{Boxed, Items};
 use std::alloc::Global;
 
 /// The deepest nesting of the parts of a source.
-pub const NESTING: usize = 200;
+pub const NESTING: usize = MAX_NESTING as usize;
 
 /// An expression that stands in no other part.
 pub fn outer_expression(alloc: Global, tokens: &mut Cursor<'_>) -> Result<Boxed<Ast>, SyntaxFault>
@@ -26,7 +25,7 @@ pub fn outer_expression(alloc: Global, tokens: &mut Cursor<'_>) -> Result<Boxed<
     nested_expression(alloc, tokens, NESTING)
 }
 
-#[tactic(auto, unfolding(crate::specs::Grammar::binder))]
+#[tactic(auto, unfolding(ft_grammar::specs::Grammar::binder))]
 fn binder(alloc: Global, tokens: &mut Cursor<'_>) -> Result<Binder, SyntaxFault>
     ensures { Reads (read (level nesting) rule.binder tokens.old) result tokens.new }
 {
@@ -57,7 +56,7 @@ fn binders(alloc: Global, tokens: &mut Cursor<'_>) -> Result<Items<Binder>, Synt
     Ok(found)
 }
 
-#[tactic(auto, unfolding(crate::specs::Grammar::type_body))]
+#[tactic(auto, unfolding(ft_grammar::specs::Grammar::type_body))]
 fn type_body(alloc: Global, tokens: &mut Cursor<'_>) -> Result<Boxed<Body>, SyntaxFault>
     ensures { Reads (read (level nesting) rule.type_body tokens.old) result tokens.new }
 {
@@ -67,7 +66,7 @@ fn type_body(alloc: Global, tokens: &mut Cursor<'_>) -> Result<Boxed<Body>, Synt
     Ok(Boxed::new(alloc, Body::Type(at, name))?)
 }
 
-#[tactic(auto, unfolding(crate::specs::Grammar::term_body))]
+#[tactic(auto, unfolding(ft_grammar::specs::Grammar::term_body))]
 fn term_body(alloc: Global, tokens: &mut Cursor<'_>) -> Result<Boxed<Body>, SyntaxFault>
     ensures { Reads (read (level nesting) rule.term_body tokens.old) result tokens.new }
 {
@@ -79,7 +78,7 @@ fn term_body(alloc: Global, tokens: &mut Cursor<'_>) -> Result<Boxed<Body>, Synt
 }
 
 // The type of an equation, where it is given.
-#[tactic(auto, unfolding(crate::specs::Grammar::equation_type))]
+#[tactic(auto, unfolding(ft_grammar::specs::Grammar::equation_type))]
 fn equation_type(alloc: Global, tokens: &mut Cursor<'_>) -> Result<Option<Boxed<Ast>>, SyntaxFault>
     ensures { Reads (read (level nesting) rule.equation_type tokens.old) result tokens.new }
 {
@@ -101,7 +100,7 @@ fn unboxed(e: Option<Boxed<Ast>>) -> Option<Ast>
     }
 }
 
-#[tactic(auto, unfolding(crate::specs::Grammar::equation_body))]
+#[tactic(auto, unfolding(ft_grammar::specs::Grammar::equation_body))]
 fn equation_body(alloc: Global, tokens: &mut Cursor<'_>) -> Result<Boxed<Body>, SyntaxFault>
     ensures { Reads (read (level nesting) rule.equation_body tokens.old) result tokens.new }
 {
@@ -123,7 +122,7 @@ fn equation_body(alloc: Global, tokens: &mut Cursor<'_>) -> Result<Boxed<Body>, 
 }
 
 // What a premise asks for; binders belong to the premise.
-#[tactic(auto, unfolding(crate::specs::Grammar::any_body))]
+#[tactic(auto, unfolding(ft_grammar::specs::Grammar::any_body))]
 fn any_body(alloc: Global, tokens: &mut Cursor<'_>) -> Result<Boxed<Body>, SyntaxFault>
     ensures { Reads (read (level nesting) rule.any_body tokens.old) result tokens.new }
 {
@@ -138,7 +137,7 @@ fn any_body(alloc: Global, tokens: &mut Cursor<'_>) -> Result<Boxed<Body>, Synta
     }
 }
 
-#[tactic(auto, unfolding(crate::specs::Grammar::premise))]
+#[tactic(auto, unfolding(ft_grammar::specs::Grammar::premise))]
 fn premise(alloc: Global, tokens: &mut Cursor<'_>) -> Result<Premise, SyntaxFault>
     ensures { Reads (read (level nesting) rule.premise tokens.old) result tokens.new }
 {
@@ -168,7 +167,7 @@ pub fn premises(alloc: Global, tokens: &mut Cursor<'_>) -> Result<Items<Premise>
     Ok(found)
 }
 
-#[tactic(auto, unfolding(crate::specs::Grammar::type_conclusion))]
+#[tactic(auto, unfolding(ft_grammar::specs::Grammar::type_conclusion))]
 fn type_conclusion(tokens: &mut Cursor<'_>) -> Result<Conclusion, SyntaxFault>
     ensures { Reads (read (level nesting) rule.type_conclusion tokens.old) result tokens.new }
 {
@@ -177,7 +176,7 @@ fn type_conclusion(tokens: &mut Cursor<'_>) -> Result<Conclusion, SyntaxFault>
     Ok(Conclusion::Type(at))
 }
 
-#[tactic(auto, unfolding(crate::specs::Grammar::term_conclusion))]
+#[tactic(auto, unfolding(ft_grammar::specs::Grammar::term_conclusion))]
 fn term_conclusion(alloc: Global, tokens: &mut Cursor<'_>) -> Result<Conclusion, SyntaxFault>
     ensures { Reads (read (level nesting) rule.term_conclusion tokens.old) result tokens.new }
 {
@@ -194,7 +193,7 @@ fn term_conclusion(alloc: Global, tokens: &mut Cursor<'_>) -> Result<Conclusion,
     }
 }
 
-#[tactic(auto, unfolding(crate::specs::Grammar::any_conclusion))]
+#[tactic(auto, unfolding(ft_grammar::specs::Grammar::any_conclusion))]
 pub fn any_conclusion(alloc: Global, tokens: &mut Cursor<'_>) -> Result<Conclusion, SyntaxFault>
     ensures { Reads (read (level nesting) rule.any_conclusion tokens.old) result tokens.new }
 {

@@ -1,19 +1,17 @@
 //! Reading a whole source.
 
 ghost use Rattle.std.specs.Prelude.{◌≡◌, ◌≢◌, ℕ, List, IfOk, IfErr, IsErrOf, IsTrue};
-ghost use Rattle.ft_lexer.specs.Made.{is_ended};
-ghost use Rattle.ft_parser.specs.Grammar.{IsSource, nesting};
-ghost use Rattle.ft_parser.specs.Reading as spec;
-ghost use Rattle.ft_parser.specs.Reading.{ReadsAll};
-ghost use Rattle.ft_parser.specs.Sources.{IsFirstTooNested, IsFirstUnexpected};
-ghost use Rattle.ft_parser.specs.declared.fault.SyntaxFault.TheVariants.{Memory, TooNested, Unexpected};
-ghost use Rattle.ft_parser.specs.declared.syntax.Command.{Command as AnyCommand};
+ghost use Rattle.ft_grammar.specs.Made.{is_ended};
+ghost use Rattle.ft_grammar.specs.Grammar.{IsSource, nesting};
+ghost use Rattle.ft_grammar.specs.Reading as spec;
+ghost use Rattle.ft_grammar.specs.Reading.{ReadsAll};
+ghost use Rattle.ft_grammar.specs.Sources.{IsFirstTooNested, IsFirstUnexpected};
+ghost use Rattle.ft_grammar.specs.declared.fault.SyntaxFault.TheVariants.{Memory, TooNested, Unexpected};
+ghost use Rattle.ft_grammar.specs.declared.syntax.Command.{Command as AnyCommand};
 
 use crate::commands::commands;
 use crate::cursor::Cursor;
-use crate::fault::SyntaxFault;
-use crate::syntax::Command;
-use ft_lexer::Token;
+use ft_grammar::{Command, SyntaxFault, Token};
 use std::alloc::Global;
 
 /// The commands of a source, by its tokens. `Unexpected` names the first token with which no source goes on at any nesting, and
@@ -29,7 +27,7 @@ pub fn parse(alloc: Global, tokens: &[Token]) -> Result<Vec<Command>, SyntaxFaul
     read_source(alloc, tokens)
 }
 
-#[tactic(auto, unfolding(crate::specs::Reading::parse))]
+#[tactic(auto, unfolding(ft_grammar::specs::Reading::parse))]
 fn read_source(alloc: Global, tokens: &[Token]) -> Result<Vec<Command>, SyntaxFault>
     ensures { ReadsAll (spec.parse tokens.now) result (λ found. found.items) }
 {

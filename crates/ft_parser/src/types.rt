@@ -1,17 +1,15 @@
 //! Reading types.
 
 ghost use Rattle.std.specs.Prelude.{◌≡◌, suc};
-ghost use Rattle.ft_parser.specs.Forms as form;
-ghost use Rattle.ft_parser.specs.Rules.{type, type_atom};
-ghost use Rattle.ft_parser.specs.Grammar as rule;
-ghost use Rattle.ft_parser.specs.Reading.{Reads, read, read_word, level, type_level};
+ghost use Rattle.ft_grammar.specs.Forms as form;
+ghost use Rattle.ft_grammar.specs.Rules.{type, type_atom};
+ghost use Rattle.ft_grammar.specs.Grammar as rule;
+ghost use Rattle.ft_grammar.specs.Reading.{Reads, read, read_word, level, type_level};
 ghost use Rattle.ft_parser.specs.Nests.{NestsTypes};
 
 use crate::cursor::Cursor;
-use crate::fault::SyntaxFault;
-use crate::syntax::AmlType;
 use ft_base::Word;
-use ft_lexer::Mark;
+use ft_grammar::{AmlType, Mark, SyntaxFault};
 use sqlite_items::Boxed;
 use std::alloc::Global;
 
@@ -31,7 +29,7 @@ impl<F: Fn(Global, &mut Cursor<'_>, usize, bool) -> Result<AmlType, SyntaxFault>
         (self.nested)(self.alloc, tokens, self.depth, product)
     }
 
-    #[tactic(auto, unfolding(crate::specs::Grammar::list_type))]
+    #[tactic(auto, unfolding(ft_grammar::specs::Grammar::list_type))]
     fn list_type(&self, tokens: &mut Cursor<'_>) -> Result<AmlType, SyntaxFault>
         requires { NestsTypes self.now.depth (F.pre self.now.nested) (F.post self.now.nested) }
         ensures { Reads (read (level self.now.depth) rule.list_type tokens.old) result tokens.new }
@@ -41,7 +39,7 @@ impl<F: Fn(Global, &mut Cursor<'_>, usize, bool) -> Result<AmlType, SyntaxFault>
         Ok(AmlType::List(Boxed::new(self.alloc, item)?))
     }
 
-    #[tactic(auto, unfolding(crate::specs::Grammar::option_type))]
+    #[tactic(auto, unfolding(ft_grammar::specs::Grammar::option_type))]
     fn option_type(&self, tokens: &mut Cursor<'_>) -> Result<AmlType, SyntaxFault>
         requires { NestsTypes self.now.depth (F.pre self.now.nested) (F.post self.now.nested) }
         ensures { Reads (read (level self.now.depth) rule.option_type tokens.old) result tokens.new }
@@ -51,7 +49,7 @@ impl<F: Fn(Global, &mut Cursor<'_>, usize, bool) -> Result<AmlType, SyntaxFault>
         Ok(AmlType::Opt(Boxed::new(self.alloc, item)?))
     }
 
-    #[tactic(auto, unfolding(crate::specs::Grammar::parenthesized_type))]
+    #[tactic(auto, unfolding(ft_grammar::specs::Grammar::parenthesized_type))]
     fn parenthesized_type(&self, tokens: &mut Cursor<'_>) -> Result<AmlType, SyntaxFault>
         requires { NestsTypes self.now.depth (F.pre self.now.nested) (F.post self.now.nested) }
         ensures { Reads (read (level self.now.depth) rule.parenthesized_type tokens.old) result tokens.new }
@@ -62,7 +60,7 @@ impl<F: Fn(Global, &mut Cursor<'_>, usize, bool) -> Result<AmlType, SyntaxFault>
         Ok(inside)
     }
 
-    #[tactic(auto, unfolding(crate::specs::Grammar::atomic_type))]
+    #[tactic(auto, unfolding(ft_grammar::specs::Grammar::atomic_type))]
     fn atomic_type(&self, tokens: &mut Cursor<'_>) -> Result<AmlType, SyntaxFault>
         requires { NestsTypes self.now.depth (F.pre self.now.nested) (F.post self.now.nested) }
         ensures { Reads (read (level self.now.depth) rule.atomic_type tokens.old) result tokens.new }
@@ -78,7 +76,7 @@ impl<F: Fn(Global, &mut Cursor<'_>, usize, bool) -> Result<AmlType, SyntaxFault>
         }
     }
 
-    #[tactic(auto, unfolding(crate::specs::Grammar::any_type))]
+    #[tactic(auto, unfolding(ft_grammar::specs::Grammar::any_type))]
     fn any_type(&self, tokens: &mut Cursor<'_>) -> Result<AmlType, SyntaxFault>
         requires { NestsTypes self.now.depth (F.pre self.now.nested) (F.post self.now.nested) }
         ensures { Reads (read (level self.now.depth) rule.any_type tokens.old) result tokens.new }
@@ -96,7 +94,7 @@ impl<F: Fn(Global, &mut Cursor<'_>, usize, bool) -> Result<AmlType, SyntaxFault>
         }
     }
 
-    #[tactic(auto, unfolding(crate::specs::Reading::level))]
+    #[tactic(auto, unfolding(ft_grammar::specs::Reading::level))]
     fn level(&self, tokens: &mut Cursor<'_>, product: bool) -> Result<AmlType, SyntaxFault>
         requires { NestsTypes self.now.depth (F.pre self.now.nested) (F.post self.now.nested) }
         ensures { Reads (type_level (suc self.now.depth) product tokens.old) result tokens.new }
@@ -110,7 +108,7 @@ impl<F: Fn(Global, &mut Cursor<'_>, usize, bool) -> Result<AmlType, SyntaxFault>
 }
 
 // The type that a word is by itself.
-#[tactic(auto, unfolding(crate::specs::Forms::plain_type))]
+#[tactic(auto, unfolding(ft_grammar::specs::Forms::plain_type))]
 fn plain_type_of(word: Word) -> Option<AmlType>
     ensures { result ≡ form.plain_type word }
 {
@@ -123,7 +121,7 @@ fn plain_type_of(word: Word) -> Option<AmlType>
     }
 }
 
-#[tactic(auto, using(crate::proofs::WordValues::word_there, crate::proofs::WordValues::no_word), unfolding(crate::specs::Reading::read_word))]
+#[tactic(auto, using(crate::proofs::WordValues::word_there, crate::proofs::WordValues::no_word), unfolding(ft_grammar::specs::Reading::read_word))]
 fn plain_type(tokens: &mut Cursor<'_>) -> Result<AmlType, SyntaxFault>
     ensures { Reads (read_word form.plain_type tokens.old) result tokens.new }
 {

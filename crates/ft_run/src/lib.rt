@@ -9,8 +9,6 @@ mod given;
 mod judging;
 mod running;
 mod session;
-#[cfg(test)]
-mod tests;
 mod texts;
 
 pub use running::run;

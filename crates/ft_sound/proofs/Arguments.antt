@@ -1,36 +1,27 @@
 -- Theses that fit the premises are the arguments that the steps of derivability ask for.
 use Rattle.std.proofs.Common.{◌≡◌, ℕ, zero, suc, Bool, true, false, cond, ◌&&◌, Option, List, [], ◌∷◌, refl, sym, ap, ap₂, ◌∙◌, subst}
+use Rattle.std.proofs.lemmas.Bool.{and_parts}
+use Rattle.ft_common.proofs.Booleans.{false_true}
 use Rattle.ft_theory.specs.Expressions.{Expression, bound, free, Arguments, with_body, dummy, act}
-use Rattle.ft_theory.specs.Statements.{Claim, is_type, has_type, equal_types, equal_terms, type_goal, term_goal, type_equation_goal, term_equation_goal, Statement, plain, abstracted, map_claim, map_statement, act_statement, domain_count, fill, IsObjectGoal, IsEquationGoal, IsObject, IsEquation}
+use Rattle.ft_theory.specs.Statements.{Claim, term_goal, type_equation_goal, term_equation_goal, Statement, plain, abstracted, map_claim, map_statement, act_statement, domain_count, fill, IsObjectGoal, IsEquationGoal, IsObject, IsEquation}
 use Rattle.ft_theory.specs.Rules.{FitsPremises, filled_premises, equated_premises}
 use Rattle.ft_laws.proofs.Statements.{domain_count-map, fill_any}
 use Rattle.ft_items.specs.Equal.{has_head, head, right_head, fits, fit_all, heads, starts, start_all, right_heads}
-use Rattle.ft_items.proofs.SetLemmas.{wrong, both, by_bool}
+use Rattle.ft_items.proofs.SetLemmas.{by_bool}
 use Rattle.ft_sound.proofs.EqualLemmas.{fits_true, fits_depth, fits_object, fits_equation, starts_true}
 
 pub object_claim_unmap : (c : Claim) (f : Expression → Expression) → IsObjectGoal (map_claim f c) → IsObjectGoal c
-object_claim_unmap (is_type A) f o = o
-object_claim_unmap (has_type t A) f o = o
-object_claim_unmap (equal_types A B) f o = o
-object_claim_unmap (equal_terms s t A) f o = o
-object_claim_unmap type_goal f o = o
 object_claim_unmap (term_goal A) f o = tt
-object_claim_unmap (type_equation_goal A B) f o = o
-object_claim_unmap (term_equation_goal s t A) f o = o
+object_claim_unmap c f o = o
 
 pub object_unmap : (x : Statement) (f : ℕ → Expression → Expression) (k : ℕ) → IsObject (map_statement f k x) → IsObject x
 object_unmap (plain c) f k o = object_claim_unmap c (f k) o
 object_unmap (abstracted A x) f k o = object_unmap x f (suc k) o
 
 pub equation_claim_unmap : (c : Claim) (f : Expression → Expression) → IsEquationGoal (map_claim f c) → IsEquationGoal c
-equation_claim_unmap (is_type A) f o = o
-equation_claim_unmap (has_type t A) f o = o
-equation_claim_unmap (equal_types A B) f o = o
-equation_claim_unmap (equal_terms s t A) f o = o
-equation_claim_unmap type_goal f o = o
-equation_claim_unmap (term_goal A) f o = o
 equation_claim_unmap (type_equation_goal A B) f o = tt
 equation_claim_unmap (term_equation_goal s t A) f o = tt
+equation_claim_unmap c f o = o
 
 pub equation_unmap : (x : Statement) (f : ℕ → Expression → Expression) (k : ℕ) → IsEquation (map_statement f k x) → IsEquation x
 equation_unmap (plain c) f k o = equation_claim_unmap c (f k) o
@@ -53,10 +44,10 @@ AreArguments i ps xs a = FitsPremises ps a × (filled_premises i ps a ≡ xs)
 
 pub arguments_true : (i : ℕ → ℕ → Option Expression) (ps : List (ℕ × Statement)) (xs : List Statement) → fit_all (act_statement free i) ps xs ≡ true → AreArguments i ps xs (heads xs)
 arguments_true i [] [] h = (tt, refl)
-arguments_true i [] (x ∷ xs) h = wrong h
-arguments_true i (p ∷ ps) [] h = wrong h
+arguments_true i [] (x ∷ xs) h = false_true h
+arguments_true i (p ∷ ps) [] h = false_true h
 arguments_true i (p ∷ ps) (x ∷ xs) h =
-    let q : (fits x (act_statement free i p.1) ≡ true) × (fit_all (act_statement free i) ps xs ≡ true) = both (fits x (act_statement free i p.1)) (fit_all (act_statement free i) ps xs) h in
+    let q : (fits x (act_statement free i p.1) ≡ true) × (fit_all (act_statement free i) ps xs ≡ true) = and_parts (fits x (act_statement free i p.1)) (fit_all (act_statement free i) ps xs) h in
     go (has_head x) q.0 (fits_premise_object i p.1 x q.0) (fits_premise_equation i p.1 x q.0) (arguments_true i ps xs q.1)
   where
     go : (t : Bool) → fits x (act_statement free i p.1) ≡ true → (t ≡ true → IsObject p.1) → (t ≡ false → IsEquation p.1 × (x ≡ fill (act_statement free i p.1) (bound zero))) → AreArguments i ps xs (heads xs)
@@ -86,19 +77,19 @@ with_head i p ps x e xs b es f n s ih =
 
 pub equations_true : (i : ℕ → ℕ → Option Expression) (ps : List (ℕ × Statement)) (xs es : List Statement) → fit_all (act_statement free i) ps xs ≡ true → start_all xs es ≡ true → AreEqualArguments i ps xs es
 equations_true i [] [] [] h k = (tt, refl)
-equations_true i [] [] (e ∷ es) h k = wrong k
-equations_true i [] (x ∷ xs) es h k = wrong h
-equations_true i (p ∷ ps) [] es h k = wrong h
+equations_true i [] [] (e ∷ es) h k = false_true k
+equations_true i [] (x ∷ xs) es h k = false_true h
+equations_true i (p ∷ ps) [] es h k = false_true h
 equations_true i (p ∷ ps) (x ∷ xs) [] h k =
-    let q : (fits x (act_statement free i p.1) ≡ true) × (fit_all (act_statement free i) ps xs ≡ true) = both (fits x (act_statement free i p.1)) (fit_all (act_statement free i) ps xs) h in
+    let q : (fits x (act_statement free i p.1) ≡ true) × (fit_all (act_statement free i) ps xs ≡ true) = and_parts (fits x (act_statement free i p.1)) (fit_all (act_statement free i) ps xs) h in
     by_bool (AreEqualArguments i (p ∷ ps) (x ∷ xs) []) (has_head x)
-    (λ t. wrong (ap (λ b. cond b false (start_all xs [])) (sym t) ∙ k))
+    (λ t. false_true (ap (λ b. cond b false (start_all xs [])) (sym t) ∙ k))
     (λ t. no_head i p ps x xs (right_heads xs []) [] q.0 t (equations_true i ps xs [] q.1 (ap (λ b. cond b false (start_all xs [])) (sym t) ∙ k)))
 equations_true i (p ∷ ps) (x ∷ xs) (e ∷ es) h k =
-    let q : (fits x (act_statement free i p.1) ≡ true) × (fit_all (act_statement free i) ps xs ≡ true) = both (fits x (act_statement free i p.1)) (fit_all (act_statement free i) ps xs) h in
+    let q : (fits x (act_statement free i p.1) ≡ true) × (fit_all (act_statement free i) ps xs ≡ true) = and_parts (fits x (act_statement free i p.1)) (fit_all (act_statement free i) ps xs) h in
     by_bool (AreEqualArguments i (p ∷ ps) (x ∷ xs) (e ∷ es)) (has_head x)
     (λ t.
-    let r : (starts x e ≡ true) × (start_all xs es ≡ true) = both (starts x e) (start_all xs es) (ap (λ b. cond b (starts x e && start_all xs es) (start_all xs (e ∷ es))) (sym t) ∙ k) in
+    let r : (starts x e ≡ true) × (start_all xs es ≡ true) = and_parts (starts x e) (start_all xs es) (ap (λ b. cond b (starts x e && start_all xs es) (start_all xs (e ∷ es))) (sym t) ∙ k) in
     subst (λ a. FitsPremises (p ∷ ps) a × (equated_premises i (p ∷ ps) (heads (x ∷ xs)) a ≡ (e ∷ es)))
     (ap (λ b. cond b (with_body (domain_count x) (right_head e) (right_heads xs es)) (dummy (domain_count x) (right_heads xs (e ∷ es)))) (sym t))
     (with_head i p ps x e xs (right_heads xs es) es q.0 t r.0 (equations_true i ps xs es q.1 r.1)))

@@ -1,24 +1,27 @@
 -- Each item that is allowed keeps the store well formed.
-use Rattle.std.proofs.Common.{◌≡◌, ◌≢◌, ℕ, zero, suc, ◌<◌, Bool, true, false, nat_lt, ◌&&◌, not, Option, Some, None, List, [], ◌∷◌, ◌++◌, length, ◌⊎◌, inl, inr, refl, sym, ap, ◌∙◌, subst, arith, append_assoc, append-nil}
-use Rattle.std.proofs.lemmas.Bool.{ltb-true}
+use Rattle.std.proofs.Common.{◌≡◌, ◌≢◌, ℕ, zero, suc, ◌<◌, Bool, true, false, nat_lt, ◌&&◌, not, Option, Some, None, List, [], ◌∷◌, ◌++◌, length, ◌⊎◌, inl, inr, refl, sym, ap, ◌∙◌, subst, append_assoc, append-nil}
+use Rattle.std.proofs.lemmas.Bool.{ltb-true, and_parts, not-true}
+use Rattle.std.proofs.lemmas.Option.{same_Some}
+use Rattle.ft_common.proofs.Booleans.{false_true}
+use Rattle.ft_common.proofs.Options.{none_some}
+use Rattle.ft_common.proofs.Choices.{if_same, if_other}
 use Rattle.ft_theory.specs.Statements.{is_type, Statement, plain, abstracted, IsObject, IsEquation}
 use Rattle.ft_theory.specs.Rules.{look_up, Rule, rule_at}
 use Rattle.ft_theory.specs.Steps.{Prim}
 use Rattle.ft_theory.specs.Derivability.{DerUpTo, PremisesHold, RuleHolds, FinitaryAfter, FinitaryUpTo}
-use Rattle.ft_laws.proofs.Opens.{same, other, by_test}
-use Rattle.ft_laws.proofs.Fresh.{Some_injective}
-use Rattle.ft_laws.proofs.Rules.{nothing, look_before}
+use Rattle.ft_laws.proofs.Opens.{by_test}
+use Rattle.ft_laws.proofs.Rules.{look_before}
 use Rattle.ft_laws.proofs.Commute.{ScopedTheory}
 use Rattle.ft_laws.proofs.Finitary.{scoped}
-use Rattle.ft_laws.proofs.Admissible.{finitary_sound, law}
+use Rattle.ft_laws.proofs.Admissible.{finitary_sound, law, rule_before}
 use Rattle.ft_items.specs.Sets.{Atom, met, var, Has, Within, is_within, same_set, metavariables_only, has}
 use Rattle.ft_items.specs.Equal.{equal_statements, is_thesis, is_plain}
 use Rattle.ft_items.specs.Item.{Name, Entry, variable, metavariable, rule, entry}
 use Rattle.ft_items.specs.Store.{Assertion, Annotation, Declared, Store, nth, each, entry_named, metavariable_named, type_in, claim_in, premises_of, Resolved, resolve, add_variable, add_metavariable, add_rule, add}
 use Rattle.ft_items.specs.Rows.{conclusion, result_set, atoms, differ, on_earlier, concludes_thesis}
 use Rattle.ft_items.specs.Good.{Reject, Kind, Premise, Conclusion, Set, Named, Number, Many, Loose, unless, of_kind, same_kind, is_next, is_plain_type, is_new, reason_of_result, reason_of_entry, reason_of_variable, reason_of_metavariable, reason_of_rule, reason_in}
-use Rattle.ft_items.proofs.Lists.{nth_before}
-use Rattle.ft_items.proofs.SetLemmas.{both, not_true, wrong, same_set_true, no_variable, within_true, has_false}
+use Rattle.ft_items.proofs.Lists.{nth_before, nth_within}
+use Rattle.ft_items.proofs.SetLemmas.{same_set_true, no_variable, within_true, has_false}
 use Rattle.ft_sound.proofs.EqualLemmas.{statement_true, boundary_kind}
 use Rattle.ft_sound.proofs.Valid.{Later, Declares, Valid, WellFormed, later_valid, scoped_rules}
 use Rattle.ft_sound.proofs.InstanceRows.{AllDeclared, over_premises}
@@ -31,12 +34,12 @@ StatesWhatItsStepGives W e = (s : Resolved) × (resolve W e.step ≡ Some s) × 
 -- a test that held
 pub unless_none : (b : Bool) (why : Reject) (next : Option Reject) → unless b why next ≡ None → (b ≡ true) × (next ≡ None)
 unless_none true why next e = (refl, e)
-unless_none false why next e = nothing (sym e)
+unless_none false why next e = none_some (sym e)
 
 -- the last of a list
 pub nth_last : {A : Type 0} (xs : List A) (y : A) (n : ℕ) (x : A) → nth (xs ++ (y ∷ [])) n ≡ Some x → (nth xs n ≡ Some x) ⊎ ((n ≡ length xs) × (y ≡ x))
-nth_last [] y zero x e = inr (refl, Some_injective y x e)
-nth_last [] y (suc n) x e = nothing e
+nth_last [] y zero x e = inr (refl, same_Some y x e)
+nth_last [] y (suc n) x e = none_some e
 nth_last (z ∷ xs) y zero x e = inl e
 nth_last (z ∷ xs) y (suc n) x e = next (nth_last xs y n x e)
   where
@@ -44,35 +47,25 @@ nth_last (z ∷ xs) y (suc n) x e = next (nth_last xs y n x e)
     next (inl h) = inl h
     next (inr h) = inr (ap suc h.0, h.1)
 
-pub nth_below : {A : Type 0} (xs : List A) (n : ℕ) (x : A) → nth xs n ≡ Some x → n < length xs
-nth_below [] n x e = nothing e
-nth_below (y ∷ xs) zero x e = omega arith
-nth_below (y ∷ xs) (suc n) x e = let h : n < length xs = nth_below xs n x e in omega (arith, h)
-
 pub look_last : {A : Type 0} (xs : List (ℕ × A)) (v : ℕ) (a : A) (u : ℕ) (d : A) → look_up (xs ++ ((v, a) ∷ [])) u ≡ Some d → (look_up xs u ≡ Some d) ⊎ ((u ≡ v) × (a ≡ d))
 look_last {A} [] v a u d e = by_test ((look_up {A = A} [] u ≡ Some d) ⊎ ((u ≡ v) × (a ≡ d))) u v
-    (λ f. inr (f, Some_injective a d (sym (same u v (Some a) None f) ∙ e)))
-    (λ n. nothing (sym (other u v (Some a) None n) ∙ e))
+    (λ f. inr (f, same_Some a d (sym (if_same u v (Some a) None f) ∙ e)))
+    (λ n. none_some (sym (if_other u v (Some a) None n) ∙ e))
 look_last {A} (p ∷ xs) v a u d e = by_test ((look_up (p ∷ xs) u ≡ Some d) ⊎ ((u ≡ v) × (a ≡ d))) u p.0
-    (λ f. inl (same u p.0 (Some p.1) (look_up xs u) f ∙ sym (same u p.0 (Some p.1) (look_up (xs ++ ((v, a) ∷ [])) u) f) ∙ e))
-    (λ n. next n (look_last xs v a u d (sym (other u p.0 (Some p.1) (look_up (xs ++ ((v, a) ∷ [])) u) n) ∙ e)))
+    (λ f. inl (if_same u p.0 (Some p.1) (look_up xs u) f ∙ sym (if_same u p.0 (Some p.1) (look_up (xs ++ ((v, a) ∷ [])) u) f) ∙ e))
+    (λ n. next n (look_last xs v a u d (sym (if_other u p.0 (Some p.1) (look_up (xs ++ ((v, a) ∷ [])) u) n) ∙ e)))
   where
     next : u ≢ p.0 → (look_up xs u ≡ Some d) ⊎ ((u ≡ v) × (a ≡ d)) → (look_up (p ∷ xs) u ≡ Some d) ⊎ ((u ≡ v) × (a ≡ d))
-    next n (inl h) = inl (other u p.0 (Some p.1) (look_up xs u) n ∙ h)
+    next n (inl h) = inl (if_other u p.0 (Some p.1) (look_up xs u) n ∙ h)
     next n (inr h) = inr h
 
 pub next_above : (xs : List (ℕ × Annotation)) (v u : ℕ) (d : Annotation) → is_next xs v ≡ true → look_up xs u ≡ Some d → u < v
-next_above [] v u d h e = nothing e
+next_above [] v u d h e = none_some e
 next_above (p ∷ xs) v u d h e =
-    let k : (nat_lt p.0 v ≡ true) × (is_next xs v ≡ true) = both (nat_lt p.0 v) (is_next xs v) h in
+    let k : (nat_lt p.0 v ≡ true) × (is_next xs v ≡ true) = and_parts (nat_lt p.0 v) (is_next xs v) h in
     by_test (u < v) u p.0
     (λ f. subst (λ z. z < v) (sym f) (ltb-true p.0 v k.0))
-    (λ n. next_above xs v u d k.1 (sym (other u p.0 (Some p.1) (look_up xs u) n) ∙ e))
-
-rule_before : (T U : List Rule) (r : ℕ) (R : Rule) → rule_at T r ≡ Some R → rule_at (T ++ U) r ≡ Some R
-rule_before [] U r R q = nothing q
-rule_before (S ∷ T) U zero R q = q
-rule_before (S ∷ T) U (suc r) R q = rule_before T U r R q
+    (λ n. next_above xs v u d k.1 (sym (if_other u p.0 (Some p.1) (look_up xs u) n) ∙ e))
 
 -- what is to be shown of each declaration
 abbrev MetHolds : Store → ℕ → Declared → Type 0
@@ -113,17 +106,17 @@ pub as_given : (W : Store) (e : Entry) → reason_in W (entry e) ≡ None → St
 as_given W e h = go (resolve W e.step) refl h
   where
     result : (s : Resolved) → resolve W e.step ≡ Some s → of_kind s ≡ true → (o : Option Statement) → conclusion W s ≡ o → reason_of_result o (result_set s) e ≡ None → StatesWhatItsStepGives W e
-    result s q kind None c h = nothing (sym h)
+    result s q kind None c h = none_some (sym h)
     result s q kind (Some x) c h =
         let k : (equal_statements x e.statement ≡ true) × (unless (same_set (result_set s) e.set) Set None ≡ None) = unless_none (equal_statements x e.statement) Conclusion (unless (same_set (result_set s) e.set) Set None) h in
         let l : (same_set (result_set s) e.set ≡ true) × (None ≡ None) = unless_none (same_set (result_set s) e.set) Set None k.1 in
         (s, q, kind, c ∙ ap Some (statement_true x e.statement k.0), same_set_true (result_set s) e.set l.0)
 
     go : (o : Option Resolved) → resolve W e.step ≡ o → reason_of_entry W o e ≡ None → StatesWhatItsStepGives W e
-    go None q h = nothing (sym h)
+    go None q h = none_some (sym h)
     go (Some s) q h =
         let k : ((of_kind s && same_kind (concludes_thesis s) (is_thesis e.statement)) ≡ true) × (reason_of_result (conclusion W s) (result_set s) e ≡ None) = unless_none (of_kind s && same_kind (concludes_thesis s) (is_thesis e.statement)) Kind (reason_of_result (conclusion W s) (result_set s) e) h in
-        result s q (both (of_kind s) (same_kind (concludes_thesis s) (is_thesis e.statement)) k.0).0 (conclusion W s) refl k.1
+        result s q (and_parts (of_kind s) (same_kind (concludes_thesis s) (is_thesis e.statement)) k.0).0 (conclusion W s) refl k.1
 
 pub entry_valid : (W : Store) → WellFormed W → (e : Entry) → reason_in W (entry e) ≡ None → Valid W e.statement e.set
 entry_valid W F e h =
@@ -147,7 +140,7 @@ add_entry W F e h = later_well_formed W (add W (entry e)) F l F.finitary (λ m d
 -- a variable
 pub plain_type : (x : Statement) → is_plain_type x ≡ true → x ≡ plain (is_type (type_in x))
 plain_type (plain (is_type A)) h = refl
-plain_type x h = wrong h
+plain_type x h = false_true h
 
 pub add_variable_item : (W : Store) → WellFormed W → (v : ℕ) (n : Name) (p : ℕ) → reason_in W (variable v n p) ≡ None → WellFormed (add W (variable v n p))
 add_variable_item W F v n p h = go (entry_named W p) refl k.1
@@ -156,7 +149,7 @@ add_variable_item W F v n p h = go (entry_named W p) refl k.1
     k = unless_none (is_next W.variables v) Number (reason_of_variable (entry_named W p)) h
 
     go : (o : Option Assertion) → entry_named W p ≡ o → reason_of_variable o ≡ None → WellFormed (add_variable W v n o)
-    go None q h = nothing (sym h)
+    go None q h = none_some (sym h)
     go (Some a) q h = later_well_formed W X F l F.finitary (λ m d q. inl q) (λ u d q. case u d (look_last W.variables v (record { name = n; annotation = type_in a.statement; set = a.set }) u d q)) (λ p a q. inl q)
       where
         X : Store
@@ -186,7 +179,7 @@ pub add_metavariable_item : (W : Store) → WellFormed W → (n : Name) (p : ℕ
 add_metavariable_item W F n p h = go (entry_named W p) refl h
   where
     go : (o : Option Assertion) → entry_named W p ≡ o → reason_of_metavariable o ≡ None → WellFormed (add_metavariable W n o)
-    go None q h = nothing (sym h)
+    go None q h = none_some (sym h)
     go (Some a) q h = later_well_formed W X F l F.finitary (λ m d q. case m d (nth_last W.metavariables (record { name = n; boundary = a.statement; set = a.set }) m d q)) (λ v d q. inl q) (λ p a q. inl q)
       where
         X : Store
@@ -202,21 +195,21 @@ add_metavariable_item W F n p h = go (entry_named W p) refl h
         l = record { rules = λ r R q. q; metavariables = λ m d q. nth_before W.metavariables (record { name = n; boundary = a.statement; set = a.set } ∷ []) m d q; variables = λ u d q. q }
 
         below : (w : ℕ) → Has (met w) a.set → w < length W.metavariables
-        below w j = let r : (R : List Atom) × Declares W (met w) R × Within R a.set = (F.entries p a q).proper.closed (met w) j in nth_below W.metavariables w r.1.0 r.1.1
+        below w j = let r : (R : List Atom) × Declares W (met w) R × Within R a.set = (F.entries p a q).proper.closed (met w) j in nth_within W.metavariables w r.1.0 r.1.1
 
         valid : Valid X a.statement a.set
         valid = later_valid W X a.statement a.set (scoped_rules W F) l (F.entries p a q)
 
         case : (m : ℕ) (d : Declared) → (nth W.metavariables m ≡ Some d) ⊎ ((m ≡ length W.metavariables) × (record { name = n; boundary = a.statement; set = a.set } ≡ d)) → (nth W.metavariables m ≡ Some d) ⊎ MetHolds X m d
         case m d (inl q) = inl q
-        case m d (inr q) = inr (subst (λ (z : Declared). MetHolds X m z) q.1 (valid, boundary_kind a.statement (not_true (is_thesis a.statement) t.0), (λ v j. no_variable v a.set u j), λ i j. subst (λ z. i < z) (sym q.0) (below i j)))
+        case m d (inr q) = inr (subst (λ (z : Declared). MetHolds X m z) q.1 (valid, boundary_kind a.statement (not-true (is_thesis a.statement) t.0), (λ v j. no_variable v a.set u j), λ i j. subst (λ z. i < z) (sym q.0) (below i j)))
 
 -- a rule
 premises_last : (ms : List (ℕ × Declared)) (d : ℕ × Declared) → premises_of (ms ++ (d ∷ [])) ≡ premises_of ms ++ ((d.0, d.1.boundary) ∷ [])
 premises_last [] d = refl
 premises_last (c ∷ ms) d = ap (λ z. (c.0, c.1.boundary) ∷ z) (premises_last ms d)
 
-atoms_last : (ms : List (ℕ × Declared)) (d : ℕ × Declared) → atoms (ms ++ (d ∷ [])) ≡ atoms ms ++ (met d.0 ∷ [])
+pub atoms_last : (ms : List (ℕ × Declared)) (d : ℕ × Declared) → atoms (ms ++ (d ∷ [])) ≡ atoms ms ++ (met d.0 ∷ [])
 atoms_last [] d = refl
 atoms_last (c ∷ ms) d = ap (λ z. met c.0 ∷ z) (atoms_last ms d)
 
@@ -232,7 +225,7 @@ has_last (b ∷ S) a c (inr k) = next (has_last S a c k)
 
 absent_premise : (ms : List (ℕ × Declared)) (m : ℕ) → (Has (met m) (atoms ms) → ⊥) → look_up (premises_of ms) m ≡ None
 absent_premise [] m n = refl
-absent_premise (d ∷ ms) m n = other m d.0 (Some d.1.boundary) (look_up (premises_of ms) m) (λ e. n (inl (ap met e))) ∙ absent_premise ms m (λ k. n (inr k))
+absent_premise (d ∷ ms) m n = if_other m d.0 (Some d.1.boundary) (look_up (premises_of ms) m) (λ e. n (inl (ap met e))) ∙ absent_premise ms m (λ k. n (inr k))
 
 declared_last : (W : Store) (F : WellFormed W) (ms : List (ℕ × Declared)) (d : ℕ × Declared) → AllDeclared W F ms → nth W.metavariables d.0 ≡ Some d.1 → AllDeclared W F (ms ++ (d ∷ []))
 declared_last W F [] d h q = (q, tt)
@@ -243,15 +236,15 @@ premises_hold : (W : Store) (F : WellFormed W) (k : ℕ) (done ms : List (ℕ ×
     → PremisesHold (λ M x. DerUpTo k W.rules M [] x) (premises_of done) (premises_of ms)
 premises_hold W F k done [] dd dm ap' df oe = tt
 premises_hold W F k done (d ∷ ms) dd dm apart df oe =
-    let p : (not (has (met d.0) (atoms ms)) ≡ true) × (differ (atoms ms) ≡ true) = both (not (has (met d.0) (atoms ms))) (differ (atoms ms)) df in
-    let q : (is_within d.1.set (atoms done) ≡ true) × (on_earlier (atoms done ++ (met d.0 ∷ [])) ms ≡ true) = both (is_within d.1.set (atoms done)) (on_earlier (atoms done ++ (met d.0 ∷ [])) ms) oe in
+    let p : (not (has (met d.0) (atoms ms)) ≡ true) × (differ (atoms ms) ≡ true) = and_parts (not (has (met d.0) (atoms ms))) (differ (atoms ms)) df in
+    let q : (is_within d.1.set (atoms done) ≡ true) × (on_earlier (atoms done ++ (met d.0 ∷ [])) ms ≡ true) = and_parts (is_within d.1.set (atoms done)) (on_earlier (atoms done ++ (met d.0 ∷ [])) ms) oe in
     let h : MetHolds W d.0 d.1 = F.metavariables d.0 d.1 dm.0 in (
       absent_premise done d.0 (λ j. apart (met d.0) j (inl refl)),
       h.1,
       (law k W.rules (F.finitary k) (premises_of done) [] d.1.boundary).1 (over_premises W F done dd d.1.boundary d.1.set (within_true d.1.set (atoms done) q.0) h.0.derivable),
       subst (λ z. PremisesHold (λ M x. DerUpTo k W.rules M [] x) z (premises_of ms)) (premises_last done d)
           (premises_hold W F k (done ++ (d ∷ [])) ms (declared_last W F done d dd dm.0) dm.1
-          (λ a i j. later a (not_true (has (met d.0) (atoms ms)) p.0) (has_last (atoms done) (met d.0) a (subst (Has a) (atoms_last done d) i)) j)
+          (λ a i j. later a (not-true (has (met d.0) (atoms ms)) p.0) (has_last (atoms done) (met d.0) a (subst (Has a) (atoms_last done d) i)) j)
           p.1 (subst (λ z. on_earlier z ms ≡ true) (sym (atoms_last done d)) q.1)),
     )
   where
@@ -265,7 +258,7 @@ finitary_last D T (S ∷ Rs) R f h = (f.0, finitary_last D (T ++ (S ∷ [])) Rs 
 
 plain_claim : (x : Statement) → is_plain x ≡ true → x ≡ plain (claim_in x)
 plain_claim (plain c) h = refl
-plain_claim (abstracted A x) h = wrong h
+plain_claim (abstracted A x) h = false_true h
 
 pub add_rule_item : (W : Store) → WellFormed W → (n : Name) (ms : List ℕ) (p : ℕ) → reason_in W (rule n ms p) ≡ None → WellFormed (add W (rule n ms p))
 add_rule_item W F n ms p h = go (each (metavariable_named W) ms) refl (entry_named W p) refl k.1
@@ -277,8 +270,8 @@ add_rule_item W F n ms p h = go (each (metavariable_named W) ms) refl (entry_nam
     k = unless_none (nat_lt (length W.rules) 65536) Many (reason_of_rule (each (metavariable_named W) ms) (entry_named W p)) j.1
 
     go : (os : Option (List (ℕ × Declared))) → each (metavariable_named W) ms ≡ os → (o : Option Assertion) → entry_named W p ≡ o → reason_of_rule os o ≡ None → WellFormed (add_rule W n os o)
-    go None i o q h = nothing (sym h)
-    go (Some ds) i None q h = nothing (sym h)
+    go None i o q h = none_some (sym h)
+    go (Some ds) i None q h = none_some (sym h)
     go (Some ds) i (Some a) q h = later_well_formed W X F l fin (λ m d q. inl q) (λ v d q. inl q) (λ p a q. inl q)
       where
         X : Store
@@ -294,13 +287,13 @@ add_rule_item W F n ms p h = go (each (metavariable_named W) ms) refl (entry_nam
         u = (unless_none (on_earlier [] ds && is_within a.set (atoms ds)) Loose None t.1).0
 
         t1 : ((differ (atoms ds) && not (is_thesis a.statement)) ≡ true) × (is_plain a.statement ≡ true)
-        t1 = both (differ (atoms ds) && not (is_thesis a.statement)) (is_plain a.statement) t.0
+        t1 = and_parts (differ (atoms ds) && not (is_thesis a.statement)) (is_plain a.statement) t.0
 
         t2 : (differ (atoms ds) ≡ true) × (not (is_thesis a.statement) ≡ true)
-        t2 = both (differ (atoms ds)) (not (is_thesis a.statement)) t1.0
+        t2 = and_parts (differ (atoms ds)) (not (is_thesis a.statement)) t1.0
 
         u1 : (on_earlier [] ds ≡ true) × (is_within a.set (atoms ds) ≡ true)
-        u1 = both (on_earlier [] ds) (is_within a.set (atoms ds)) u
+        u1 = and_parts (on_earlier [] ds) (is_within a.set (atoms ds)) u
 
         dm : AllDeclared W F ds
         dm = all_declared W F ms ds i
@@ -311,7 +304,7 @@ add_rule_item W F n ms p h = go (each (metavariable_named W) ms) refl (entry_nam
         holds : (n : ℕ) → RuleHolds (λ M x. DerUpTo n W.rules M [] x) R
         holds n = (
           premises_hold W F n [] ds tt dm (λ a i j. i) t2.0 u1.0,
-          subst (λ z. IsObject z ⊎ IsEquation z) e (boundary_kind a.statement (not_true (is_thesis a.statement) t2.1)),
+          subst (λ z. IsObject z ⊎ IsEquation z) e (boundary_kind a.statement (not-true (is_thesis a.statement) t2.1)),
           (law n W.rules (F.finitary n) (premises_of ds) [] (plain (claim_in a.statement))).1
               (subst (λ z. Prim W.rules (premises_of ds) [] z) e (over_premises W F ds dm a.statement a.set (within_true a.set (atoms ds) u1.1) (F.entries p a q).derivable)),
         )

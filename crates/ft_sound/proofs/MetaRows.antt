@@ -1,13 +1,16 @@
 -- The rows of the steps that name a variable or a metavariable.
 use Rattle.std.proofs.Common.{◌≡◌, ◌≢◌, ℕ, zero, suc, ◌+◌, ◌<◌, ◌≤◌, Bool, true, false, cond, nat_eq, ◌&&◌, not, Option, Some, None, List, [], ◌∷◌, ◌++◌, ◌⊎◌, inl, inr, refl, sym, ap, ap₂, ◌∙◌, subst, arith}
-use Rattle.std.proofs.lemmas.Bool.{eqb-true}
+use Rattle.std.proofs.lemmas.Bool.{eqb-true, and_parts}
+use Rattle.std.proofs.lemmas.Option.{same_Some}
+use Rattle.ft_common.proofs.Booleans.{true_false}
+use Rattle.ft_common.proofs.Choices.{if_same, if_other}
 use Rattle.ft_theory.specs.Expressions.{Expression, bound, free, symbol, meta, Arguments, Terms, no_terms, also, count, open_at, open_terms, ClosedAt}
 use Rattle.ft_theory.specs.Statements.{is_type, has_type, Statement, plain, abstracted, close_statement, opened, domain, domain_count, at, fill, equate, IsObject, IsEquation}
 use Rattle.ft_theory.specs.Rules.{look_up, Rule, term_typings, term_equations}
 use Rattle.ft_theory.specs.Steps.{sequent, sequents, IsVariableFree, Unmentioned, Step, metavariable, metavariable_equation, abstraction, Trees, node, none, more, Prim}
 use Rattle.ft_theory.specs.WideSteps.{metavariable_at_equal_terms}
-use Rattle.ft_laws.proofs.Opens.{same, other, by_test}
-use Rattle.ft_laws.proofs.Fresh.{Some_injective, fresh_absent}
+use Rattle.ft_laws.proofs.Opens.{by_test}
+use Rattle.ft_laws.proofs.Fresh.{fresh_absent}
 use Rattle.ft_laws.proofs.Commute.{ScopedTheory}
 use Rattle.ft_laws.proofs.Scope.{scope, equation-at}
 use Rattle.ft_laws.proofs.Statements.{fill-map, fill_any, domain_count-opened}
@@ -21,7 +24,7 @@ use Rattle.ft_items.specs.Equal.{is_object, typed, terms, paired, left_terms, ri
 use Rattle.ft_items.specs.Store.{Assertion, Annotation, Declared, Store, nth, boundaries_in, annotations_in, Derivable}
 use Rattle.ft_items.specs.Rows.{statements, sets, bounds}
 use Rattle.ft_items.specs.Rows as row
-use Rattle.ft_items.proofs.SetLemmas.{both, wrong', by_bool, insert_new, insert_old, has_union, union_left, union_right, has_without, without_has, ascending_union, ascending_without, has_false}
+use Rattle.ft_items.proofs.SetLemmas.{by_bool, insert_new, insert_old, has_union, union_left, union_right, has_without, without_has, ascending_union, ascending_without, has_false}
 use Rattle.ft_sound.proofs.EqualLemmas.{object_true, typed_true, paired_true}
 use Rattle.ft_sound.proofs.Valid.{MetIn, VarIn, look_mets, mets_look, look_vars, vars_look, Declares, Proper, Valid, AllValid, WellFormed, sound_rules, scoped_rules, up, up_all, global, proper_unions, proper_union, proper_insert}
 use Rattle.ft_sound.proofs.Structural.{from_when}
@@ -48,13 +51,13 @@ open_frees (v ∷ vs) k t a = ap (also (free v)) (open_frees vs k t a)
 open_bounds : (k j : ℕ) (t : Expression) → j ≤ k → open_terms k t (bounds j) ≡ bounds j
 unfolding open_at open_terms
 open_bounds k zero t h = refl
-open_bounds k (suc j) t h = ap₂ also (other j k t (bound j) (λ e. grind (arith, e, h))) (open_bounds k j t (omega (arith, h)))
+open_bounds k (suc j) t h = ap₂ also (if_other j k t (bound j) (λ e. grind (arith, e, h))) (open_bounds k j t (omega (arith, h)))
 
 -- the outermost bound variable opened
 open_generic : (vs : List ℕ) (k m w : ℕ) → open_at k (free w) (meta m (frees vs (bounds (suc k)))) ≡ meta m (frees (vs ++ (w ∷ [])) (bounds k))
 unfolding open_at open_terms
 open_generic vs k m w = ap (meta m) (open_frees vs k (free w) (bounds (suc k))
-    ∙ ap (frees vs) (ap₂ also (same k k (free w) (bound k) refl) (open_bounds k k (free w) (omega arith)))
+    ∙ ap (frees vs) (ap₂ also (if_same k k (free w) (bound k) refl) (open_bounds k k (free w) (omega arith)))
     ∙ sym (frees_last vs w (bounds k)))
 
 at_last : (vs : List ℕ) (w : ℕ) (b : Statement) → at b (frees (vs ++ (w ∷ [])) no_terms) ≡ opened (free w) (at b (frees vs no_terms))
@@ -112,14 +115,14 @@ depends_false G v (met m ∷ S) h w d (inl e) n q r = clash e
     clash e = cc
 depends_false G v (met m ∷ S) h w d (inr k) n q r = depends_false G v S h w d k n q r
 depends_false G v (var u ∷ S) h w d k n q r = by_bool ⊥ (not (nat_eq u v) && row.rests_on v (look_up G u))
-    (λ t. wrong' (ap (λ b. cond b true (row.depends G v S)) (sym t) ∙ h))
+    (λ t. true_false (ap (λ b. cond b true (row.depends G v S)) (sym t) ∙ h))
     (λ t. go k (λ j. depends_false G v S (ap (λ b. cond b true (row.depends G v S)) (sym t) ∙ h) w d j n q r) t)
   where
     inner : var w ≡ var u → w ≡ u
     inner e = cc
 
     test : (b c : Bool) → b ≡ false → (not b && c) ≡ false → c ≡ false
-    test true c h k = wrong' h
+    test true c h k = true_false h
     test false c h k = k
 
     differs : u ≢ v → nat_eq u v ≡ false
@@ -191,7 +194,7 @@ module _ (W : Store) (F : WellFormed W) where
       rests u c k e j = go (has_union (var u) d.set (without (var v) S) k)
         where
           same_set_of : (R : List Atom) → Declares W (var u) R → c.set ≡ R
-          same_set_of R de = ap (λ (x : Annotation). x.set) (Some_injective c de.0 (sym e ∙ de.1)) ∙ de.2
+          same_set_of R de = ap (λ (x : Annotation). x.set) (same_Some c de.0 (sym e ∙ de.1)) ∙ de.2
 
           go : Has (var u) d.set ⊎ Has (var u) (without (var v) S) → ⊥
           go (inl k) = let r : (R : List Atom) × Declares W (var u) R × Within R d.set = D.proper.closed (var u) k in self (r.2 (var v) (subst (Has (var v)) (same_set_of r.0 r.1) j))
@@ -226,8 +229,8 @@ module _ (W : Store) (F : WellFormed W) where
       vars u A e =
           let i : VarIn W S u A = look_vars W S u A e in
           by_test (look_up ((v, d.annotation) ∷ annotations_in W R) u ≡ Some A) u v
-          (λ f. same u v (Some d.annotation) (look_up (annotations_in W R) u) f ∙ ap (λ (c : Annotation). Some c.annotation) (Some_injective d i.0 (sym q ∙ ap (look_up W.variables) (sym f) ∙ i.2)) ∙ ap Some i.3)
-          (λ n. other u v (Some d.annotation) (look_up (annotations_in W R) u) n
+          (λ f. if_same u v (Some d.annotation) (look_up (annotations_in W R) u) f ∙ ap (λ (c : Annotation). Some c.annotation) (same_Some d i.0 (sym q ∙ ap (look_up W.variables) (sym f) ∙ i.2)) ∙ ap Some i.3)
+          (λ n. if_other u v (Some d.annotation) (look_up (annotations_in W R) u) n
           ∙ vars_look W R u i.0 (union_right (var u) d.set (without (var v) S) (without_has (var u) (var v) S i.1 (λ (f : var u ≡ var v). n (cc)))) i.2 ∙ ap Some i.3)
 
   pub do_var : (v : ℕ) (d : Annotation) → look_up W.variables v ≡ Some d → Valid W (plain (has_type (free v) d.annotation)) (insert (var v) d.set)
@@ -277,7 +280,7 @@ module _ (W : Store) (F : WellFormed W) where
       record {
         proper = meta_proper m d q U (proper_unions W es vs);
         derivable = from_when (λ z. Derivable W z R) (is_object d.boundary && paired d.boundary (statements es)) (equate (at d.boundary l) (meta m l) (meta m r)) y e (λ h.
-            let k : (is_object d.boundary ≡ true) × (paired d.boundary (statements es) ≡ true) = both (is_object d.boundary) (paired d.boundary (statements es)) h in
+            let k : (is_object d.boundary ≡ true) × (paired d.boundary (statements es) ≡ true) = and_parts (is_object d.boundary) (paired d.boundary (statements es)) h in
             let t : (count l ≡ domain_count d.boundary) × (count r ≡ domain_count d.boundary) × (term_equations d.boundary l r ≡ statements es) = paired_true (statements es) d.boundary k.1 in
             admissible W.rules (sound_rules W F) 6 (sequent (boundaries_in W R) (annotations_in W R) d.boundary ∷ sequents (boundaries_in W R) (annotations_in W R) (term_equations d.boundary l r)) (sequent (boundaries_in W R) (annotations_in W R) (equate (at d.boundary l) (meta m l) (meta m r)))
             (metavariable_at_equal_terms m d.boundary l r (mets_look W R m d (insert_new (met m) (union d.set U)) q) (global W d.boundary d.set D.derivable (F.metavariables m d q).2) (object_true d.boundary k.0) t.0 t.1)

@@ -1,11 +1,12 @@
 -- An item is allowed exactly where there is no reason against it, and good lists keep the store well formed.
 use Rattle.std.proofs.Common.{◌≡◌, ℕ, ◌<◌, Bool, true, false, cond, nat_lt, ◌&&◌, not, Option, Some, None, List, [], ◌∷◌, length, refl, sym, ap, ap₂, ◌∙◌, subst}
-use Rattle.std.proofs.lemmas.Bool.{ltb-true, lt-ltb}
+use Rattle.std.proofs.lemmas.Bool.{ltb-true, lt-ltb, and_parts, and_from, not-true, not_from_false}
 use Rattle.std.specs.Prelude.{option_map, option_and_then}
+use Rattle.std.proofs.lemmas.Option.{same_Some}
+use Rattle.ft_common.proofs.Booleans.{false_true}
+use Rattle.ft_common.proofs.Options.{none_some}
 use Rattle.ft_theory.specs.Statements.{is_type, Statement, plain}
 use Rattle.ft_theory.specs.Steps.{Prim}
-use Rattle.ft_laws.proofs.Fresh.{Some_injective}
-use Rattle.ft_laws.proofs.Rules.{nothing}
 use Rattle.ft_items.specs.Sets.{Atom, is_within, same_set, metavariables_only}
 use Rattle.ft_items.specs.Equal.{equal_statements, is_thesis, is_plain}
 use Rattle.ft_items.specs.Item.{Name, Entry, Item, variable, metavariable, rule, entry, shown}
@@ -13,7 +14,7 @@ use Rattle.ft_items.specs.Store.{Assertion, Declared, Store, each, entry_named, 
 use Rattle.ft_items.specs.Rows.{conclusion, result_set, atoms, differ, on_earlier, concludes_thesis}
 use Rattle.ft_items.specs.Good.{Reject, Kind, Premise, Conclusion, Set, Named, Number, Many, Loose, unless, of_kind, same_kind, is_next, is_plain_type, is_new, reason_of_result, reason_of_entry, reason_of_variable, reason_of_metavariable, reason_of_rule, reason_of_shown, reason_in, given, AllowedVariable, AllowedMetavariable, AllowedRule, AllowedEntry, AllowedShown, AllowedIn, GoodAfter}
 use Rattle.ft_sound.proofs.KindRows.{conclusion_kind}
-use Rattle.ft_items.proofs.SetLemmas.{both, both_true, not_true, wrong, same_set_self}
+use Rattle.ft_items.proofs.SetLemmas.{same_set_self}
 use Rattle.ft_sound.proofs.EqualLemmas.{statement_self}
 use Rattle.ft_sound.proofs.Valid.{WellFormed}
 use Rattle.ft_sound.proofs.Steps.{resolved}
@@ -22,22 +23,18 @@ use Rattle.ft_sound.proofs.Good.{StatesWhatItsStepGives, unless_none, as_given, 
 -- allowed, by the tests
 none_of : (b : Bool) (why : Reject) (next : Option Reject) → b ≡ true → next ≡ None → unless b why next ≡ None
 none_of true why next h e = e
-none_of false why next h e = wrong h
-
-not_false : (b : Bool) → b ≡ false → not b ≡ true
-not_false true h = wrong (sym h)
-not_false false h = refl
+none_of false why next h e = false_true h
 
 plain_type_thesis : (x : Statement) → is_plain_type x ≡ true → is_thesis x ≡ true
 plain_type_thesis (plain (is_type A)) h = refl
-plain_type_thesis x h = wrong h
+plain_type_thesis x h = false_true h
 
 variable_reason : (W : Store) (v p : ℕ) → AllowedVariable W v p → unless (is_next W.variables v) Number (reason_of_variable (entry_named W p)) ≡ None
 variable_reason W v p h = none_of (is_next W.variables v) Number (reason_of_variable (entry_named W p)) h.0
     (ap reason_of_variable h.2 ∙ none_of (is_thesis h.1.statement) Kind (unless (is_plain_type h.1.statement) Premise None) (plain_type_thesis h.1.statement h.3) (none_of (is_plain_type h.1.statement) Premise None h.3 refl))
 
 metavariable_reason : (W : Store) (p : ℕ) → AllowedMetavariable W p → reason_of_metavariable (entry_named W p) ≡ None
-metavariable_reason W p h = ap reason_of_metavariable h.1 ∙ none_of (not (is_thesis h.0.statement)) Kind (unless (metavariables_only h.0.set) Loose None) (not_false (is_thesis h.0.statement) h.2) (none_of (metavariables_only h.0.set) Loose None h.3 refl)
+metavariable_reason W p h = ap reason_of_metavariable h.1 ∙ none_of (not (is_thesis h.0.statement)) Kind (unless (metavariables_only h.0.set) Loose None) (not_from_false (is_thesis h.0.statement) h.2) (none_of (metavariables_only h.0.set) Loose None h.3 refl)
 
 rule_reason : (W : Store) (n : Name) (ms : List ℕ) (p : ℕ) → AllowedRule W n ms p → reason_in W (rule n ms p) ≡ None
 rule_reason W n ms p h =
@@ -47,8 +44,8 @@ rule_reason W n ms p h =
     (none_of (nat_lt (length W.rules) 65536) Many (reason_of_rule (each (metavariable_named W) ms) (entry_named W p)) (lt-ltb (length W.rules) 65536 h.1)
     (ap₂ reason_of_rule h.3 h.5
     ∙ none_of ((differ (atoms ds) && not (is_thesis a.statement)) && is_plain a.statement) Kind (unless (on_earlier [] ds && is_within a.set (atoms ds)) Loose None)
-    (both_true (differ (atoms ds) && not (is_thesis a.statement)) (is_plain a.statement) (both_true (differ (atoms ds)) (not (is_thesis a.statement)) h.6 (not_false (is_thesis a.statement) h.7)) h.8)
-    (none_of (on_earlier [] ds && is_within a.set (atoms ds)) Loose None (both_true (on_earlier [] ds) (is_within a.set (atoms ds)) h.9 h.10) refl)))
+    (and_from (differ (atoms ds) && not (is_thesis a.statement)) (is_plain a.statement) (and_from (differ (atoms ds)) (not (is_thesis a.statement)) h.6 (not_from_false (is_thesis a.statement) h.7)) h.8)
+    (none_of (on_earlier [] ds && is_within a.set (atoms ds)) Loose None (and_from (on_earlier [] ds) (is_within a.set (atoms ds)) h.9 h.10) refl)))
 
 shown_reason : (W : Store) (p : ℕ) → AllowedShown W p → reason_of_shown (entry_named W p) ≡ None
 shown_reason W p h = ap reason_of_shown h.1 ∙ none_of (is_thesis h.0.statement) Kind None h.2 refl
@@ -67,17 +64,17 @@ allowed_states W e h = go (resolve W e.step) refl h
     E = record { statement = e.statement; set = e.set }
 
     concluded : (s : Resolved) → resolve W e.step ≡ Some s → of_kind s ≡ true → (o : Option Statement) → conclusion W s ≡ o → option_map (λ x. record { statement = x; set = result_set s }) o ≡ Some E → StatesWhatItsStepGives W e
-    concluded s q k None c h = nothing h
+    concluded s q k None c h = none_some h
     concluded s q k (Some x) c h =
-        let i : record { statement = x; set = result_set s } ≡ E = Some_injective (record { statement = x; set = result_set s }) E h in
+        let i : record { statement = x; set = result_set s } ≡ E = same_Some (record { statement = x; set = result_set s }) E h in
         (s, q, k, c ∙ ap Some (ap statement_of i), ap set_of i)
 
     tested : (s : Resolved) → resolve W e.step ≡ Some s → (b : Bool) → of_kind s ≡ b → cond b (option_map (λ x. record { statement = x; set = result_set s }) (conclusion W s)) None ≡ Some E → StatesWhatItsStepGives W e
     tested s q true k h = concluded s q k (conclusion W s) refl h
-    tested s q false k h = nothing h
+    tested s q false k h = none_some h
 
     go : (o : Option Resolved) → resolve W e.step ≡ o → option_and_then (given W) o ≡ Some E → StatesWhatItsStepGives W e
-    go None q h = nothing h
+    go None q h = none_some h
     go (Some s) q h = tested s q (of_kind s) refl h
 
 states_allowed : (W : Store) (e : Entry) → StatesWhatItsStepGives W e → AllowedEntry W e
@@ -89,14 +86,14 @@ states_allowed W e h =
 
 kinds_agree : (a b : Bool) → b ≡ a → same_kind a b ≡ true
 kinds_agree true b e = e
-kinds_agree false b e = not_false b e
+kinds_agree false b e = not_from_false b e
 
 entry_reason : (W : Store) → WellFormed W → (e : Entry) → AllowedEntry W e → reason_in W (entry e) ≡ None
 entry_reason W F e h =
     let g : StatesWhatItsStepGives W e = allowed_states W e h in
     ap (λ o. reason_of_entry W o e) g.1
     ∙ none_of (of_kind g.0 && same_kind (concludes_thesis g.0) (is_thesis e.statement)) Kind (reason_of_result (conclusion W g.0) (result_set g.0) e)
-    (both_true (of_kind g.0) (same_kind (concludes_thesis g.0) (is_thesis e.statement)) g.2 (kinds_agree (concludes_thesis g.0) (is_thesis e.statement) (conclusion_kind W F g.0 (resolved W F e.step g.0 g.1) g.2 e.statement g.3)))
+    (and_from (of_kind g.0) (same_kind (concludes_thesis g.0) (is_thesis e.statement)) g.2 (kinds_agree (concludes_thesis g.0) (is_thesis e.statement) (conclusion_kind W F g.0 (resolved W F e.step g.0 g.1) g.2 e.statement g.3)))
     (ap (λ o. reason_of_result o (result_set g.0) e) g.3
     ∙ none_of (equal_statements e.statement e.statement) Conclusion (unless (same_set (result_set g.0) e.set) Set None) (statement_self e.statement)
     (none_of (same_set (result_set g.0) e.set) Set None (subst (λ S. same_set S e.set ≡ true) (sym g.4) (same_set_self e.set)) refl))
@@ -113,7 +110,7 @@ variable_allowed : (W : Store) (v p : ℕ) → unless (is_next W.variables v) Nu
 variable_allowed W v p h = let k : (is_next W.variables v ≡ true) × (reason_of_variable (entry_named W p) ≡ None) = unless_none (is_next W.variables v) Number (reason_of_variable (entry_named W p)) h in go k.0 (entry_named W p) refl k.1
   where
     go : is_next W.variables v ≡ true → (o : Option Assertion) → entry_named W p ≡ o → reason_of_variable o ≡ None → AllowedVariable W v p
-    go n None q h = nothing (sym h)
+    go n None q h = none_some (sym h)
     go n (Some a) q h =
         let t : (is_thesis a.statement ≡ true) × (unless (is_plain_type a.statement) Premise None ≡ None) = unless_none (is_thesis a.statement) Kind (unless (is_plain_type a.statement) Premise None) h in
         (n, a, q, (unless_none (is_plain_type a.statement) Premise None t.1).0)
@@ -122,10 +119,10 @@ metavariable_allowed : (W : Store) (p : ℕ) → reason_of_metavariable (entry_n
 metavariable_allowed W p h = go (entry_named W p) refl h
   where
     go : (o : Option Assertion) → entry_named W p ≡ o → reason_of_metavariable o ≡ None → AllowedMetavariable W p
-    go None q h = nothing (sym h)
+    go None q h = none_some (sym h)
     go (Some a) q h =
         let t : (not (is_thesis a.statement) ≡ true) × (unless (metavariables_only a.set) Loose None ≡ None) = unless_none (not (is_thesis a.statement)) Kind (unless (metavariables_only a.set) Loose None) h in
-        (a, q, not_true (is_thesis a.statement) t.0, (unless_none (metavariables_only a.set) Loose None t.1).0)
+        (a, q, not-true (is_thesis a.statement) t.0, (unless_none (metavariables_only a.set) Loose None t.1).0)
 
 rule_allowed : (W : Store) (n : Name) (ms : List ℕ) (p : ℕ) → reason_in W (rule n ms p) ≡ None → AllowedRule W n ms p
 rule_allowed W n ms p h =
@@ -134,20 +131,20 @@ rule_allowed W n ms p h =
     go j.0 (ltb-true (length W.rules) 65536 k.0) (each (metavariable_named W) ms) refl (entry_named W p) refl k.1
   where
     go : is_new W.names n ≡ true → length W.rules < 65536 → (os : Option (List (ℕ × Declared))) → each (metavariable_named W) ms ≡ os → (o : Option Assertion) → entry_named W p ≡ o → reason_of_rule os o ≡ None → AllowedRule W n ms p
-    go nn l None i o q h = nothing (sym h)
-    go nn l (Some ds) i None q h = nothing (sym h)
+    go nn l None i o q h = none_some (sym h)
+    go nn l (Some ds) i None q h = none_some (sym h)
     go nn l (Some ds) i (Some a) q h =
         let t : (((differ (atoms ds) && not (is_thesis a.statement)) && is_plain a.statement) ≡ true) × (unless (on_earlier [] ds && is_within a.set (atoms ds)) Loose None ≡ None) = unless_none ((differ (atoms ds) && not (is_thesis a.statement)) && is_plain a.statement) Kind (unless (on_earlier [] ds && is_within a.set (atoms ds)) Loose None) h in
-        let t1 : ((differ (atoms ds) && not (is_thesis a.statement)) ≡ true) × (is_plain a.statement ≡ true) = both (differ (atoms ds) && not (is_thesis a.statement)) (is_plain a.statement) t.0 in
-        let t2 : (differ (atoms ds) ≡ true) × (not (is_thesis a.statement) ≡ true) = both (differ (atoms ds)) (not (is_thesis a.statement)) t1.0 in
-        let u1 : (on_earlier [] ds ≡ true) × (is_within a.set (atoms ds) ≡ true) = both (on_earlier [] ds) (is_within a.set (atoms ds)) (unless_none (on_earlier [] ds && is_within a.set (atoms ds)) Loose None t.1).0 in
-        (nn, l, ds, i, a, q, t2.0, not_true (is_thesis a.statement) t2.1, t1.1, u1.0, u1.1)
+        let t1 : ((differ (atoms ds) && not (is_thesis a.statement)) ≡ true) × (is_plain a.statement ≡ true) = and_parts (differ (atoms ds) && not (is_thesis a.statement)) (is_plain a.statement) t.0 in
+        let t2 : (differ (atoms ds) ≡ true) × (not (is_thesis a.statement) ≡ true) = and_parts (differ (atoms ds)) (not (is_thesis a.statement)) t1.0 in
+        let u1 : (on_earlier [] ds ≡ true) × (is_within a.set (atoms ds) ≡ true) = and_parts (on_earlier [] ds) (is_within a.set (atoms ds)) (unless_none (on_earlier [] ds && is_within a.set (atoms ds)) Loose None t.1).0 in
+        (nn, l, ds, i, a, q, t2.0, not-true (is_thesis a.statement) t2.1, t1.1, u1.0, u1.1)
 
 shown_allowed : (W : Store) (p : ℕ) → reason_of_shown (entry_named W p) ≡ None → AllowedShown W p
 shown_allowed W p h = go (entry_named W p) refl h
   where
     go : (o : Option Assertion) → entry_named W p ≡ o → reason_of_shown o ≡ None → AllowedShown W p
-    go None q h = nothing (sym h)
+    go None q h = none_some (sym h)
     go (Some a) q h = (a, q, (unless_none (is_thesis a.statement) Kind None h).0)
 
 pub allowed : (W : Store) (i : Item) → reason_in W i ≡ None → AllowedIn W i
@@ -169,4 +166,4 @@ well_formed_all W F [] g = F
 well_formed_all W F (i ∷ items) g = well_formed_all (add W i) (well_formed_add W F i g.0) items g.1
 
 pub well_formed_empty : WellFormed empty_store
-well_formed_empty = record { finitary = λ k. tt; metavariables = λ m d q. nothing q; variables = λ v d q. nothing q; entries = λ p a q. nothing q }
+well_formed_empty = record { finitary = λ k. tt; metavariables = λ m d q. none_some q; variables = λ v d q. none_some q; entries = λ p a q. none_some q }

@@ -1,18 +1,19 @@
 -- The rows of the steps that name a rule, over any maps.
 use Rattle.std.proofs.Common.{◌≡◌, ℕ, zero, true, cond, ◌&&◌, Some, None, List, [], ◌∷◌, ◌++◌, length, ◌⊎◌, inl, inr, sym, ap, ◌∙◌, subst, append-nil}
 use Rattle.std.proofs.lemmas.List.{take-append-drop}
+use Rattle.std.proofs.lemmas.Bool.{and_parts}
+use Rattle.ft_common.proofs.Options.{none_some}
 use Rattle.ft_theory.specs.Expressions.{Expression, bound, free, symbol, act}
 use Rattle.ft_theory.specs.Statements.{Statement, plain, act_statement, fill_goal, fill, equate_goal, IsObjectGoal, IsEquationGoal}
 use Rattle.ft_theory.specs.Rules.{Rule, rule_at, instance_of, FitsPremises, filled_premises, equated_premises, conclusion_at}
 use Rattle.ft_theory.specs.Steps.{sequent, sequents, Step, Tree, Trees, node, none, more, Prim}
 use Rattle.ft_theory.specs.WideSteps.{WideStep, next_boundary, conclusion_boundary, object_instance, equation_instance, equal_instances, convert_premise, convert_back}
-use Rattle.ft_laws.proofs.Rules.{nothing}
 use Rattle.ft_laws.proofs.Statements.{fill_goal_any, equation_goal-map}
 use Rattle.ft_laws.proofs.Finitary.{Sound}
 use Rattle.ft_laws.proofs.Admissible.{admissible}
 use Rattle.ft_items.specs.Equal.{equal_statements, is_object_goal, fits, head, heads, start_all, right_heads}
 use Rattle.ft_items.specs.Rows as row
-use Rattle.ft_items.proofs.SetLemmas.{both, by_bool}
+use Rattle.ft_items.proofs.SetLemmas.{by_bool}
 use Rattle.ft_sound.proofs.EqualLemmas.{object_claim_true, fits_true}
 use Rattle.ft_sound.proofs.Arguments.{arguments_true, equations_true}
 use Rattle.ft_sound.proofs.Structural.{from_when}
@@ -50,7 +51,7 @@ module _ (T : List Rule) (so : Sound T) (M : List (ℕ × Statement)) (G : List 
 
   pub do_rule_with : (b : Statement) (xs : List Statement) (y : Statement) → row.rule_instance_with r R b xs ≡ Some y → Trees (Step T) (sequents M G xs) → Prim T M G y
   do_rule_with b xs y e ts = from_when (Prim T M G) (row.are_arguments R.premises xs && equal_statements b (plain (conclusion_at R (heads xs)))) (plain (fill_goal (conclusion_at R (heads xs)) (symbol r (heads xs)))) y e
-      (λ h. at_arguments xs (both (row.are_arguments R.premises xs) (equal_statements b (plain (conclusion_at R (heads xs)))) h).0 ts)
+      (λ h. at_arguments xs (and_parts (row.are_arguments R.premises xs) (equal_statements b (plain (conclusion_at R (heads xs)))) h).0 ts)
 
   pub do_boundary_instance : (xs : List Statement) (y : Statement) → row.boundary_instance R xs ≡ Some y → Trees (Step T) (sequents M G xs) → Prim T M G y
   do_boundary_instance xs y e ts = from_when (Prim T M G) (row.are_arguments (row.first_premises R xs) xs) (row.next_boundary R (row.first_premises R xs) (heads xs) (row.later_premises R xs)) y e
@@ -67,8 +68,8 @@ module _ (T : List Rule) (so : Sound T) (M : List (ℕ × Statement)) (G : List 
 
   pub do_congruence : (xs es : List Statement) (y : Statement) → row.congruence_of r R xs es ≡ Some y → Trees (Step T) (sequents M G xs) → Trees (Step T) (sequents M G es) → Prim T M G y
   do_congruence xs es y e ts us = from_when (Prim T M G) ((is_object_goal R.conclusion && row.are_arguments R.premises xs) && start_all xs es) (plain (equate_goal (conclusion_at R (heads xs)) (symbol r (heads xs)) (symbol r (right_heads xs es)))) y e (λ h.
-      let k : ((is_object_goal R.conclusion && row.are_arguments R.premises xs) ≡ true) × (start_all xs es ≡ true) = both (is_object_goal R.conclusion && row.are_arguments R.premises xs) (start_all xs es) h in
-      let l : (is_object_goal R.conclusion ≡ true) × (row.are_arguments R.premises xs ≡ true) = both (is_object_goal R.conclusion) (row.are_arguments R.premises xs) k.0 in
+      let k : ((is_object_goal R.conclusion && row.are_arguments R.premises xs) ≡ true) × (start_all xs es ≡ true) = and_parts (is_object_goal R.conclusion && row.are_arguments R.premises xs) (start_all xs es) h in
+      let l : (is_object_goal R.conclusion ≡ true) × (row.are_arguments R.premises xs ≡ true) = and_parts (is_object_goal R.conclusion) (row.are_arguments R.premises xs) k.0 in
       admissible T so 6 (sequents M G (filled_premises (instance_of R.premises (heads xs)) R.premises (heads xs) ++ equated_premises (instance_of R.premises (heads xs)) R.premises (heads xs) (right_heads xs es)))
       (sequent M G (plain (equate_goal (conclusion_at R (heads xs)) (symbol r (heads xs)) (symbol r (right_heads xs es)))))
       (Rattle.ft_theory.specs.WideSteps.equal_instances r R (heads xs) (right_heads xs es) q (fits_for R.premises xs l.1) (equations_true (instance_of R.premises (heads xs)) R.premises xs es l.1 k.1).0 (object_claim_true R.conclusion l.0))
@@ -76,12 +77,12 @@ module _ (T : List Rule) (so : Sound T) (M : List (ℕ × Statement)) (G : List 
 
   pub do_premise_conversion : (xs es : List Statement) (x y : Statement) → row.premise_conversion R xs es x ≡ Some y → Trees (Step T) (sequents M G xs) → Trees (Step T) (sequents M G es) → Prim T M G x → Prim T M G y
   do_premise_conversion xs es x y e ts us p = by_bool (Prim T M G y) (row.are_arguments (row.first_premises R xs) xs && start_all xs es)
-      (λ t. go (row.first_premises R xs) (row.later_premises R xs) (take-append-drop (length xs) R.premises) (both (row.are_arguments (row.first_premises R xs) xs) (start_all xs es) t).0 (both (row.are_arguments (row.first_premises R xs) xs) (start_all xs es) t).1
-      (ap (λ b. cond b (row.moved (row.first_premises R xs) (heads xs) (right_heads xs es) (row.later_premises R xs) x) None) (sym t) ∙ e))
-      (λ t. nothing (ap (λ b. cond b (row.moved (row.first_premises R xs) (heads xs) (right_heads xs es) (row.later_premises R xs) x) None) (sym t) ∙ e))
+      (λ t. go (row.first_premises R xs) (row.later_premises R xs) (take-append-drop (length xs) R.premises) (and_parts (row.are_arguments (row.first_premises R xs) xs) (start_all xs es) t).0 (and_parts (row.are_arguments (row.first_premises R xs) xs) (start_all xs es) t).1
+      (ap (λ b. cond b (row.moved_argument (row.first_premises R xs) (heads xs) (right_heads xs es) (row.later_premises R xs) x) None) (sym t) ∙ e))
+      (λ t. none_some (ap (λ b. cond b (row.moved_argument (row.first_premises R xs) (heads xs) (right_heads xs es) (row.later_premises R xs) x) None) (sym t) ∙ e))
     where
-      go : (ps later : List (ℕ × Statement)) → ps ++ later ≡ R.premises → row.are_arguments ps xs ≡ true → start_all xs es ≡ true → row.moved ps (heads xs) (right_heads xs es) later x ≡ Some y → Prim T M G y
-      go ps [] w h k e = nothing e
+      go : (ps later : List (ℕ × Statement)) → ps ++ later ≡ R.premises → row.are_arguments ps xs ≡ true → start_all xs es ≡ true → row.moved_argument ps (heads xs) (right_heads xs es) later x ≡ Some y → Prim T M G y
+      go ps [] w h k e = none_some e
       go ps (n ∷ later) w h k e = from_when (Prim T M G) (fits x (row.at_arguments ps (heads xs) n.1)) (fill (row.at_arguments ps (right_heads xs es) n.1) (head x)) y e (λ f.
           admissible T so 6 (sequent M G (fill (act_statement free (instance_of ps (heads xs)) n.1) (head x)) ∷ sequents M G (filled_premises (instance_of ps (heads xs)) ps (heads xs) ++ equated_premises (instance_of ps (heads xs)) ps (heads xs) (right_heads xs es)))
           (sequent M G (fill (act_statement free (instance_of ps (right_heads xs es)) n.1) (head x)))
@@ -90,12 +91,12 @@ module _ (T : List Rule) (so : Sound T) (M : List (ℕ × Statement)) (G : List 
 
   pub do_premise_conversion_back : (xs es : List Statement) (x y : Statement) → row.premise_conversion_back R xs es x ≡ Some y → Trees (Step T) (sequents M G xs) → Trees (Step T) (sequents M G es) → Prim T M G x → Prim T M G y
   do_premise_conversion_back xs es x y e ts us p = by_bool (Prim T M G y) (row.are_arguments (row.first_premises R xs) xs && start_all xs es)
-      (λ t. go (row.first_premises R xs) (row.later_premises R xs) (take-append-drop (length xs) R.premises) (both (row.are_arguments (row.first_premises R xs) xs) (start_all xs es) t).0 (both (row.are_arguments (row.first_premises R xs) xs) (start_all xs es) t).1
-      (ap (λ b. cond b (row.moved (row.first_premises R xs) (right_heads xs es) (heads xs) (row.later_premises R xs) x) None) (sym t) ∙ e))
-      (λ t. nothing (ap (λ b. cond b (row.moved (row.first_premises R xs) (right_heads xs es) (heads xs) (row.later_premises R xs) x) None) (sym t) ∙ e))
+      (λ t. go (row.first_premises R xs) (row.later_premises R xs) (take-append-drop (length xs) R.premises) (and_parts (row.are_arguments (row.first_premises R xs) xs) (start_all xs es) t).0 (and_parts (row.are_arguments (row.first_premises R xs) xs) (start_all xs es) t).1
+      (ap (λ b. cond b (row.moved_argument (row.first_premises R xs) (right_heads xs es) (heads xs) (row.later_premises R xs) x) None) (sym t) ∙ e))
+      (λ t. none_some (ap (λ b. cond b (row.moved_argument (row.first_premises R xs) (right_heads xs es) (heads xs) (row.later_premises R xs) x) None) (sym t) ∙ e))
     where
-      go : (ps later : List (ℕ × Statement)) → ps ++ later ≡ R.premises → row.are_arguments ps xs ≡ true → start_all xs es ≡ true → row.moved ps (right_heads xs es) (heads xs) later x ≡ Some y → Prim T M G y
-      go ps [] w h k e = nothing e
+      go : (ps later : List (ℕ × Statement)) → ps ++ later ≡ R.premises → row.are_arguments ps xs ≡ true → start_all xs es ≡ true → row.moved_argument ps (right_heads xs es) (heads xs) later x ≡ Some y → Prim T M G y
+      go ps [] w h k e = none_some e
       go ps (n ∷ later) w h k e = from_when (Prim T M G) (fits x (row.at_arguments ps (right_heads xs es) n.1)) (fill (row.at_arguments ps (heads xs) n.1) (head x)) y e (λ f.
           admissible T so 6 (sequent M G (fill (act_statement free (instance_of ps (right_heads xs es)) n.1) (head x)) ∷ sequents M G (filled_premises (instance_of ps (heads xs)) ps (heads xs) ++ equated_premises (instance_of ps (heads xs)) ps (heads xs) (right_heads xs es)))
           (sequent M G (fill (act_statement free (instance_of ps (heads xs)) n.1) (head x)))

@@ -1,6 +1,7 @@
 -- Arguments tested one by one: each premise at the instance of the arguments before it.
 use Rattle.std.proofs.Common.{◌≡◌, ◌≢◌, ℕ, zero, Bool, true, false, cond, ◌&&◌, Option, Some, List, [], ◌∷◌, ◌++◌, refl, sym, ap, ap₂, ◌∙◌, subst, append_assoc}
 use Rattle.std.proofs.lemmas.Bool.{eq-eqb}
+use Rattle.ft_common.proofs.Options.{none_some}
 use Rattle.ft_theory.specs.Expressions.{Expression, free, Arguments, no_arguments, with_body, dummy, MentionsOnly}
 use Rattle.ft_theory.specs.Statements.{Statement, act_statement, domain_count, IsObject, IsEquation}
 use Rattle.ft_theory.specs.Rules.{Rule, rule_at, instance_of, FitsPremises}
@@ -10,7 +11,7 @@ use Rattle.ft_laws.proofs.Opens.{by_test}
 use Rattle.ft_laws.proofs.Acts.{MentionsOnly_mono}
 use Rattle.ft_laws.proofs.Statements.{AllOfStatement_mono, act_statement_agree}
 use Rattle.ft_laws.proofs.Scope.{scope, Fine, InVariables, InMetavariables}
-use Rattle.ft_laws.proofs.Rules.{nothing, found, past, instance_past}
+use Rattle.ft_laws.proofs.Rules.{found, past, instance_past}
 use Rattle.ft_laws.proofs.Finitary.{premise_at, Sound}
 use Rattle.ft_items.specs.Equal.{has_head, head, fits, fit_all, heads}
 use Rattle.ft_items.specs.Rows.{at_arguments, are_arguments}
@@ -25,7 +26,7 @@ fit_each done given (p ∷ ps) (x ∷ xs) = fits x (at_arguments done (heads giv
 
 -- further arguments change nothing for the metavariables that have theirs
 inst_so_far : (ps qs : List (ℕ × Statement)) (xs ys : List Statement) (m k : ℕ) → FitsPremises ps (heads xs) → InMetavariables ps m k → instance_of (ps ++ qs) (heads (xs ++ ys)) m k ≡ instance_of ps (heads xs) m k
-inst_so_far [] qs xs ys m k f i = nothing i.1
+inst_so_far [] qs xs ys m k f i = none_some i.1
 inst_so_far (p ∷ ps) qs [] ys m k f i = absurd f
 inst_so_far (p ∷ ps) qs (x ∷ xs) ys m k f i = go (has_head x) f (λ g j. inst_so_far ps qs xs ys m k g j)
   where

@@ -1,18 +1,19 @@
 -- Each step that an entry may state is sound.
 use Rattle.std.proofs.Common.{◌≡◌, ℕ, not, Option, Some, None, List, [], ◌∷◌, refl, subst}
 use Rattle.std.specs.Prelude.{option_map, option_and_then}
+use Rattle.std.proofs.lemmas.Option.{same_Some}
+use Rattle.std.proofs.lemmas.Bool.{not-true}
+use Rattle.ft_common.proofs.Options.{none_some}
 use Rattle.ft_theory.specs.Statements.{Statement, abstracted, close_statement}
 use Rattle.ft_theory.specs.Rules.{look_up, Rule, rule_at}
 use Rattle.ft_theory.specs.Steps.{sequents, Step, Trees, Prim}
-use Rattle.ft_laws.proofs.Fresh.{Some_injective}
-use Rattle.ft_laws.proofs.Rules.{nothing}
 use Rattle.ft_laws.proofs.Steps.{do_for_type}
 use Rattle.ft_items.specs.Sets.{Atom, union, unions, Within}
 use Rattle.ft_items.specs.Item.{by_var, by_generic, by_meta, by_metacong, by_abs, by_subst, by_substeq, by_refl, by_sym, by_trans, by_conv, by_conveq, by_left, by_right, by_typeof, by_domain, by_boundary, by_widen, by_btype, by_bterm, by_beqty, by_beqtm, by_rule, by_rulewith, by_inst, by_cong, by_convprem, by_convback, by_arg, by_natural, by_metainst, Stated}
-use Rattle.ft_items.specs.Store.{Assertion, Annotation, Declared, Store, nth, each, entry_named, variable_named, metavariable_named, rule_of, Resolved, with_one, with_two, with_three, with_four, resolve, boundaries_in, annotations_in, Derivable}
+use Rattle.ft_items.specs.Store.{Assertion, Annotation, Declared, Store, nth, each, entry_named, variable_named, metavariable_named, rule_named, Resolved, with_one, with_two, with_three, with_four, resolve, boundaries_in, annotations_in, Derivable}
 use Rattle.ft_items.specs.Rows.{statements, sets, conclusion, result_set}
 use Rattle.ft_items.specs.Rows as row
-use Rattle.ft_items.proofs.SetLemmas.{not_true, union_left, union_right}
+use Rattle.ft_items.proofs.SetLemmas.{union_left, union_right}
 use Rattle.ft_sound.proofs.Valid.{Valid, AllValid, WellFormed, sound_rules, scoped_rules, proper_empty, proper_union, proper_unions, up, up_all}
 use Rattle.ft_sound.proofs.Structural as structural
 use Rattle.ft_sound.proofs.Structural.{from_when}
@@ -69,24 +70,24 @@ Parts W F (by_metainst p ms qs) = IsValid W p × AllDeclared W F ms × AllValid 
 
 -- what was resolved
 some_1 : {A B : Type 0} (P : B → Type 0) (f : A → B) (o : Option A) (s : B) → with_one f o ≡ Some s → ((a : A) → o ≡ Some a → P (f a)) → P s
-some_1 P f None s e h = nothing e
+some_1 P f None s e h = none_some e
 some_1 P f (Some a) s e h = subst P (inner e) (h a refl)
   where
     inner : Some (f a) ≡ Some s → f a ≡ s
     inner e = cc
 
 some_2 : {A B C : Type 0} (P : C → Type 0) (f : A → B → C) (o : Option A) (p : Option B) (s : C) → with_two f o p ≡ Some s → ((a : A) → o ≡ Some a → (b : B) → p ≡ Some b → P (f a b)) → P s
-some_2 P f None p s e h = nothing e
+some_2 P f None p s e h = none_some e
 some_2 P f (Some a) p s e h = some_1 P (f a) p s e (h a refl)
 
 some_3 : {A B C D : Type 0} (P : D → Type 0) (f : A → B → C → D) (o : Option A) (p : Option B) (q : Option C) (s : D) → with_three f o p q ≡ Some s
     → ((a : A) → o ≡ Some a → (b : B) → p ≡ Some b → (c : C) → q ≡ Some c → P (f a b c)) → P s
-some_3 P f None p q s e h = nothing e
+some_3 P f None p q s e h = none_some e
 some_3 P f (Some a) p q s e h = some_2 P (f a) p q s e (h a refl)
 
 some_4 : {A B C D E : Type 0} (P : E → Type 0) (f : A → B → C → D → E) (o : Option A) (p : Option B) (q : Option C) (r : Option D) (s : E) → with_four f o p q r ≡ Some s
     → ((a : A) → o ≡ Some a → (b : B) → p ≡ Some b → (c : C) → q ≡ Some c → (d : D) → r ≡ Some d → P (f a b c d)) → P s
-some_4 P f None p q r s e h = nothing e
+some_4 P f None p q r s e h = none_some e
 some_4 P f (Some a) p q r s e h = some_3 P (f a) p q r s e (h a refl)
 
 module _ (W : Store) (F : WellFormed W) where
@@ -94,40 +95,40 @@ module _ (W : Store) (F : WellFormed W) where
   is_variable v a e = go (look_up W.variables v) refl e
     where
       go : (o : Option Annotation) → look_up W.variables v ≡ o → option_map (λ d. (v, d)) o ≡ Some a → IsVariable W a
-      go None q e = nothing e
-      go (Some d) q e = subst (IsVariable W) (Some_injective (v, d) a e) q
+      go None q e = none_some e
+      go (Some d) q e = subst (IsVariable W) (same_Some (v, d) a e) q
 
   is_metavariable : (m : ℕ) (a : ℕ × Declared) → metavariable_named W m ≡ Some a → IsMetavariable W a
   is_metavariable m a e = go (nth W.metavariables m) refl e
     where
       go : (o : Option Declared) → nth W.metavariables m ≡ o → option_map (λ d. (m, d)) o ≡ Some a → IsMetavariable W a
-      go None q e = nothing e
-      go (Some d) q e = subst (IsMetavariable W) (Some_injective (m, d) a e) q
+      go None q e = none_some e
+      go (Some d) q e = subst (IsMetavariable W) (same_Some (m, d) a e) q
 
-  is_rule : (r : ℕ) (a : ℕ × Rule) → rule_of W r ≡ Some a → IsRule W a
+  is_rule : (r : ℕ) (a : ℕ × Rule) → rule_named W r ≡ Some a → IsRule W a
   is_rule r a e = go (rule_at W.rules r) refl e
     where
       go : (o : Option Rule) → rule_at W.rules r ≡ o → option_map (λ R. (r, R)) o ≡ Some a → IsRule W a
-      go None q e = nothing e
-      go (Some R) q e = subst (IsRule W) (Some_injective (r, R) a e) q
+      go None q e = none_some e
+      go (Some R) q e = subst (IsRule W) (same_Some (r, R) a e) q
 
   all_valid : (ps : List ℕ) (as' : List Assertion) → each (entry_named W) ps ≡ Some as' → AllValid W as'
-  all_valid [] as' e = subst (AllValid W) (Some_injective [] as' e) tt
+  all_valid [] as' e = subst (AllValid W) (same_Some [] as' e) tt
   all_valid (p ∷ ps) as' e = go (entry_named W p) refl (each (entry_named W) ps) e (all_valid ps)
     where
       go : (o : Option Assertion) → entry_named W p ≡ o → (os : Option (List Assertion)) → option_and_then (λ b. option_map (λ bs. b ∷ bs) os) o ≡ Some as' → ((bs : List Assertion) → os ≡ Some bs → AllValid W bs) → AllValid W as'
-      go None q os e ih = nothing e
-      go (Some a) q None e ih = nothing e
-      go (Some a) q (Some bs) e ih = subst (AllValid W) (Some_injective (a ∷ bs) as' e) (F.entries p a q, ih bs refl)
+      go None q os e ih = none_some e
+      go (Some a) q None e ih = none_some e
+      go (Some a) q (Some bs) e ih = subst (AllValid W) (same_Some (a ∷ bs) as' e) (F.entries p a q, ih bs refl)
 
   pub all_declared : (ms : List ℕ) (ds : List (ℕ × Declared)) → each (metavariable_named W) ms ≡ Some ds → AllDeclared W F ds
-  all_declared [] ds e = subst (AllDeclared W F) (Some_injective [] ds e) tt
+  all_declared [] ds e = subst (AllDeclared W F) (same_Some [] ds e) tt
   all_declared (m ∷ ms) ds e = go (metavariable_named W m) refl (each (metavariable_named W) ms) e (all_declared ms)
     where
       go : (o : Option (ℕ × Declared)) → metavariable_named W m ≡ o → (os : Option (List (ℕ × Declared))) → option_and_then (λ b. option_map (λ bs. b ∷ bs) os) o ≡ Some ds → ((bs : List (ℕ × Declared)) → os ≡ Some bs → AllDeclared W F bs) → AllDeclared W F ds
-      go None q os e ih = nothing e
-      go (Some a) q None e ih = nothing e
-      go (Some a) q (Some bs) e ih = subst (AllDeclared W F) (Some_injective (a ∷ bs) ds e) (is_metavariable m a q, ih bs refl)
+      go None q os e ih = none_some e
+      go (Some a) q None e ih = none_some e
+      go (Some a) q (Some bs) e ih = subst (AllDeclared W F) (same_Some (a ∷ bs) ds e) (is_metavariable m a q, ih bs refl)
 
   abbrev N : ℕ → Option Assertion
   N p = entry_named W p
@@ -157,16 +158,16 @@ module _ (W : Store) (F : WellFormed W) where
   resolved (by_domain p) r e = some_1 P by_domain (N p) r e (F.entries p)
   resolved (by_boundary p) r e = some_1 P by_boundary (N p) r e (F.entries p)
   resolved (by_widen p q) r e = some_2 P by_widen (N p) (N q) r e (λ a i b j. (F.entries p a i, F.entries q b j))
-  resolved by_btype r e = subst P (Some_injective by_btype r e) tt
+  resolved by_btype r e = subst P (same_Some by_btype r e) tt
   resolved (by_bterm p) r e = some_1 P by_bterm (N p) r e (F.entries p)
   resolved (by_beqty p q) r e = some_2 P by_beqty (N p) (N q) r e (λ a i b j. (F.entries p a i, F.entries q b j))
   resolved (by_beqtm p q t) r e = some_3 P by_beqtm (N p) (N q) (N t) r e (λ a i b j c k. (F.entries p a i, F.entries q b j, F.entries t c k))
-  resolved (by_rule n ps) r e = some_2 P by_rule (rule_of W n) (Ns ps) r e (λ a i b j. (is_rule n a i, all_valid ps b j))
-  resolved (by_rulewith n p ps) r e = some_3 P by_rulewith (rule_of W n) (N p) (Ns ps) r e (λ a i b j c k. (is_rule n a i, F.entries p b j, all_valid ps c k))
-  resolved (by_inst n ps) r e = some_2 P by_inst (rule_of W n) (Ns ps) r e (λ a i b j. (is_rule n a i, all_valid ps b j))
-  resolved (by_cong n ps es) r e = some_3 P by_cong (rule_of W n) (Ns ps) (Ns es) r e (λ a i b j c k. (is_rule n a i, all_valid ps b j, all_valid es c k))
-  resolved (by_convprem n ps es q) r e = some_4 P by_convprem (rule_of W n) (Ns ps) (Ns es) (N q) r e (λ a i b j c k d l. (is_rule n a i, all_valid ps b j, all_valid es c k, F.entries q d l))
-  resolved (by_convback n ps es q) r e = some_4 P by_convback (rule_of W n) (Ns ps) (Ns es) (N q) r e (λ a i b j c k d l. (is_rule n a i, all_valid ps b j, all_valid es c k, F.entries q d l))
+  resolved (by_rule n ps) r e = some_2 P by_rule (rule_named W n) (Ns ps) r e (λ a i b j. (is_rule n a i, all_valid ps b j))
+  resolved (by_rulewith n p ps) r e = some_3 P by_rulewith (rule_named W n) (N p) (Ns ps) r e (λ a i b j c k. (is_rule n a i, F.entries p b j, all_valid ps c k))
+  resolved (by_inst n ps) r e = some_2 P by_inst (rule_named W n) (Ns ps) r e (λ a i b j. (is_rule n a i, all_valid ps b j))
+  resolved (by_cong n ps es) r e = some_3 P by_cong (rule_named W n) (Ns ps) (Ns es) r e (λ a i b j c k. (is_rule n a i, all_valid ps b j, all_valid es c k))
+  resolved (by_convprem n ps es q) r e = some_4 P by_convprem (rule_named W n) (Ns ps) (Ns es) (N q) r e (λ a i b j c k d l. (is_rule n a i, all_valid ps b j, all_valid es c k, F.entries q d l))
+  resolved (by_convback n ps es q) r e = some_4 P by_convback (rule_named W n) (Ns ps) (Ns es) (N q) r e (λ a i b j c k d l. (is_rule n a i, all_valid ps b j, all_valid es c k, F.entries q d l))
   resolved (by_arg i p) r e = some_1 P (by_arg i) (N p) r e (F.entries p)
   resolved (by_natural p) r e = some_1 P by_natural (N p) r e (F.entries p)
   resolved (by_metainst p ms qs) r e = some_3 P by_metainst (N p) (each (metavariable_named W) ms) (Ns qs) r e (λ a i b j c k. (F.entries p a i, all_declared ms b j, all_valid qs c k))
@@ -191,14 +192,14 @@ module _ (W : Store) (F : WellFormed W) where
   list ps R vs w = up_all W (scoped_rules W F) ps R w vs
 
   pub sound_step : (r : Resolved) → Parts W F r → (y : Statement) → conclusion W r ≡ Some y → Valid W y (result_set r)
-  sound_step (by_var v) h y e = subst (λ z. Valid W z (result_set (by_var v))) (Some_injective _ y e) (metas.do_var W F v.0 v.1 h)
-  sound_step (by_generic m) h y e = subst (λ z. Valid W z (result_set (by_generic m))) (Some_injective _ y e) (metas.do_generic W F m.0 m.1 h)
+  sound_step (by_var v) h y e = subst (λ z. Valid W z (result_set (by_var v))) (same_Some _ y e) (metas.do_var W F v.0 v.1 h)
+  sound_step (by_generic m) h y e = subst (λ z. Valid W z (result_set (by_generic m))) (same_Some _ y e) (metas.do_generic W F m.0 m.1 h)
   sound_step (by_meta m ps) h y e = metas.do_meta W F m.0 m.1 h.0 ps h.1 y e
   sound_step (by_metacong m es) h y e = metas.do_meta_congruence W F m.0 m.1 h.0 es h.1 y e
   sound_step (by_abs v p) h y e = from_when (λ z. Valid W z (result_set (by_abs v p))) (not (row.depends W.variables v.0 p.set)) (abstracted v.1.annotation (close_statement v.0 p.statement)) y e (λ t.
       record {
-        proper = metas.do_abs_proper W F v.0 v.1 p.set h.0 (not_true (row.depends W.variables v.0 p.set) t) h.1.proper;
-        derivable = metas.do_abs W F v.0 v.1 p.statement p.set h.0 (not_true (row.depends W.variables v.0 p.set) t) h.1.derivable;
+        proper = metas.do_abs_proper W F v.0 v.1 p.set h.0 (not-true (row.depends W.variables v.0 p.set) t) h.1.proper;
+        derivable = metas.do_abs W F v.0 v.1 p.statement p.set h.0 (not-true (row.depends W.variables v.0 p.set) t) h.1.derivable;
       })
   sound_step (by_subst p t) h y e = two p.statement t.statement y p.set t.set h.0 h.1 (λ a b. structural.do_substitution W.rules (sound_rules W F) (M (union p.set t.set)) (G (union p.set t.set)) p.statement t.statement y e a b)
   sound_step (by_substeq p t) h y e = two p.statement t.statement y p.set t.set h.0 h.1 (λ a b. structural.do_equal_substitution W.rules (sound_rules W F) (M (union p.set t.set)) (G (union p.set t.set)) p.statement t.statement y e a b)
@@ -211,9 +212,9 @@ module _ (W : Store) (F : WellFormed W) where
   sound_step (by_right p) h y e = one p.statement y p.set h (structural.do_right W.rules (sound_rules W F) (M p.set) (G p.set) p.statement y e)
   sound_step (by_typeof p) h y e = one p.statement y p.set h (structural.do_typeof W.rules (sound_rules W F) (M p.set) (G p.set) p.statement y e)
   sound_step (by_domain p) h y e = one p.statement y p.set h (structural.do_domain W.rules (sound_rules W F) (M p.set) (G p.set) p.statement y e)
-  sound_step (by_boundary p) h y e = one p.statement y p.set h (λ a. subst (λ z. Derivable W z p.set) (Some_injective _ y e) (structural.do_boundary W.rules (sound_rules W F) (M p.set) (G p.set) p.statement a))
-  sound_step (by_widen p t) h y e = two p.statement t.statement y p.set t.set h.0 h.1 (λ a b. subst (λ z. Derivable W z (union p.set t.set)) (Some_injective p.statement y e) a)
-  sound_step by_btype h y e = subst (λ z. Valid W z []) (Some_injective _ y e) (record { proper = proper_empty W; derivable = do_for_type })
+  sound_step (by_boundary p) h y e = one p.statement y p.set h (λ a. subst (λ z. Derivable W z p.set) (same_Some _ y e) (structural.do_boundary W.rules (sound_rules W F) (M p.set) (G p.set) p.statement a))
+  sound_step (by_widen p t) h y e = two p.statement t.statement y p.set t.set h.0 h.1 (λ a b. subst (λ z. Derivable W z (union p.set t.set)) (same_Some p.statement y e) a)
+  sound_step by_btype h y e = subst (λ z. Valid W z []) (same_Some _ y e) (record { proper = proper_empty W; derivable = do_for_type })
   sound_step (by_bterm p) h y e = one p.statement y p.set h (structural.do_term_boundary W.rules (sound_rules W F) (M p.set) (G p.set) p.statement y e)
   sound_step (by_beqty p t) h y e = two p.statement t.statement y p.set t.set h.0 h.1 (λ a b. structural.do_type_equation_boundary W.rules (sound_rules W F) (M (union p.set t.set)) (G (union p.set t.set)) p.statement t.statement y e a b)
   sound_step (by_beqtm p s t) h y e =

@@ -1,16 +1,17 @@
 -- The theorems on good lists.
-use Rattle.std.proofs.Common.{◌≡◌, ◌≢◌, ℕ, zero, suc, ◌+◌, Bool, true, false, nat_eq, ◌&&◌, not, Option, Some, None, List, [], ◌∷◌, ◌++◌, length, inl, inr, refl, sym, ap, ◌∙◌, subst, arith, append_assoc, length-append}
-use Rattle.std.proofs.lemmas.Bool.{ltb-true, lt-ltb, eqb-true}
+use Rattle.std.proofs.Common.{◌≡◌, ◌≢◌, ℕ, zero, suc, ◌+◌, true, false, nat_eq, not, Option, Some, None, List, [], ◌∷◌, ◌++◌, length, inl, inr, refl, sym, ap, ◌∙◌, subst, arith, append_assoc, length-append}
+use Rattle.std.proofs.lemmas.Bool.{ltb-true, lt-ltb, eqb-true, and_parts, not-true, and_from}
+use Rattle.std.proofs.lemmas.Option.{same_Some}
+use Rattle.ft_common.proofs.Booleans.{true_false}
+use Rattle.ft_common.proofs.Options.{none_some}
 use Rattle.ft_theory.specs.Statements.{is_type, plain}
 use Rattle.ft_theory.specs.Rules.{look_up}
-use Rattle.ft_laws.proofs.Fresh.{Some_injective}
-use Rattle.ft_laws.proofs.Rules.{nothing}
 use Rattle.ft_items.specs.Sets.{Atom, met, var, precedes, Has, Within, Ascending}
 use Rattle.ft_items.specs.Item.{Name, Entry, Item, variable, metavariable, rule, entry, shown}
 use Rattle.ft_items.specs.Store.{Assertion, Annotation, Declared, Store, nth, each, entry_named, metavariable_named, add_variable, add_metavariable, add_rule, add, add_all, empty_store, store_of}
 use Rattle.ft_items.specs.Good.{Reject, equal_names, is_new, reason_in, reason, AllowedIn, GoodAfter, Good, Counts, counts, Accepted, Rejected, found_at, first_rejected, verdict_by}
 use Rattle.ft_sound.specs.Soundness.{EntriesDerivable, MemberHolds, MembersHold, ContextsWellFormed, AtomsInSet, HasItsSet, SetsClosed, RulesFinitary, Differs, AllDiffer, NamesDiffer, AllowedWithoutReason, AcceptedAreGood, GoodAreAccepted, RejectedIsFirst, FirstIsRejected, NoReasonIsGood, AcceptedAreDerivable}
-use Rattle.ft_items.proofs.SetLemmas.{wrong, both, not_true, precedes_trans, irreflexive, all_after}
+use Rattle.ft_items.proofs.SetLemmas.{precedes_trans, irreflexive, all_after}
 use Rattle.ft_sound.proofs.Valid.{Declares, Proper, Valid, WellFormed, scoped_rules, up, mentions}
 use Rattle.ft_items.proofs.Lists.{good_split}
 use Rattle.ft_sound.proofs.Good.{entry_valid}
@@ -97,19 +98,12 @@ contexts_well_formed items g before after e p =
     members_hold (store_of before) b.0 [] e.set (valid_entry (store_of before) e b).proper
 
 -- names
-both_true : (a b : Bool) → a ≡ true → b ≡ true → (a && b) ≡ true
-both_true true b h k = k
-both_true false b h k = wrong h
-
 equal_names_self : (n : Name) → equal_names n n ≡ true
 equal_names_self [] = refl
-equal_names_self (c ∷ n) = both_true (nat_eq c c) (equal_names n n) (Rattle.std.proofs.lemmas.Bool.eq-eqb c c refl) (equal_names_self n)
+equal_names_self (c ∷ n) = and_from (nat_eq c c) (equal_names n n) (Rattle.std.proofs.lemmas.Bool.eq-eqb c c refl) (equal_names_self n)
 
 name_differs : (m n : Name) → equal_names m n ≡ false → m ≢ n
-name_differs m n h e = clash (sym (subst (λ z. equal_names z n ≡ true) (sym e) (equal_names_self n)) ∙ h)
-  where
-    clash : true ≡ false → ⊥
-    clash e = cc
+name_differs m n h e = true_false (sym (subst (λ z. equal_names z n ≡ true) (sym e) (equal_names_self n)) ∙ h)
 
 differs_last : (m : Name) (ns : List Name) (n : Name) → Differs m ns → m ≢ n → Differs m (ns ++ (n ∷ []))
 differs_last m [] n d h = (h, tt)
@@ -118,8 +112,8 @@ differs_last m (k ∷ ns) n d h = (d.0, differs_last m ns n d.1 h)
 all_differ_last : (ns : List Name) (n : Name) → AllDiffer ns → is_new ns n ≡ true → AllDiffer (ns ++ (n ∷ []))
 all_differ_last [] n d h = (tt, tt)
 all_differ_last (m ∷ ns) n d h =
-    let k : (not (equal_names m n) ≡ true) × (is_new ns n ≡ true) = both (not (equal_names m n)) (is_new ns n) h in
-    (differs_last m ns n d.0 (name_differs m n (not_true (equal_names m n) k.0)), all_differ_last ns n d.1 k.1)
+    let k : (not (equal_names m n) ≡ true) × (is_new ns n ≡ true) = and_parts (not (equal_names m n)) (is_new ns n) h in
+    (differs_last m ns n d.0 (name_differs m n (not-true (equal_names m n) k.0)), all_differ_last ns n d.1 k.1)
 
 abbrev NamesFine : Store → Type 0
 NamesFine W = AllDiffer W.names × (length W.names ≡ length W.rules)
@@ -161,7 +155,7 @@ none_good W k (i ∷ items) h = go (reason_in W i) refl h (none_good (add W i) (
   where
     go : (o : Option Reject) → reason_in W i ≡ o → found_at k o (first_rejected (add W i) (suc k) items) ≡ None → (first_rejected (add W i) (suc k) items ≡ None → GoodAfter (add W i) items) → AllowedIn W i × GoodAfter (add W i) items
     go None q h ih = (allowed W i q, ih h)
-    go (Some why) q h ih = nothing (sym h)
+    go (Some why) q h ih = none_some (sym h)
 
 good_none : (W : Store) → WellFormed W → (k : ℕ) (items : List Item) → GoodAfter W items → first_rejected W k items ≡ None
 good_none W F k [] g = refl
@@ -171,7 +165,7 @@ abbrev First : Store → ℕ → List Item → ℕ → Reject → Type 0
 First W k items j why = (before : List Item) × (i : Item) × (after : List Item) × (items ≡ before ++ (i ∷ after)) × (length before + k ≡ j) × GoodAfter W before × (reason_in (add_all W before) i ≡ Some why)
 
 some_first : (W : Store) (k : ℕ) (items : List Item) (r : ℕ × Reject) → first_rejected W k items ≡ Some r → First W k items r.0 r.1
-some_first W k [] r e = nothing e
+some_first W k [] r e = none_some e
 some_first W k (i ∷ items) r e = go (reason_in W i) refl e (some_first (add W i) (suc k) items r)
   where
     later : reason_in W i ≡ None → First (add W i) (suc k) items r.0 r.1 → First W k (i ∷ items) r.0 r.1
@@ -180,7 +174,7 @@ some_first W k (i ∷ items) r e = go (reason_in W i) refl e (some_first (add W 
     go : (o : Option Reject) → reason_in W i ≡ o → found_at k o (first_rejected (add W i) (suc k) items) ≡ Some r → (first_rejected (add W i) (suc k) items ≡ Some r → First (add W i) (suc k) items r.0 r.1) → First W k (i ∷ items) r.0 r.1
     go None q e ih = later q (ih e)
     go (Some w) q e ih =
-        let p : (k, w) ≡ r = Some_injective (k, w) r e in
+        let p : (k, w) ≡ r = same_Some (k, w) r e in
         ([], i, items, refl, omega (arith, ap (λ (z : ℕ × Reject). z.0) p), tt, q ∙ ap (λ (z : ℕ × Reject). Some z.1) p)
 
 first_some : (W : Store) → WellFormed W → (k : ℕ) (before after : List Item) (i : Item) (why : Reject) → GoodAfter W before → reason_in (add_all W before) i ≡ Some why → first_rejected W k (before ++ (i ∷ after)) ≡ Some (length before + k, why)

@@ -1,12 +1,14 @@
 -- Valid assertions: derivable, with a set that is closed.
 use Rattle.std.proofs.Common.{◌≡◌, ◌≢◌, ℕ, zero, ◌<◌, Option, Some, None, List, [], ◌∷◌, ◌⊎◌, inl, inr, refl, sym, ap, ◌∙◌, subst}
+use Rattle.ft_common.proofs.Options.{none_some}
+use Rattle.ft_common.proofs.Choices.{if_same, if_other}
 use Rattle.ft_theory.specs.Expressions.{Expression, MentionsOnly}
 use Rattle.ft_theory.specs.Statements.{is_type, Statement, plain, StatementMentionsOnly, IsObject, IsEquation}
 use Rattle.ft_theory.specs.Rules.{look_up, Rule, rule_at}
 use Rattle.ft_theory.specs.Steps.{sequent, sequents, IsVariableFree, Step, Trees, none, more, Prim}
 use Rattle.ft_theory.specs.Derivability.{FinitaryUpTo}
-use Rattle.ft_laws.proofs.Opens.{same, other, by_test}
-use Rattle.ft_laws.proofs.Rules.{found, past, nothing}
+use Rattle.ft_laws.proofs.Opens.{by_test}
+use Rattle.ft_laws.proofs.Rules.{found, past}
 use Rattle.ft_laws.proofs.Commute.{ScopedTheory}
 use Rattle.ft_laws.proofs.Traverse.{Grows}
 use Rattle.ft_laws.proofs.Substitute.{Extends, weaken}
@@ -28,7 +30,7 @@ abbrev pub VarIn : Store → List Atom → ℕ → Expression → Type 0
 VarIn W S v A = (d : Annotation) × Has (var v) S × (look_up W.variables v ≡ Some d) × (d.annotation ≡ A)
 
 pub look_mets : (W : Store) (S : List Atom) (m : ℕ) (b : Statement) → look_up (boundaries_in W S) m ≡ Some b → MetIn W S m b
-look_mets W [] m b q = nothing q
+look_mets W [] m b q = none_some q
 look_mets W (met n ∷ S) m b q = go (nth W.metavariables n) refl (look_mets W S m b) q
   where
     later : MetIn W S m b → MetIn W (met n ∷ S) m b
@@ -57,11 +59,11 @@ mets_look W (met n ∷ S) m d h q = go (nth W.metavariables n) refl (mets_look W
 
     go : (o : Option Declared) → nth W.metavariables n ≡ o → (Has (met m) S → nth W.metavariables m ≡ Some d → look_up (boundaries_in W S) m ≡ Some d.boundary) → Has (met m) (met n ∷ S) → look_up (with_boundary n o (boundaries_in W S)) m ≡ Some d.boundary
     go None e ih h = by_test (look_up (boundaries_in W S) m ≡ Some d.boundary) m n
-        (λ p. nothing (sym e ∙ ap (nth W.metavariables) (sym p) ∙ q))
+        (λ p. none_some (sym e ∙ ap (nth W.metavariables) (sym p) ∙ q))
         (λ p. split p h (λ k. ih k q))
     go (Some c) e ih h = by_test (look_up (with_boundary n (Some c) (boundaries_in W S)) m ≡ Some d.boundary) m n
-        (λ p. same m n (Some c.boundary) (look_up (boundaries_in W S) m) p ∙ ap (λ (x : Declared). Some x.boundary) (both_some c (sym e ∙ ap (nth W.metavariables) (sym p) ∙ q)))
-        (λ p. other m n (Some c.boundary) (look_up (boundaries_in W S) m) p ∙ split p h (λ k. ih k q))
+        (λ p. if_same m n (Some c.boundary) (look_up (boundaries_in W S) m) p ∙ ap (λ (x : Declared). Some x.boundary) (both_some c (sym e ∙ ap (nth W.metavariables) (sym p) ∙ q)))
+        (λ p. if_other m n (Some c.boundary) (look_up (boundaries_in W S) m) p ∙ split p h (λ k. ih k q))
 mets_look W (var n ∷ S) m d (inl e) q = absurd (clash e)
   where
     clash : met m ≡ var n → ⊥
@@ -69,7 +71,7 @@ mets_look W (var n ∷ S) m d (inl e) q = absurd (clash e)
 mets_look W (var n ∷ S) m d (inr h) q = mets_look W S m d h q
 
 pub look_vars : (W : Store) (S : List Atom) (v : ℕ) (A : Expression) → look_up (annotations_in W S) v ≡ Some A → VarIn W S v A
-look_vars W [] v A q = nothing q
+look_vars W [] v A q = none_some q
 look_vars W (var n ∷ S) v A q = go (look_up W.variables n) refl (look_vars W S v A) q
   where
     later : VarIn W S v A → VarIn W (var n ∷ S) v A
@@ -98,11 +100,11 @@ vars_look W (var n ∷ S) v d h q = go (look_up W.variables n) refl (vars_look W
 
     go : (o : Option Annotation) → look_up W.variables n ≡ o → (Has (var v) S → look_up W.variables v ≡ Some d → look_up (annotations_in W S) v ≡ Some d.annotation) → Has (var v) (var n ∷ S) → look_up (with_annotation n o (annotations_in W S)) v ≡ Some d.annotation
     go None e ih h = by_test (look_up (annotations_in W S) v ≡ Some d.annotation) v n
-        (λ p. nothing (sym e ∙ ap (look_up W.variables) (sym p) ∙ q))
+        (λ p. none_some (sym e ∙ ap (look_up W.variables) (sym p) ∙ q))
         (λ p. split p h (λ k. ih k q))
     go (Some c) e ih h = by_test (look_up (with_annotation n (Some c) (annotations_in W S)) v ≡ Some d.annotation) v n
-        (λ p. same v n (Some c.annotation) (look_up (annotations_in W S) v) p ∙ ap (λ (x : Annotation). Some x.annotation) (both_some c (sym e ∙ ap (look_up W.variables) (sym p) ∙ q)))
-        (λ p. other v n (Some c.annotation) (look_up (annotations_in W S) v) p ∙ split p h (λ k. ih k q))
+        (λ p. if_same v n (Some c.annotation) (look_up (annotations_in W S) v) p ∙ ap (λ (x : Annotation). Some x.annotation) (both_some c (sym e ∙ ap (look_up W.variables) (sym p) ∙ q)))
+        (λ p. if_other v n (Some c.annotation) (look_up (annotations_in W S) v) p ∙ split p h (λ k. ih k q))
 vars_look W (met n ∷ S) v d (inl e) q = absurd (clash e)
   where
     clash : var v ≡ met n → ⊥

@@ -8,15 +8,13 @@ use Rattle.ft_syntax.specs.Arguments.{Argument, node_of, arguments_of, applied, 
 use Rattle.ft_syntax.specs.Table.{tree, Extends, argument_in, BodyBelow, ArgumentsBelow}
 use Rattle.ft_syntax.specs.Laws.{extends_same, extends_trans, length_extends, tree_extends, arguments_extend, body_longer, arguments_longer, arguments_push, argument_below}
 use Rattle.ft_syntax.specs.Measures.{IsSmallBody, AreSmall}
-use Rattle.ft_syntax.specs.Invariant.{IsApplied}
+use Rattle.ft_syntax.specs.Invariant.{HasArguments, IsApplied}
 use Rattle.ft_syntax.specs.Changes.{changed, changed_argument, ChangeBelow}
 use Rattle.ft_syntax.specs.declared.syntax.Arg.{Arg}
 use Rattle.ft_syntax.specs.declared.syntax.Node.{Node}
 use Rattle.ft_syntax.specs.declared.syntax.Node.TheVariants.{Bound, Free, Sym, Meta}
-use Rattle.ft_syntax.specs.declared.table.Row.{Row}
 use Rattle.ft_syntax.specs.declared.change.Change.{Change}
 use Rattle.ft_syntax.specs.declared.change.Change.TheVariants.{Open, Close, Replace, Raise}
-use Rattle.ft_syntax.proofs.Tables.{IsRow, row_arguments}
 use Rattle.ft_syntax.proofs.Lists.{take_all}
 use Rattle.ft_syntax.proofs.Parts.{applied_node_of, arguments_fit, small_arguments}
 use Rattle.ft_syntax.proofs.Changes.{changed_applied}
@@ -180,5 +178,5 @@ change_falls e i xs x b l g = go x.body (argument_below e i xs x b l g)
 pub applied_falls : (ts : List Expression) (e i : ℕ) (xs : List Arg) (x : Arg) → IsApplied ts e xs → i < length xs → x ≡ get_or xs i x → change_measure x.body < 4 * e + 1
 applied_falls ts e i xs x a l g = change_falls e i xs x a.below l g
 
-pub row_applied : (ts : List Expression) (e : ℕ) (r : Row) (xs : List Arg) → IsRow ts e r → IsApplication (node_of (tree ts e)) → xs ≡ r.args.items → IsApplied ts e xs
-row_applied ts e r xs h a g = record { within = h.within; application = a; is = row_arguments ts e r h ∙ ap (map (argument_in ts)) (sym g); below = subst (ArgumentsBelow e) (sym g) h.below }
+pub arguments_applied : (ts : List Expression) (e : ℕ) (xs ys : List Arg) → HasArguments ts e xs → IsApplication (node_of (tree ts e)) → ys ≡ xs → IsApplied ts e ys
+arguments_applied ts e xs ys h a g = record { within = h.within; application = a; is = h.is ∙ ap (map (argument_in ts)) (sym g); below = subst (ArgumentsBelow e) (sym g) h.below }

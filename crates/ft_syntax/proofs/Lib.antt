@@ -1,4 +1,5 @@
 pub mod Tables
+pub mod Seen
 pub mod Parts
 pub mod Measures
 pub mod Lists

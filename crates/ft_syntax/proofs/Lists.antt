@@ -2,12 +2,15 @@
 use Rattle.std.proofs.Common.{◌≡◌, ℕ, zero, suc, ◌+◌, ◌*◌, ◌<◌, ◌≤◌, List, [], ◌∷◌, ◌++◌, length, get_or, take, map, Option, Some, None, refl, sym, ap, ap₂, ◌∙◌, subst, arith, slice_get}
 use Rattle.std.proofs.Math.Seq.{take-suc}
 use Rattle.std.proofs.lemmas.List.{map-append}
+use Rattle.std.proofs.lemmas.Option.{same_Some}
 use Rattle.ft_theory.specs.Expressions.{Expression, also}
 use Rattle.ft_syntax.specs.Arguments.{AreTerms, as_terms, applied, node_of, arguments_of}
 use Rattle.ft_syntax.specs.Table.{tree, argument_in, terms_in, BodyBelow, ArgumentsBelow, AllBelow, term_argument}
 use Rattle.ft_syntax.specs.declared.syntax.Arg.{Arg}
-use Rattle.ft_syntax.specs.declared.table.Row.{Row}
-use Rattle.ft_syntax.proofs.Tables.{IsRow, row_node, row_arguments, row_count, row_below, row_argument}
+use Rattle.ft_syntax.specs.Invariant.{HasArguments}
+use Rattle.ft_syntax.specs.Laws.{body_longer}
+use Rattle.ft_syntax.proofs.Parts.{applied_node_of}
+use Rattle.ft_syntax.proofs.Tables.{count_is, argument_is, body_is}
 
 -- the terms of a metavariable
 pub terms_below : (n : ℕ) (es : List ℕ) → AllBelow n es → ArgumentsBelow n (map term_argument es)
@@ -22,9 +25,9 @@ pub terms_are : (ts : List Expression) (es : List ℕ) → as_terms (map (argume
 terms_are ts [] = refl
 terms_are ts (e ∷ es) = ap (λ a. also (tree ts e) a) (terms_are ts es)
 
--- the body of an argument of a row is a tree of the table
-pub body_in : (ts : List Expression) (e i j : ℕ) (r : Row) (x : Arg) → IsRow ts e r → i < length r.args.items → x ≡ get_or r.args.items i x → x.body ≡ Some j → (j < e) × (j < length ts)
-body_in ts e i j r x h l g b = let k = subst (BodyBelow e) b (row_below ts e i r x h l g) in (k, omega (arith, h.within))
+-- the body of an argument is a tree of the table
+pub body_in : (ts : List Expression) (e i j : ℕ) (xs : List Arg) (x : Arg) → HasArguments ts e xs → i < length xs → x ≡ get_or xs i x → x.body ≡ Some j → (j < e) × (j < length ts)
+body_in ts e i j xs x h l g b = let k = subst (BodyBelow e) b (body_is ts e i xs x h l g) in (k, omega (arith, h.within))
 
 pub take_all : (i : ℕ) (xs : List Arg) → length xs ≤ i → take i xs ≡ xs
 take_all zero [] l = refl
@@ -47,49 +50,34 @@ pub same_more : (ts : List Expression) (i : ℕ) (xs ys : List Arg) (x y : Arg) 
 same_more ts i xs ys x y s l k g h e =
     record { same = take_more ts i xs x l g ∙ ap₂ (λ ps p. ps ++ p ∷ []) s.same e ∙ sym (take_more ts i ys y k h) }
 
-pub same_rows : (ts : List Expression) (a b i : ℕ) (r q : Row) → IsRow ts a r → IsRow ts b q → r.node ≡ q.node → SameFirst ts i r.args.items q.args.items → length r.args.items ≤ i → length q.args.items ≤ i → tree ts a ≡ tree ts b
-same_rows ts a b i r q h k n s l m =
-    let xs = r.args.items in let ys = q.args.items in
+pub same_trees : (ts : List Expression) (a b i : ℕ) (xs ys : List Arg) → HasArguments ts a xs → HasArguments ts b ys → node_of (tree ts a) ≡ node_of (tree ts b) → SameFirst ts i xs ys → length xs ≤ i → length ys ≤ i → tree ts a ≡ tree ts b
+same_trees ts a b i xs ys h k n s l m =
     let same : map (argument_in ts) xs ≡ map (argument_in ts) ys = sym (ap (map (argument_in ts)) (take_all i xs l)) ∙ s.same ∙ ap (map (argument_in ts)) (take_all i ys m) in
-    h.is ∙ ap₂ applied n same ∙ sym k.is
+    sym (applied_node_of (tree ts a)) ∙ ap₂ applied n (h.is ∙ same ∙ sym k.is) ∙ applied_node_of (tree ts b)
 
-pub other_nodes : (ts : List Expression) (a b : ℕ) (r q : Row) → IsRow ts a r → IsRow ts b q → tree ts a ≡ tree ts b → r.node ≡ q.node
-other_nodes ts a b r q h k e = sym (row_node ts a r h) ∙ ap node_of e ∙ row_node ts b q k
+pub other_counts : (ts : List Expression) (a b : ℕ) (xs ys : List Arg) → HasArguments ts a xs → HasArguments ts b ys → tree ts a ≡ tree ts b → length xs ≡ length ys
+other_counts ts a b xs ys h k e = sym (count_is ts a xs h) ∙ ap (λ t. length (arguments_of t)) e ∙ count_is ts b ys k
 
-same_arguments : (ts : List Expression) (a b : ℕ) (r q : Row) → IsRow ts a r → IsRow ts b q → tree ts a ≡ tree ts b → map (argument_in ts) r.args.items ≡ map (argument_in ts) q.args.items
-same_arguments ts a b r q h k e = sym (row_arguments ts a r h) ∙ ap arguments_of e ∙ row_arguments ts b q k
-
-pub other_counts : (ts : List Expression) (a b : ℕ) (r q : Row) → IsRow ts a r → IsRow ts b q → tree ts a ≡ tree ts b → length r.args.items ≡ length q.args.items
-other_counts ts a b r q h k e = sym (row_count ts a r h) ∙ ap (λ t. length (arguments_of t)) e ∙ row_count ts b q k
-
-pub other_arguments : (ts : List Expression) (a b i : ℕ) (r q : Row) (x y : Arg) → IsRow ts a r → IsRow ts b q → i < length r.args.items → i < length q.args.items → x ≡ get_or r.args.items i x → y ≡ get_or q.args.items i y →
+pub other_arguments : (ts : List Expression) (a b i : ℕ) (xs ys : List Arg) (x y : Arg) → HasArguments ts a xs → HasArguments ts b ys → i < length xs → i < length ys → x ≡ get_or xs i x → y ≡ get_or ys i y →
     tree ts a ≡ tree ts b → argument_in ts x ≡ argument_in ts y
-other_arguments ts a b i r q x y h k l m f g e =
-    let u : slice_get (arguments_of (tree ts a)) i ≡ Some (argument_in ts x) = row_argument ts a i r x h l f in
-    let v : slice_get (arguments_of (tree ts b)) i ≡ Some (argument_in ts y) = row_argument ts b i q y k m g in
-    some_same (sym u ∙ ap (λ t. slice_get (arguments_of t) i) e ∙ v)
-  where
-    some_same : {X : Type 0} {x y : X} → Some x ≡ Some y → x ≡ y
-    some_same e = cc
+other_arguments ts a b i xs ys x y h k l m f g e =
+    same_Some (argument_in ts x) (argument_in ts y)
+    (sym (argument_is ts a i xs x h l f) ∙ ap (λ t. slice_get (arguments_of t) i) e ∙ argument_is ts b i ys y k m g)
 
 -- a measure of what is below an argument
 abbrev pub body_measure : Option ℕ → ℕ
 body_measure None = 0
 body_measure (Some e) = 2 * e + 2
 
-pub measure_falls : (e i : ℕ) (ts : List Expression) (r : Row) (x : Arg) → IsRow ts e r → i < length r.args.items → x ≡ get_or r.args.items i x → body_measure x.body < 2 * e + 1
-measure_falls e i ts r x h l g = go x.body (row_below ts e i r x h l g)
+pub measure_falls : (e i : ℕ) (ts : List Expression) (xs : List Arg) (x : Arg) → HasArguments ts e xs → i < length xs → x ≡ get_or xs i x → body_measure x.body < 2 * e + 1
+measure_falls e i ts xs x h l g = go x.body (body_is ts e i xs x h l g)
   where
     go : (b : Option ℕ) → BodyBelow e b → body_measure b < 2 * e + 1
     go None k = omega arith
     go (Some j) k = omega arith
 
-pub bodies_in : (ts : List Expression) (e i : ℕ) (r : Row) (x : Arg) → IsRow ts e r → i < length r.args.items → x ≡ get_or r.args.items i x → BodyBelow (length ts) x.body
-bodies_in ts e i r x h l g = go x.body (row_below ts e i r x h l g)
-  where
-    go : (b : Option ℕ) → BodyBelow e b → BodyBelow (length ts) b
-    go None k = tt
-    go (Some j) k = omega (arith, h.within)
+pub bodies_in : (ts : List Expression) (e i : ℕ) (xs : List Arg) (x : Arg) → HasArguments ts e xs → i < length xs → x ≡ get_or xs i x → BodyBelow (length ts) x.body
+bodies_in ts e i xs x h l g = body_longer e (length ts) x.body (omega (arith, h.within)) (body_is ts e i xs x h l g)
 
 pub terms_more : (es : List ℕ) (xs : List Arg) (i e : ℕ) → xs ≡ map term_argument (take i es) → i < length es → e ≡ get_or es i e → xs ++ record { binders = 0; body = Some e } ∷ [] ≡ map term_argument (take (suc i) es)
 terms_more es xs i e h l g =

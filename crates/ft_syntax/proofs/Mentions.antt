@@ -1,13 +1,14 @@
 -- Which free variables the arguments of a row mention.
 use Rattle.std.proofs.Common.{◌≡◌, ◌≢◌, ℕ, zero, suc, ◌<◌, ◌≤◌, List, [], ◌∷◌, ◌++◌, length, get_or, take, map, Some, None, option_map, refl, sym, ap, ◌∙◌, subst, arith}
 use Rattle.ft_theory.specs.Expressions.{Expression, free, Without, ArgumentsMentionOnly, TermsMentionOnly}
-use Rattle.ft_syntax.specs.Arguments.{Argument, AreTerms, FitsNode, as_arguments, as_terms, applied}
+use Rattle.ft_syntax.specs.Arguments.{Argument, node_of, arguments_of, AreTerms, FitsNode, as_arguments, as_terms, applied}
 use Rattle.ft_syntax.specs.Table.{tree, argument_in}
 use Rattle.ft_syntax.specs.declared.syntax.Arg.{Arg}
 use Rattle.ft_syntax.specs.declared.syntax.Node.{Node}
 use Rattle.ft_syntax.specs.declared.syntax.Node.TheVariants.{Bound, Free, Sym, Meta}
-use Rattle.ft_syntax.specs.declared.table.Row.{Row}
-use Rattle.ft_syntax.proofs.Tables.{IsRow}
+use Rattle.ft_syntax.specs.Invariant.{HasArguments}
+use Rattle.ft_syntax.proofs.Parts.{applied_node_of, arguments_fit}
+use Rattle.ft_syntax.proofs.Changes.{node_free}
 use Rattle.ft_syntax.proofs.Lists.{take_more, take_all}
 
 abbrev pub NoneMention : ℕ → List Argument → Type 0
@@ -67,15 +68,14 @@ pub none_mention_some : (ts : List Expression) (v i j : ℕ) (xs : List Arg) (x 
 none_mention_some ts v i j xs x h l g b w =
     record { none = subst (NoneMention v) (sym (take_more ts i xs x l g)) (none_mention_push v (map (argument_in ts) (take i xs)) (argument_in ts x) h.none (subst (λ c. NoneMention v ((x.binders, option_map (tree ts) c) ∷ [])) (sym b) (w, tt))) }
 
-pub without_row : (ts : List Expression) (v e i : ℕ) (r : Row) → IsRow ts e r → r.node ≢ Free v → NoneMentionFirst ts v i r.args.items → length r.args.items ≤ i → Without v (tree ts e)
-without_row ts v e i r h n m l =
-    subst (Without v) (sym h.is) (without_applied v r.node (map (argument_in ts) r.args.items) h.fits n (subst (λ xs. NoneMention v (map (argument_in ts) xs)) (take_all i r.args.items l) m.none))
+pub without_all : (ts : List Expression) (v e i : ℕ) (xs : List Arg) → HasArguments ts e xs → node_of (tree ts e) ≢ Free v → NoneMentionFirst ts v i xs → length xs ≤ i → Without v (tree ts e)
+without_all ts v e i xs h n m l =
+    let t = tree ts e in
+    let none : NoneMention v (arguments_of t) = subst (NoneMention v) (ap (map (argument_in ts)) (take_all i xs l) ∙ sym h.is) m.none in
+    subst (Without v) (applied_node_of t) (without_applied v (node_of t) (arguments_of t) (arguments_fit t) n none)
 
-pub mentioned_row : (ts : List Expression) (v e : ℕ) (r : Row) → IsRow ts e r → r.node ≡ Free v → Without v (tree ts e) → ⊥
-mentioned_row ts v e r h n w =
-    let is : tree ts e ≡ free v = h.is ∙ ap (λ m. applied m (map (argument_in ts) r.args.items)) n in
-    let w' : Without v (free v) = subst (Without v) is w in
-    w' refl
+pub mentioned_here : (ts : List Expression) (v e : ℕ) → node_of (tree ts e) ≡ Free v → Without v (tree ts e) → ⊥
+mentioned_here ts v e n w = let w' : Without v (free v) = subst (Without v) (node_free (tree ts e) v n) w in w' refl
 
 none_mention_at : (ts : List Expression) (v i j : ℕ) (xs : List Arg) (x : Arg) → NoneMention v (map (argument_in ts) xs) → i < length xs → x ≡ get_or xs i x → x.body ≡ Some j → Without v (tree ts j)
 none_mention_at ts v i j [] x h l g b = absurd (omega arith)
@@ -88,6 +88,8 @@ none_mention_at ts v (suc i) j (y ∷ xs) x h l g b = none_mention_at ts v i j x
     rest v (n, Some e) ps h = h.1
     rest v (n, None) ps h = h
 
-pub mentioned_argument : (ts : List Expression) (v e i j : ℕ) (r : Row) (x : Arg) → IsRow ts e r → i < length r.args.items → x ≡ get_or r.args.items i x → x.body ≡ Some j → (Without v (tree ts j) → ⊥) → Without v (tree ts e) → ⊥
-mentioned_argument ts v e i j r x h l g b n w =
-    n (none_mention_at ts v i j r.args.items x (none_applied v r.node (map (argument_in ts) r.args.items) h.fits (subst (Without v) h.is w)) l g b)
+pub mentioned_argument : (ts : List Expression) (v e i j : ℕ) (xs : List Arg) (x : Arg) → HasArguments ts e xs → i < length xs → x ≡ get_or xs i x → x.body ≡ Some j → (Without v (tree ts j) → ⊥) → Without v (tree ts e) → ⊥
+mentioned_argument ts v e i j xs x h l g b n w =
+    let t = tree ts e in
+    let w' : Without v (applied (node_of t) (arguments_of t)) = subst (Without v) (sym (applied_node_of t)) w in
+    n (none_mention_at ts v i j xs x (subst (NoneMention v) h.is (none_applied v (node_of t) (arguments_of t) (arguments_fit t) w')) l g b)

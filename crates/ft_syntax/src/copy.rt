@@ -59,7 +59,7 @@ impl Terms {
                 body,
             })?;
         }
-        self.apply(node, list)
+        self.apply(node, &list)
     }
 
     // The body of an argument of the other table.

@@ -1,10 +1,8 @@
 //! Which rows were formed last.
 
 use crate::syntax::{Arg, Node};
+use ft_base::limits::MAX_REMEMBERED_ROWS;
 use std::alloc::Global;
-
-// The most slots.
-const MOST: usize = 1_048_576;
 
 /// For each slot the place of a row that was formed with a mark of this slot. It may forget, and may name another row; who asks
 /// compares the row.
@@ -32,7 +30,7 @@ impl Recent {
 
     /// Remembers the place of a row of this mark, as far as there is memory.
     pub fn note(&mut self, mark: u64, place: usize) {
-        if place >= self.places.len() && self.places.len() < MOST {
+        if place >= self.places.len() && self.places.len() < MAX_REMEMBERED_ROWS {
             self.widen();
         }
         let slots = self.places.len() as u64;
@@ -43,7 +41,7 @@ impl Recent {
 
     // Four times as many slots, where there is memory for them. What was remembered is forgotten.
     fn widen(&mut self) {
-        let slots = 64.max(4 * self.places.len().min(MOST));
+        let slots = 64.max(4 * self.places.len().min(MAX_REMEMBERED_ROWS));
         let alloc = *self.places.allocator();
         if let Ok(places) = vec![in alloc; 0usize; slots] {
             self.places = places;

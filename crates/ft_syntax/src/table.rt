@@ -5,7 +5,7 @@ ghost use Rattle.ft_theory.specs.Expressions.{bound, free, symbol, meta, Without
 ghost use Rattle.ft_theory.specs.Small.{IsSmall, depth, size};
 ghost use Rattle.ft_syntax.specs.Arguments.{node_of, arguments_of, applied, FitsNode, IsApplication};
 ghost use Rattle.ft_syntax.specs.Table.{tree, Extends, argument_in, arguments_in, terms_in, BodyBelow, ArgumentsBelow, AllBelow, term_argument};
-ghost use Rattle.ft_syntax.specs.Invariant.{IsApplied};
+ghost use Rattle.ft_syntax.specs.Invariant.{HasArguments, IsApplied};
 ghost use Rattle.ft_syntax.specs.Measures.{greatest_depth, total_size, AreSmall};
 ghost use Rattle.ft_syntax.specs.declared.syntax.SynFault.TheVariants.{TooBig, Memory};
 
@@ -15,10 +15,12 @@ use ft_base::limits::{MAX_BINDERS, MAX_DEPTH, MAX_SIZE};
 use std::alloc::{AllocError, Global};
 use std::marker::Model;
 
-#[derive(Drop)]
+// A row: its node, and where its arguments stand among those of all rows.
+#[derive(Clone, Copy)]
 struct Row {
     node: Node,
-    args: Vec<Arg>,
+    first: usize,
+    end: usize,
     depth: u64,
     size: u64,
 }
@@ -29,6 +31,7 @@ struct Row {
 #[derive(Drop)]
 pub struct Terms {
     rows: Vec<Row>,
+    parts: Vec<Arg>,
     recent: Recent,
     alloc: Global,
 }
@@ -44,9 +47,9 @@ impl Model for Terms {
 
     ghost use Rattle.ft_syntax.specs.Invariant.{trees_after, AreGoodRows};
 
-    ghost view = { λ t. trees_after [] t.rows.items };
+    ghost view = { λ t. trees_after t.parts.items [] t.rows.items };
 
-    ghost invariant = { λ t. AreGoodRows [] t.rows.items };
+    ghost invariant = { λ t. AreGoodRows t.parts.items [] t.rows.items };
 }
 
 impl Terms {
@@ -56,47 +59,66 @@ impl Terms {
     {
         Terms {
             rows: Vec::new(alloc),
+            parts: Vec::new(alloc),
             recent: Recent::new(alloc),
             alloc,
         }
     }
 
     // Adds a row, whose depth and size are these.
-    #[tactic(auto, using(crate::proofs::Tables::trees_append, crate::proofs::Tables::length_trees, crate::proofs::Tables::good_append))]
-    fn push(&mut self, node: Node, args: Vec<Arg>, depth: u64, size: u64) -> Result<E, SynFault>
-        requires below { ArgumentsBelow (length self.old) args.items }
-        requires fits { FitsNode node (map (argument_in self.old) args.items) }
-        requires depth_is { depth ≡ Rattle.ft_theory.specs.Small.depth (applied node (map (argument_in self.old) args.items)) }
-        requires size_is { size ≡ Rattle.ft_theory.specs.Small.size (applied node (map (argument_in self.old) args.items)) }
-        requires small { IsSmall (applied node (map (argument_in self.old) args.items)) }
+    #[tactic(auto, using(crate::proofs::Tables::trees_pushed, crate::proofs::Tables::rows_pushed, crate::proofs::Tables::trees_kept, crate::proofs::Tables::rows_kept, crate::proofs::Tables::length_trees))]
+    fn push(&mut self, node: Node, args: &[Arg], depth: u64, size: u64) -> Result<E, SynFault>
+        requires below { ArgumentsBelow (length self.old) args.now }
+        requires fits { FitsNode node (map (argument_in self.old) args.now) }
+        requires depth_is { depth ≡ Rattle.ft_theory.specs.Small.depth (applied node (map (argument_in self.old) args.now)) }
+        requires size_is { size ≡ Rattle.ft_theory.specs.Small.size (applied node (map (argument_in self.old) args.now)) }
+        requires small { IsSmall (applied node (map (argument_in self.old) args.now)) }
         ensures number { IfOk result (λ e. e ≡ length self.old) }
-        ensures table { IfOk result (λ _. self.new ≡ self.old ++ applied node (map (argument_in self.old) args.items) ∷ []) }
+        ensures table { IfOk result (λ _. self.new ≡ self.old ++ applied node (map (argument_in self.old) args.now) ∷ []) }
         ensures kept { IfErr result (λ f. (f ≡ Memory) × (self.new ≡ self.old)) }
     {
-        let number = self.rows.len();
+        let first = self.parts.len();
+        if self.parts.extend_from_slice(args).is_err() {
+            return Err(SynFault::Memory);
+        }
         let row = Row {
             node,
-            args,
+            first,
+            end: self.parts.len(),
             depth,
             size,
         };
+        let number = self.rows.len();
         if self.rows.push(row).is_err() {
             return Err(SynFault::Memory);
         }
         Ok(E::at(number))
     }
 
+    // The arguments of an expression.
+    #[tactic(auto, using(crate::proofs::Tables::row_first, crate::proofs::Tables::row_end, crate::proofs::Tables::length_trees, crate::proofs::Tables::row_arguments))]
+    fn listed(&self, e: E) -> &[Arg]
+        requires { e < length self.now }
+        ensures { HasArguments self.now e result.now }
+    {
+        let row = &self.rows[e.place()];
+        &self.parts[row.first..row.end]
+    }
+
     // A row that is remembered, where it has this node and these arguments.
-    #[tactic(auto, using(crate::proofs::Tables::row_of, crate::proofs::Tables::length_trees, crate::proofs::Tables::tree_of_row))]
+    #[tactic(auto, using(crate::proofs::Tables::length_trees, crate::proofs::Tables::tree_of_parts))]
     fn remembered(&self, mark: u64, node: Node, args: &[Arg]) -> Option<E>
         ensures within { IfSome result (λ e. e < length self.now) }
         ensures tree { IfSome result (λ e. tree self.now e ≡ applied node (map (argument_in self.now) args.now)) }
         ensures small { IfSome result (λ e. IsSmall (tree self.now e)) }
     {
         let place = self.recent.place(mark)?;
-        let row = self.rows.get(place)?;
-        if row.node == node && are_same(&row.args, args) {
-            Some(E::at(place))
+        if place >= self.rows.len() {
+            return None;
+        }
+        let e = E::at(place);
+        if self.node(e) == node && are_same(self.listed(e), args) {
+            Some(e)
         } else {
             None
         }
@@ -108,17 +130,17 @@ impl Terms {
         &mut self,
         mark: u64,
         node: Node,
-        args: Vec<Arg>,
+        args: &[Arg],
         depth: u64,
         size: u64,
     ) -> Result<E, SynFault>
-        requires below { ArgumentsBelow (length self.old) args.items }
-        requires fits { FitsNode node (map (argument_in self.old) args.items) }
-        requires depth_is { depth ≡ Rattle.ft_theory.specs.Small.depth (applied node (map (argument_in self.old) args.items)) }
-        requires size_is { size ≡ Rattle.ft_theory.specs.Small.size (applied node (map (argument_in self.old) args.items)) }
-        requires small { IsSmall (applied node (map (argument_in self.old) args.items)) }
+        requires below { ArgumentsBelow (length self.old) args.now }
+        requires fits { FitsNode node (map (argument_in self.old) args.now) }
+        requires depth_is { depth ≡ Rattle.ft_theory.specs.Small.depth (applied node (map (argument_in self.old) args.now)) }
+        requires size_is { size ≡ Rattle.ft_theory.specs.Small.size (applied node (map (argument_in self.old) args.now)) }
+        requires small { IsSmall (applied node (map (argument_in self.old) args.now)) }
         ensures within { IfOk result (λ e. e < length self.new) }
-        ensures tree { IfOk result (λ e. tree self.new e ≡ applied node (map (argument_in self.old) args.items)) }
+        ensures tree { IfOk result (λ e. tree self.new e ≡ applied node (map (argument_in self.old) args.now)) }
         ensures goes_on { Extends self.old self.new }
         ensures memory { IfErr result (λ f. f ≡ Memory) }
     {
@@ -142,7 +164,7 @@ impl Terms {
         let mark = mark_of(node, &[]);
         match self.remembered(mark, node, &[]) {
             Some(e) => Ok(e),
-            None => self.row(mark, node, Vec::new(self.alloc), 1, 1),
+            None => self.row(mark, node, &[], 1, 1),
         }
     }
 
@@ -175,21 +197,21 @@ impl Terms {
 
     // The application of a symbol or a metavariable to arguments that fit it.
     #[tactic(auto, using(crate::proofs::Parts::small_applied, crate::proofs::Parts::small_arguments, crate::proofs::Parts::depth_applied, crate::proofs::Parts::size_applied, crate::proofs::Tables::extends_last, crate::specs::Laws::extends_same, crate::proofs::Tables::tree_last, crate::proofs::Tables::length_last))]
-    pub(crate) fn apply(&mut self, node: Node, args: Vec<Arg>) -> Result<E, SynFault>
+    pub(crate) fn apply(&mut self, node: Node, args: &[Arg]) -> Result<E, SynFault>
         requires application { IsApplication node }
-        requires below { ArgumentsBelow (length self.old) args.items }
-        requires fits { FitsNode node (map (argument_in self.old) args.items) }
+        requires below { ArgumentsBelow (length self.old) args.now }
+        requires fits { FitsNode node (map (argument_in self.old) args.now) }
         ensures within { IfOk result (λ e. e < length self.new) }
-        ensures tree { IfOk result (λ e. tree self.new e ≡ applied node (map (argument_in self.old) args.items)) }
-        ensures small { IfOk result (λ _. IsSmall (applied node (map (argument_in self.old) args.items))) }
+        ensures tree { IfOk result (λ e. tree self.new e ≡ applied node (map (argument_in self.old) args.now)) }
+        ensures small { IfOk result (λ _. IsSmall (applied node (map (argument_in self.old) args.now))) }
         ensures goes_on { Extends self.old self.new }
-        ensures too_big { IfErr result (λ f. f ≡ TooBig → IsSmall (applied node (map (argument_in self.old) args.items)) → ⊥) }
+        ensures too_big { IfErr result (λ f. f ≡ TooBig → IsSmall (applied node (map (argument_in self.old) args.now)) → ⊥) }
     {
-        let mark = mark_of(node, &args);
-        if let Some(e) = self.remembered(mark, node, &args) {
+        let mark = mark_of(node, args);
+        if let Some(e) = self.remembered(mark, node, args) {
             return Ok(e);
         }
-        match self.measure(&args) {
+        match self.measure(args) {
             None => Err(SynFault::TooBig),
             Some((depth, size)) => self.row(mark, node, args, depth + 1, size + 1),
         }
@@ -243,7 +265,7 @@ impl Terms {
     }
 
     /// The expression without its arguments. It takes no memory.
-    #[tactic(auto, using(crate::proofs::Tables::row_of, crate::proofs::Tables::length_trees, crate::proofs::Tables::row_node))]
+    #[tactic(auto, using(crate::proofs::Tables::row_of, crate::proofs::Tables::length_trees))]
     pub fn node(&self, e: E) -> Node
         requires { e < length self.now }
         ensures node { result ≡ node_of (tree self.now e) }
@@ -253,16 +275,16 @@ impl Terms {
     }
 
     /// How many arguments the expression has. It takes no memory.
-    #[tactic(auto, using(crate::proofs::Tables::row_of, crate::proofs::Tables::length_trees, crate::proofs::Tables::row_count))]
+    #[tactic(auto, using(crate::proofs::Tables::count_is))]
     pub fn count(&self, e: E) -> u64
         requires { e < length self.now }
         ensures { result ≡ length (arguments_of (tree self.now e)) }
     {
-        self.rows[e.place()].args.len() as u64
+        self.listed(e).len() as u64
     }
 
     /// The argument at place `i`, counted from 1. A term at a metavariable is an argument without binders. It takes no memory.
-    #[tactic(auto, using(crate::proofs::Tables::row_of, crate::proofs::Tables::length_trees, crate::proofs::Tables::row_count, crate::proofs::Tables::row_argument, crate::proofs::Tables::row_below))]
+    #[tactic(auto, using(crate::proofs::Tables::count_is, crate::proofs::Tables::argument_is, crate::proofs::Tables::body_is))]
     pub fn arg(&self, e: E, i: u64) -> Arg
         requires within { e < length self.now }
         requires first { 1 ≤ i }
@@ -270,7 +292,7 @@ impl Terms {
         ensures argument { slice_get (arguments_of (tree self.now e)) (i - 1) ≡ Some (argument_in self.now result) }
         ensures below { BodyBelow e result.body }
     {
-        self.rows[e.place()].args[(i - 1) as usize]
+        self.listed(e)[(i - 1) as usize]
     }
 
     /// The application of a symbol to arguments.
@@ -283,8 +305,7 @@ impl Terms {
         ensures goes_on { Extends self.old self.new }
         ensures too_big { IfErr result (λ f. f ≡ TooBig → IsSmall (symbol s (arguments_in self.old args.now)) → ⊥) }
     {
-        let list = Vec::from_slice(self.alloc, args)?;
-        self.apply(Node::Sym(s), list)
+        self.apply(Node::Sym(s), args)
     }
 
     /// The application of a metavariable to terms.
@@ -298,7 +319,7 @@ impl Terms {
         ensures too_big { IfErr result (λ f. f ≡ TooBig → IsSmall (meta m (terms_in self.old args.now)) → ⊥) }
     {
         let list = terms_of(self.alloc, args)?;
-        self.apply(Node::Meta(m), list)
+        self.apply(Node::Meta(m), &list)
     }
 
     // The allocator of the table.
@@ -307,13 +328,13 @@ impl Terms {
     }
 
     // The arguments of an application.
-    #[tactic(auto, using(crate::proofs::Tables::row_of, crate::proofs::Tables::length_trees, crate::proofs::Changing::row_applied))]
+    #[tactic(auto, using(crate::proofs::Changing::arguments_applied))]
     pub(crate) fn arguments(&self, e: E) -> Result<Vec<Arg>, AllocError>
         requires within { e < length self.now }
         requires application { IsApplication (node_of (tree self.now e)) }
         ensures { IfOk result (λ r. IsApplied self.now e r.items) }
     {
-        Vec::from_slice(self.alloc, &self.rows[e.place()].args)
+        Vec::from_slice(self.alloc, self.listed(e))
     }
 
     // The application e, which has the arguments args, with the arguments list: e itself where these are the same.
@@ -331,12 +352,12 @@ impl Terms {
             return Ok(e);
         }
         let node = self.node(e);
-        self.apply(node, list)
+        self.apply(node, &list)
     }
 
     /// Whether two expressions are the same. It takes no memory.
     #[cycle(equality)]
-    #[tactic(auto, using(crate::proofs::Tables::row_of, crate::proofs::Tables::length_trees, crate::proofs::Lists::same_start, crate::proofs::Lists::same_more, crate::proofs::Lists::same_rows, crate::proofs::Lists::other_nodes, crate::proofs::Lists::other_counts, crate::proofs::Lists::other_arguments, crate::proofs::Lists::bodies_in, crate::proofs::Lists::measure_falls))]
+    #[tactic(auto, using(crate::proofs::Lists::same_start, crate::proofs::Lists::same_more, crate::proofs::Lists::same_trees, crate::proofs::Lists::other_counts, crate::proofs::Lists::other_arguments, crate::proofs::Lists::bodies_in, crate::proofs::Lists::measure_falls))]
     pub fn equal_expr(&self, a: E, b: E) -> bool
         requires { (a < length self.now) × (b < length self.now) }
         ensures { IsTrue result ↔ (tree self.now a ≡ tree self.now b) }
@@ -344,13 +365,13 @@ impl Terms {
         if a == b {
             return true;
         }
-        let first = &self.rows[a.place()];
-        let second = &self.rows[b.place()];
-        if first.node != second.node || first.args.len() != second.args.len() {
+        let first = self.listed(a);
+        let second = self.listed(b);
+        if self.node(a) != self.node(b) || first.len() != second.len() {
             return false;
         }
-        for i in 0..first.args.len() {
-            if !self.equal_argument(first.args[i], second.args[i]) {
+        for i in 0..first.len() {
+            if !self.equal_argument(first[i], second[i]) {
                 return false;
             }
         }
@@ -374,16 +395,15 @@ impl Terms {
     }
 
     /// Whether the free variable `v` is mentioned. It takes no memory.
-    #[tactic(auto, using(crate::proofs::Tables::row_of, crate::proofs::Tables::length_trees, crate::proofs::Mentions::none_mention_start, crate::proofs::Mentions::none_mention_none, crate::proofs::Mentions::none_mention_some, crate::proofs::Mentions::without_row, crate::proofs::Mentions::mentioned_row, crate::proofs::Mentions::mentioned_argument, crate::proofs::Lists::body_in))]
+    #[tactic(auto, using(crate::proofs::Mentions::none_mention_start, crate::proofs::Mentions::none_mention_none, crate::proofs::Mentions::none_mention_some, crate::proofs::Mentions::without_all, crate::proofs::Mentions::mentioned_here, crate::proofs::Mentions::mentioned_argument, crate::proofs::Lists::body_in))]
     pub fn mentions(&self, e: E, v: u64) -> bool
         requires { e < length self.now }
         ensures { IsFalse result ↔ Without v (tree self.now e) }
     {
-        let row = &self.rows[e.place()];
-        if row.node == Node::Free(v) {
+        if self.node(e) == Node::Free(v) {
             return true;
         }
-        for a in &row.args {
+        for a in self.listed(e) {
             match a.body {
                 Some(j) => {
                     if self.mentions(j, v) {

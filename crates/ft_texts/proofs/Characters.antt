@@ -3,7 +3,7 @@ use Rattle.std.proofs.Common.{◌≡◌, ℕ, suc, ◌≤◌, ◌<◌, Bool, tru
 use Rattle.std.specs.Prelude.{codes, map, cond, nat_lt, ◌&&◌}
 use Rattle.std.specs.Fmt.{decimal}
 use Rattle.std.specs.List.{flat_map}
-use Rattle.std.proofs.lemmas.Bool.{ltb-true}
+use Rattle.std.proofs.lemmas.Bool.{ltb-true, and_parts}
 use Rattle.ft_theory.specs.Expressions.{Expression, bound, free, symbol, meta, Arguments, no_arguments, with_body, dummy, Terms, no_terms, also}
 use Rattle.ft_theory.specs.Statements.{Claim, is_type, has_type, equal_types, equal_terms, type_goal, term_goal, type_equation_goal, term_equation_goal, Statement, plain, abstracted, AllOfClaim, AllOfStatement}
 use Rattle.ft_theory.specs.Small.{IsSmall}
@@ -11,7 +11,6 @@ use Rattle.ft_items.specs.Sets.{Atom, met, var}
 use Rattle.ft_items.specs.Equal.{is_thesis}
 use Rattle.ft_items.specs.Item.{Stated, Name, Entry, Item, variable, metavariable, rule, entry, shown as mark}
 use Rattle.ft_items.specs.Texts.{joined, spaced, expression_text, argument_texts, term_texts, claim_text, statement_text, atom_text, set_text, Part, number, slash, part_text, written, step_text, line_text, NumberFits, EachNumberFits, ItsNumbersFit, ArgumentNumbersFit, TermNumbersFit, EachAtomFits, PartsFit, EntryFits, ItemFits}
-use Rattle.ft_items.proofs.SetLemmas.{both}
 use Rattle.ft_texts.proofs.Pieces.{Each, IsDigit, decimal_digits}
 use Rattle.ft_texts.proofs.Steps.{shows, shown, word_shows}
 use Rattle.ft_texts.proofs.Lines.{rule_texts}
@@ -29,8 +28,8 @@ module _ (P : ℕ → Type 0) (ascii : (c : ℕ) → 32 ≤ c → c < 128 → P 
   pub literal : (x : List ℕ) → is_ascii_text x ≡ true → Each P x
   literal [] h = tt
   literal (c ∷ cs) h =
-      let k : ((nat_lt 31 c && nat_lt c 128) ≡ true) × (is_ascii_text cs ≡ true) = both (nat_lt 31 c && nat_lt c 128) (is_ascii_text cs) h in
-      let l : (nat_lt 31 c ≡ true) × (nat_lt c 128 ≡ true) = both (nat_lt 31 c) (nat_lt c 128) k.0 in
+      let k : ((nat_lt 31 c && nat_lt c 128) ≡ true) × (is_ascii_text cs ≡ true) = and_parts (nat_lt 31 c && nat_lt c 128) (is_ascii_text cs) h in
+      let l : (nat_lt 31 c ≡ true) × (nat_lt c 128 ≡ true) = and_parts (nat_lt 31 c) (nat_lt c 128) k.0 in
       (ascii c (omega (arith, ltb-true 31 c l.0)) (ltb-true c 128 l.1), literal cs k.1)
 
   word_each : (x : List ℕ) → shows x ≡ true → Each P x

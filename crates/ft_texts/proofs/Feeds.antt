@@ -4,6 +4,7 @@ use Rattle.std.specs.Prelude.{nat_eq, get_or}
 use Rattle.std.specs.Str.{encode_utf8_all, NonePass}
 use Rattle.std.proofs.lemmas.Str.{NoCharPasses-byte}
 use Rattle.std.proofs.lemmas.Bool.Decides.{eqb_tells}
+use Rattle.ft_common.proofs.Booleans.{false_true}
 use Rattle.ft_items.specs.Item.{Name, Item}
 use Rattle.ft_items.specs.Texts.{line_text, ItemFits}
 use Rattle.ft_texts.specs.Laws.{Visible}
@@ -40,10 +41,7 @@ each_at P (x ∷ xs) h = (h 0 (omega arith), each_at P xs (λ i l. h (suc i) (om
 
 -- the bytes of printed characters have no line feed
 no_feed_bytes : (x : List ℕ) → Each IsPrinted x → Each IsNoFeed (encode_utf8_all x)
-no_feed_bytes x h = each_at IsNoFeed (encode_utf8_all x) (λ i l e. clash (sym (NoCharPasses-byte (λ c. nat_eq c 10) (encode_utf8_all x) i (x, refl, none_feeds x h) l (omega (arith, e))) ∙ ap (λ z. nat_eq z 10) e))
-  where
-    clash : false ≡ true → ⊥
-    clash e = cc
+no_feed_bytes x h = each_at IsNoFeed (encode_utf8_all x) (λ i l e. false_true (sym (NoCharPasses-byte (λ c. nat_eq c 10) (encode_utf8_all x) i (x, refl, none_feeds x h) l (omega (arith, e))) ∙ ap (λ z. nat_eq z 10) e))
 
 pub line_has_no_feed : (is_name : Name → Bool) → ((n : Name) → is_name n ≡ true → Visible n) → (i : Item) → ItemFits is_name i → Each IsNoFeed (encode_utf8_all (line_text i))
 line_has_no_feed N shows i h = no_feed_bytes (line_text i) (printed_line N shows i h)

@@ -1,9 +1,11 @@
 -- Pieces of a text: where a piece ends is told by its characters.
-use Rattle.std.proofs.Common.{◌≡◌, ℕ, ◌≤◌, ◌<◌, ◌^◌, List, [], ◌∷◌, ◌++◌, refl, sym, subst, length, arith, append_assoc, ◌∙◌}
+use Rattle.std.proofs.Common.{◌≡◌, ℕ, ◌≤◌, ◌<◌, ◌^◌, List, [], ◌∷◌, ◌++◌, refl, sym, subst, length, arith, append_assoc, ◌∙◌, ap₂}
 use Rattle.std.specs.Fmt.{decimal}
 use Rattle.std.specs.Str.Parse.{AllDigits}
 use Rattle.std.proofs.lemmas.Fmt.{decimal_is_IsNumeral, decimal_injective}
 use Rattle.std.proofs.lemmas.Str.Parse.{digit_from_value}
+use Rattle.std.specs.Str.{encode_utf8_all}
+use Rattle.std.proofs.lemmas.Str.{encode_ascii}
 
 -- each character is as P says
 abbrev pub Each : (ℕ → Type 0) → List ℕ → Type 0
@@ -14,6 +16,11 @@ Each P (c ∷ cs) = P c × Each P cs
 abbrev pub Begins : (ℕ → Type 0) → List ℕ → Type 0
 Begins Q [] = Unit {0}
 Begins Q (c ∷ cs) = Q c
+
+-- a text of ASCII is its bytes
+pub plain_bytes : (x : List ℕ) → Each (λ c. c < 128) x → encode_utf8_all x ≡ x
+plain_bytes [] h = refl
+plain_bytes (c ∷ x) h = ap₂ (λ a b. a ++ b) (encode_ascii c h.0) (plain_bytes x h.1)
 
 pub head_same : (c d : ℕ) (cs ds : List ℕ) → (c ∷ cs) ≡ (d ∷ ds) → c ≡ d
 head_same c d cs ds e = cc

@@ -4,9 +4,9 @@ use Rattle.std.specs.Prelude.{codes}
 use Rattle.std.specs.Char.{IsScalar}
 use Rattle.std.specs.Str.{all_scalars}
 use Rattle.std.proofs.Math.Utf8.{scalar, low_scalar}
+use Rattle.std.proofs.lemmas.Bool.{and_parts, and_from}
 use Rattle.ft_items.specs.Item.{Name, Item}
 use Rattle.ft_items.specs.Texts.{ItemFits, ItemsFit, line_text, lines_text, text_of}
-use Rattle.ft_items.proofs.SetLemmas.{both, both_true}
 use Rattle.ft_texts.specs.Laws.{TextIsUtf8, LineIsUtf8}
 use Rattle.ft_texts.proofs.Pieces.{Each}
 use Rattle.ft_texts.proofs.Characters.{each_append, line_each}
@@ -16,11 +16,11 @@ low c a b = low_scalar c (omega (arith, b))
 
 scalars_each : (x : List ℕ) → all_scalars x ≡ true → Each IsScalar x
 scalars_each [] h = tt
-scalars_each (c ∷ x) h = let k : (scalar c ≡ true) × (all_scalars x ≡ true) = both (scalar c) (all_scalars x) h in (k.0, scalars_each x k.1)
+scalars_each (c ∷ x) h = let k : (scalar c ≡ true) × (all_scalars x ≡ true) = and_parts (scalar c) (all_scalars x) h in (k.0, scalars_each x k.1)
 
 each_scalars : (x : List ℕ) → Each IsScalar x → all_scalars x ≡ true
 each_scalars [] h = refl
-each_scalars (c ∷ x) h = both_true (scalar c) (all_scalars x) h.0 (each_scalars x h.1)
+each_scalars (c ∷ x) h = and_from (scalar c) (all_scalars x) h.0 (each_scalars x h.1)
 
 scalar_line : (N : Name → Bool) → ((n : Name) → N n ≡ true → all_scalars n ≡ true) → (i : Item) → ItemFits N i → Each IsScalar (line_text i)
 scalar_line N named i h = line_each IsScalar low N (λ n e. scalars_each n (named n e)) i h

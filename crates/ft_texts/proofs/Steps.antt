@@ -3,8 +3,7 @@ use Rattle.std.proofs.Common.{◌≡◌, ℕ, ◌≤◌, ◌<◌, Bool, true, Li
 use Rattle.std.specs.Prelude.{codes, map, cond, nat_lt, ◌&&◌}
 use Rattle.std.specs.Fmt.{decimal}
 use Rattle.std.proofs.lemmas.Fmt.{decimal_injective}
-use Rattle.std.proofs.lemmas.Bool.{ltb-true}
-use Rattle.ft_items.proofs.SetLemmas.{both}
+use Rattle.std.proofs.lemmas.Bool.{ltb-true, and_parts}
 use Rattle.ft_items.specs.Good.{equal_names}
 use Rattle.ft_items.specs.Item.{Stated, by_var, by_generic, by_meta, by_metacong, by_abs, by_subst, by_substeq, by_refl, by_sym, by_trans, by_conv, by_conveq, by_left, by_right, by_typeof, by_domain, by_boundary, by_widen, by_btype, by_bterm, by_beqty, by_beqtm, by_rule, by_rulewith, by_inst, by_cong, by_convprem, by_convback, by_arg, by_natural, by_metainst}
 use Rattle.ft_items.specs.Texts.{Part, number, slash, part_text, written, PartsFit, NumberFits}
@@ -207,8 +206,8 @@ shows (c ∷ cs) = (nat_lt 32 c && nat_lt c 128) && shows cs
 -- what the test tells
 pub shown : (c : ℕ) (cs : List ℕ) → shows (c ∷ cs) ≡ true → (32 < c) × (c < 128) × (shows cs ≡ true)
 shown c cs h =
-    let k : ((nat_lt 32 c && nat_lt c 128) ≡ true) × (shows cs ≡ true) = both (nat_lt 32 c && nat_lt c 128) (shows cs) h in
-    let l : (nat_lt 32 c ≡ true) × (nat_lt c 128 ≡ true) = both (nat_lt 32 c) (nat_lt c 128) k.0 in
+    let k : ((nat_lt 32 c && nat_lt c 128) ≡ true) × (shows cs ≡ true) = and_parts (nat_lt 32 c && nat_lt c 128) (shows cs) h in
+    let l : (nat_lt 32 c ≡ true) × (nat_lt c 128 ≡ true) = and_parts (nat_lt 32 c) (nat_lt c 128) k.0 in
     (ltb-true 32 c l.0, ltb-true c 128 l.1, k.1)
 
 visible_by_test : (x : List ℕ) → shows x ≡ true → Visible x

@@ -1,7 +1,8 @@
 -- From an export to the verdict on it.
-use Rattle.std.proofs.Common.{◌≡◌, ◌∙◌, sym, ap, refl, subst, ℕ, Bool, true, List, [], ◌∷◌, Some, Option}
+use Rattle.std.proofs.Common.{◌≡◌, ◌∙◌, sym, ap, refl, subst, ℕ, Bool, true, List, [], ◌∷◌, Some}
+use Rattle.ft_common.proofs.Options.{one_value}
 use Rattle.ft_base.specs.Names.{is_name_token}
-use Rattle.ft_lexer.specs.declared.token.Kind.{Kind}
+use Rattle.ft_grammar.specs.declared.token.Kind.{Kind}
 use Rattle.ft_items.specs.Item.{Stated, by_btype, by_bterm, by_rule, Item, variable, metavariable, rule, entry, shown}
 use Rattle.ft_items.specs.Good.{Good, counts, Accepted}
 use Rattle.ft_items.specs.Texts.{IsTextOf}
@@ -11,7 +12,7 @@ use Rattle.ft_texts.specs.Laws.{Visible, AtMostOneList, TextHasNoFault, AtMostOn
 use Rattle.ft_applications.specs.declared.syntax.Command.{Command}
 use Rattle.ft_applications.specs.Grammar.{AreCommands}
 use Rattle.ft_applications.specs.Events.{Event, events}
-use Rattle.ft_applications.specs.Transcript.{IsSource, IsTranscript, text_of, status_of}
+use Rattle.ft_applications.specs.Transcript.{IsPlainSource, IsTranscript, text_of, status_of}
 use Rattle.ft_applications.specs.Histories.{IsDerivationOf, IsStepOfApplications, AllOfApplications}
 use Rattle.ft_check.specs.Built.{is_built, AllBuilt, verdict_built, BuiltIsVerdict, AcceptedIsAccepted}
 use Rattle.ft_top.specs.Verdicts.{IsVerdict, verdict_line, verdict_status, fault_line}
@@ -40,18 +41,15 @@ accepted_by_check built good text items t g a =
     let v : verdict_built items ≡ Accepted (counts items) = built items (all_built items a) ∙ good items g in
     subst (λ v. IsVerdict text (verdict_line v) (verdict_status v)) v (IsVerdict.of_items items t)
 
-some_same : {A : Type 0} (o : Option A) (a b : A) → o ≡ Some a → o ≡ Some b → a ≡ b
-some_same o a b h k = cc
-
 -- tokens are those of one list of commands
 abbrev pub OneTree : Type 0
 OneTree = (cs ds : List Command) (ks : List Kind) → AreCommands cs ks → AreCommands ds ks → cs ≡ ds
 
-pub one_run : OneTree → (bytes : List ℕ) (cs ds : List Command) (es fs : List Event) → IsSource bytes cs → IsSource bytes ds → events [] cs ≡ Some es → events [] ds ≡ Some fs → es ≡ fs
+pub one_run : OneTree → (bytes : List ℕ) (cs ds : List Command) (es fs : List Event) → IsPlainSource bytes cs → IsPlainSource bytes ds → events [] cs ≡ Some es → events [] ds ≡ Some fs → es ≡ fs
 one_run one bytes cs ds es fs s t h k =
-    some_same (events [] ds) es fs (subst (λ cs. events [] cs ≡ Some es) (one cs ds _ s.grammar t.grammar) h) k
+    one_value (events [] ds) es fs (subst (λ cs. events [] cs ≡ Some es) (one cs ds _ s.grammar t.grammar) h) k
 
-exported : OneTree → BuiltIsVerdict → GoodAreAccepted → EntriesDerivable → (bytes : List ℕ) (cs : List Command) (es : List Event) → IsSource bytes cs → events [] cs ≡ Some es
+exported : OneTree → BuiltIsVerdict → GoodAreAccepted → EntriesDerivable → (bytes : List ℕ) (cs : List Command) (es : List Event) → IsPlainSource bytes cs → events [] cs ≡ Some es
     → (text : List ℕ) (n : ℕ) → IsExport bytes text n → (n ≡ status_of es) × IsAccepted text es
 exported one built good derivable bytes cs es s h text n (IsExport.of_run ds fs items t s' k d a x) =
     let same : fs ≡ es = one_run one bytes ds cs fs es s' s k h in (

@@ -3,7 +3,7 @@ use Rattle.std.proofs.Common.{◌≡◌, ◌∙◌, sym, ap, refl, subst, ℕ, �
 use Rattle.ft_outside.specs.Outside.{Rose, Appends, AppendsPrefix, IsAtEnd}
 use Rattle.ft_applications.specs.declared.syntax.Command.{Command}
 use Rattle.ft_applications.specs.Events.{Event, events}
-use Rattle.ft_applications.specs.Transcript.{IsSource, IsTranscript, AllDerivable, shown_in, not_yet_line}
+use Rattle.ft_applications.specs.Transcript.{IsPlainSource, IsTranscript, AllDerivable, shown_in, not_yet_line}
 use Rattle.ft_top.specs.declared.words.Job.{Job}
 use Rattle.ft_top.specs.declared.words.Job.TheVariants as job
 use Rattle.ft_top.specs.declared.status.Status.{Status}

@@ -1,5 +1,6 @@
 -- How the call of a job comes to its end.
 use Rattle.std.proofs.Common.{◌≡◌, ◌∙◌, sym, ap, refl, subst, ℕ, ◌≤◌, ◌⊎◌, ◌++◌, List, [], length, Option, Some, None, IfSome, encode_utf8_all, append-nil, inl, inr}
+use Rattle.ft_common.proofs.Options.{none_some, one_value}
 use Rattle.ft_base.specs.Names.{is_name_token}
 use Rattle.ft_items.specs.Item.{Item}
 use Rattle.ft_items.specs.Texts.{IsTextOf, text_of as file_of}
@@ -8,7 +9,7 @@ use Rattle.ft_applications.specs.declared.fault.Fault.{Fault}
 use Rattle.ft_applications.specs.declared.fault.Fault.TheVariants as fault
 use Rattle.ft_applications.specs.declared.syntax.Command.{Command}
 use Rattle.ft_applications.specs.Events.{Event, events}
-use Rattle.ft_applications.specs.Transcript.{IsSource, IsTranscript, AllDerivable, shown_in, text_of, status_of, not_yet_line}
+use Rattle.ft_applications.specs.Transcript.{IsPlainSource, IsTranscript, AllDerivable, shown_in, text_of, status_of, not_yet_line}
 use Rattle.ft_applications.specs.Histories.{IsDerivationOf, AllOfApplications}
 use Rattle.ft_run.specs.declared.session.Ending.{Ending}
 use Rattle.ft_run.specs.declared.session.Ending.TheVariants as ending
@@ -29,12 +30,6 @@ if_some : (P Q : List ℕ → Type 0) (o : Option (List ℕ)) → ((bs : List �
 if_some P Q None f h = tt
 if_some P Q (Some bs) f h = f bs h
 
-none_some : {A : Type 0} (o : Option A) (a : A) → o ≡ None → o ≡ Some a → ⊥
-none_some o a h k = cc
-
-some_same : {A : Type 0} (o : Option A) (a b : A) → o ≡ Some a → o ≡ Some b → a ≡ b
-some_same o a b h k = cc
-
 -- Runs.
 
 -- what a run tells
@@ -42,7 +37,7 @@ abbrev pub Runs : List Command → List ℕ → List ℕ → List Item → ℕ �
 Runs cs old out items status = (es : List Event) × (events [] cs ≡ Some es) × (out ≡ old ++ text_of es) × (status ≡ status_of es)
     × AllDerivable (shown_in es) × IsDerivationOf items es × AllOfApplications items
 
-pub ran : (bs old out : List ℕ) (cs : List Command) (items : List Item) (status : ℕ) → IsSource bs cs → old ≡ [] → Runs cs old out items status → IsRun bs out items status
+pub ran : (bs old out : List ℕ) (cs : List Command) (items : List Item) (status : ℕ) → IsPlainSource bs cs → old ≡ [] → Runs cs old out items status → IsRun bs out items status
 ran bs old out cs items status s empty h = record {
   commands = cs;
   done = h.0;
@@ -54,16 +49,16 @@ ran bs old out cs items status s empty h = record {
   steps = h.6;
 }
 
-pub shows : (bs old out : List ℕ) (cs : List Command) (items : List Item) (status : ℕ) → ((ds : List Command) → IsSource bs ds → ds ≡ cs) → Runs cs old out items status → ShowsDerivable bs
+pub shows : (bs old out : List ℕ) (cs : List Command) (items : List Item) (status : ℕ) → ((ds : List Command) → IsPlainSource bs ds → ds ≡ cs) → Runs cs old out items status → ShowsDerivable bs
 shows bs old out cs items status only h ds es s k =
-    let same : es ≡ h.0 = some_same (events [] cs) es h.0 (subst (λ cs. events [] cs ≡ Some es) (only ds s) k) h.1 in
+    let same : es ≡ h.0 = one_value (events [] cs) es h.0 (subst (λ cs. events [] cs ≡ Some es) (only ds s) k) h.1 in
     subst (λ es. AllDerivable (shown_in es)) (sym same) h.4
 
-pub not_read : (bs : List ℕ) → ((cs : List Command) → IsSource bs cs → ⊥) → IsNotBuilt bs
+pub not_read : (bs : List ℕ) → ((cs : List Command) → IsPlainSource bs cs → ⊥) → IsNotBuilt bs
 not_read bs none = λ cs es s k. none cs s
 
-pub not_built : (bs : List ℕ) (cs : List Command) → ((ds : List Command) → IsSource bs ds → ds ≡ cs) → events [] cs ≡ None → IsNotBuilt bs
-not_built bs cs only h = λ ds es s k. none_some (events [] cs) es h (subst (λ cs. events [] cs ≡ Some es) (only ds s) k)
+pub not_built : (bs : List ℕ) (cs : List Command) → ((ds : List Command) → IsPlainSource bs ds → ds ≡ cs) → events [] cs ≡ None → IsNotBuilt bs
+not_built bs cs only h = λ ds es s k. none_some (sym h ∙ subst (λ cs. events [] cs ≡ Some es) (only ds s) k)
 
 -- a source that came in was run
 abbrev pub RanInput : Job → Option (List ℕ) → List ℕ → List Item → ℕ → Type 0

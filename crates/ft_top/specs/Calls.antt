@@ -8,7 +8,7 @@ use Rattle.ft_outside.specs.Outside.{Rose, Appends, AppendsPrefix, IsAtEnd}
 use Rattle.ft_applications.specs.declared.syntax.Command.{Command}
 use Rattle.ft_applications.specs.Events.{Event, events}
 use Rattle.ft_applications.specs.Histories.{IsDerivationOf, AllOfApplications}
-use Rattle.ft_applications.specs.Transcript.{IsSource, AllDerivable, shown_in, text_of, status_of, not_yet_line}
+use Rattle.ft_applications.specs.Transcript.{IsPlainSource, AllDerivable, shown_in, text_of, status_of, not_yet_line}
 use Rattle.ft_top.specs.declared.words.Job.{Job}
 use Rattle.ft_top.specs.declared.words.Job.TheVariants as job
 use Rattle.ft_top.specs.declared.status.Status.{Status}
@@ -20,17 +20,17 @@ use Rattle.ft_top.specs.Answer.{IsText}
 
 -- the bytes are the source of no commands that are built
 abbrev pub IsNotBuilt : List ℕ → Type 0
-IsNotBuilt bytes = (cs : List Command) (es : List Event) → IsSource bytes cs → events [] cs ≡ Some es → ⊥
+IsNotBuilt bytes = (cs : List Command) (es : List Event) → IsPlainSource bytes cs → events [] cs ≡ Some es → ⊥
 
 -- what the source of the bytes shows is derivable
 abbrev pub ShowsDerivable : List ℕ → Type 0
-ShowsDerivable bytes = (cs : List Command) (es : List Event) → IsSource bytes cs → events [] cs ≡ Some es → AllDerivable (shown_in es)
+ShowsDerivable bytes = (cs : List Command) (es : List Event) → IsPlainSource bytes cs → events [] cs ≡ Some es → AllDerivable (shown_in es)
 
 -- The source of the bytes was run: its transcript, a derivation of its run, and its status.
 pub record IsRun (bytes text : List ℕ) (items : List Item) (status : ℕ) : Type 0 where
   pub commands : List Command
   pub done : List Event
-  pub source : IsSource bytes commands
+  pub source : IsPlainSource bytes commands
   pub built : events [] commands ≡ Some done
   pub lines : text ≡ text_of done
   pub ending : status ≡ status_of done

@@ -8,7 +8,7 @@ use Rattle.ft_items.specs.Texts.{IsTextOf}
 use Rattle.ft_sound.specs.Soundness.{EachEntry}
 use Rattle.ft_applications.specs.declared.syntax.Command.{Command}
 use Rattle.ft_applications.specs.Events.{Event, events}
-use Rattle.ft_applications.specs.Transcript.{IsSource, IsTranscript, AllDerivable, shown_in, text_of, status_of}
+use Rattle.ft_applications.specs.Transcript.{IsPlainSource, IsTranscript, AllDerivable, shown_in, text_of, status_of}
 use Rattle.ft_applications.specs.Histories.{IsDerivationOf}
 use Rattle.ft_check.specs.Built.{verdict_built}
 use Rattle.ft_top.specs.Verdicts.{IsVerdict, verdict_line}
@@ -27,7 +27,7 @@ pub record IsAccepted (text : List ℕ) (es : List Event) : Type 0 where
 -- A source whose commands are built has the transcript of its events, and what is exported of it has the same status and is
 -- accepted.
 abbrev pub Headline : Type 0
-Headline = (bytes : List ℕ) (cs : List Command) (es : List Event) → IsSource bytes cs → events [] cs ≡ Some es
+Headline = (bytes : List ℕ) (cs : List Command) (es : List Event) → IsPlainSource bytes cs → events [] cs ≡ Some es
     → IsTranscript bytes (text_of es) (status_of es) × ((text : List ℕ) (n : ℕ) → IsExport bytes text n → (n ≡ status_of es) × IsAccepted text es)
 
 -- In a list that `check` accepts each entry is derivable.

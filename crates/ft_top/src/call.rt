@@ -10,7 +10,7 @@ ghost use Rattle.ft_items.specs.Faults.{Fault, HasFault};
 ghost use Rattle.ft_sound.specs.Soundness.{EachEntry};
 ghost use Rattle.ft_outside.specs.Outside.{Rose, Appends, IsAtEnd};
 ghost use Rattle.ft_applications.specs.Events.{Event, events};
-ghost use Rattle.ft_applications.specs.Transcript.{IsSource, AllDerivable, shown_in};
+ghost use Rattle.ft_applications.specs.Transcript.{IsPlainSource, AllDerivable, shown_in};
 ghost use Rattle.ft_applications.specs.declared.syntax.Command.{Command as Tree};
 ghost use Rattle.ft_check.specs.Built.{verdict_built};
 ghost use Rattle.ft_top.specs.declared.words.Job.{Job as Asked};
@@ -76,10 +76,10 @@ pub fn top<I: Source, O: Sink>(alloc: Global, words: &[String], input: &mut I, o
 
     // What a source shows, where all was written, and where a write failed after a beginning of it.
     ensures derivable { (result ≡ 0) ⊎ (result ≡ 9) → (job : Asked) → ReadsSource job → IsAsked (map string_bytes words.now) job → (bytes : List ℕ) → I.left input.old ≡ Some bytes
-        → (cs : List Tree) (es : List Event) → IsSource bytes cs → events [] cs ≡ Some es → AllDerivable (shown_in es) }
+        → (cs : List Tree) (es : List Event) → IsPlainSource bytes cs → events [] cs ≡ Some es → AllDerivable (shown_in es) }
     ensures begun { result ≡ 4 → (job : Asked) → ReadsSource job → IsAsked (map string_bytes words.now) job → (bytes : List ℕ) → I.left input.old ≡ Some bytes
         → length bytes ≤ limit job → HasNoFault (I.faults input.old) (I.faults input.new)
-        → (cs : List Tree) (es : List Event) → IsSource bytes cs → events [] cs ≡ Some es → AllDerivable (shown_in es) }
+        → (cs : List Tree) (es : List Event) → IsPlainSource bytes cs → events [] cs ≡ Some es → AllDerivable (shown_in es) }
 
     // What was exported is a derivation that `check` accepts.
     ensures exported { (result ≡ 0) ⊎ (result ≡ 9) → IsAsked (map string_bytes words.now) asked.Export → (bytes : List ℕ) → I.left input.old ≡ Some bytes

@@ -18,12 +18,12 @@ use ft_base::Memory;
 use ft_check::check_items;
 use ft_outside::{Sink, Source};
 use ft_read::{FileFault, read_items};
-use ft_stated::Items;
+use ft_stated::StatedItems;
 use std::alloc::Global;
 
 // The verdict on the items of a file.
 #[tactic(auto, using(crate::proofs::Filing::items_text))]
-fn judge_items(alloc: Global, items: &Items) -> Result<Written, Memory>
+fn judge_items(alloc: Global, items: &StatedItems) -> Result<Written, Memory>
     ensures text { (bytes : List ℕ) → IsTextOf is_name_token bytes items.now.items → IfOk result (λ w. IsVerdict bytes w.text (number_of w.status)) }
     ensures status { IfOk result (λ w. IsOfInput asked.Check w.status) }
 {

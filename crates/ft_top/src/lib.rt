@@ -4,14 +4,10 @@
 mod call;
 mod checking;
 mod exporting;
-#[cfg(test)]
-mod file_tests;
 mod laws;
 mod reading;
 mod running;
 mod status;
-#[cfg(test)]
-mod tests;
 mod verdicts;
 mod words;
 mod writing;

@@ -1,6 +1,6 @@
 use Rattle.std.proofs.Common.{◌≡◌, ap, arith}
 use Rattle.ft_applications.specs.Reading.{expression}
-use Rattle.ft_applications.proofs.Turns.{deeper}
+use Rattle.ft_common.proofs.Turns.{deeper}
 use Rattle.ft_applications.proofs.reader.+expression.Goals as goal
 
 pub returns-then-depth-eq0 : goal.returns-then-depth-eq0

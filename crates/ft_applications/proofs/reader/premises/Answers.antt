@@ -1,7 +1,7 @@
 use Rattle.std.proofs.Common.{rules, arith}
 use Rattle.std.proofs.lemmas.Grind.{common_steps}
 use Rattle.ft_applications.specs.Reading.{premises_from}
-use Rattle.ft_applications.proofs.Turns.{one_more}
+use Rattle.ft_common.proofs.Turns.{one_more}
 use Rattle.ft_applications.proofs.reader.premises.Goals as goal
 
 pub loop-turn-preserved : goal.loop-turn-preserved

@@ -3,7 +3,7 @@ use Rattle.ft_items.specs.Texts.{NumberFits}
 use Rattle.ft_syntax.specs.Arguments.{node_of, arguments_of}
 use Rattle.ft_syntax.specs.Table.{tree, argument_in}
 use Rattle.ft_export.specs.Arguments.{binders_text}
-use Rattle.ft_export.proofs.Joining.{on_ok}
+use Rattle.std.proofs.lemmas.Result.{on_ok_weaker}
 use Rattle.ft_export.proofs.ByArguments.{symbol_written, meta_written, symbol_fits, meta_fits, fits_next, argument_written}
 use Rattle.ft_export.proofs.expressions.+expression.Goals as goal
 
@@ -24,20 +24,20 @@ push_arguments-loop-i-preserved t c =
 
 pub push_expression-returns-in_ok-push_lettered-in-Sym-clause-ok : goal.push_expression-returns-in_ok-push_lettered-in-Sym-clause-ok
 push_expression-returns-in_ok-push_lettered-in-Sym-clause-ok t c =
-    on_ok c.push_arguments.result (symbol_written (tree c.args.terms.now c.args.e) c.in-Sym.s c.args.out.now c.push_lettered-in-Sym.new.out c.push_arguments.new.out
+    on_ok_weaker c.push_arguments.result (symbol_written (tree c.args.terms.now c.args.e) c.in-Sym.s c.args.out.now c.push_lettered-in-Sym.new.out c.push_arguments.new.out
     (sym c.in-Sym.is ∙ c.node.ensures.node) c.in_ok-push_lettered-in-Sym.ensures.ok) c.push_arguments.ensures.ok
 
 pub push_expression-returns-in_ok-push_lettered-in-Sym-clause-fits : goal.push_expression-returns-in_ok-push_lettered-in-Sym-clause-fits
 push_expression-returns-in_ok-push_lettered-in-Sym-clause-fits t c =
     let n : NumberFits c.in-Sym.s = search rules in
-    on_ok c.push_arguments.result (symbol_fits (tree c.args.terms.now c.args.e) c.in-Sym.s (sym c.in-Sym.is ∙ c.node.ensures.node) n) c.push_arguments.ensures.fits
+    on_ok_weaker c.push_arguments.result (symbol_fits (tree c.args.terms.now c.args.e) c.in-Sym.s (sym c.in-Sym.is ∙ c.node.ensures.node) n) c.push_arguments.ensures.fits
 
 pub push_expression-returns-in_ok-push_lettered-in-Meta-clause-ok : goal.push_expression-returns-in_ok-push_lettered-in-Meta-clause-ok
 push_expression-returns-in_ok-push_lettered-in-Meta-clause-ok t c =
-    on_ok c.push_arguments-in-Meta.result (meta_written (tree c.args.terms.now c.args.e) c.in-Meta.m c.args.out.now c.push_lettered-in-Meta.new.out c.push_arguments-in-Meta.new.out
+    on_ok_weaker c.push_arguments-in-Meta.result (meta_written (tree c.args.terms.now c.args.e) c.in-Meta.m c.args.out.now c.push_lettered-in-Meta.new.out c.push_arguments-in-Meta.new.out
     (sym c.in-Meta.is ∙ c.node.ensures.node) c.in_ok-push_lettered-in-Meta.ensures.ok) c.push_arguments-in-Meta.ensures.ok
 
 pub push_expression-returns-in_ok-push_lettered-in-Meta-clause-fits : goal.push_expression-returns-in_ok-push_lettered-in-Meta-clause-fits
 push_expression-returns-in_ok-push_lettered-in-Meta-clause-fits t c =
     let n : NumberFits c.in-Meta.m = search rules in
-    on_ok c.push_arguments-in-Meta.result (meta_fits (tree c.args.terms.now c.args.e) c.in-Meta.m (sym c.in-Meta.is ∙ c.node.ensures.node) n) c.push_arguments-in-Meta.ensures.fits
+    on_ok_weaker c.push_arguments-in-Meta.result (meta_fits (tree c.args.terms.now c.args.e) c.in-Meta.m (sym c.in-Meta.is ∙ c.node.ensures.node) n) c.push_arguments-in-Meta.ensures.fits

@@ -1,7 +1,7 @@
 use Rattle.std.proofs.Common.{◌≡◌, ◌++◌, ◌∷◌, [], subst}
 use Rattle.ft_items.specs.Texts.{number, NumberFits}
 use Rattle.ft_export.specs.Parts.{parts_text}
-use Rattle.ft_export.proofs.Joining.{on_ok}
+use Rattle.std.proofs.lemmas.Result.{on_ok_weaker}
 use Rattle.ft_export.proofs.Encoding.{metavariable_line}
 use Rattle.ft_export.proofs.lines.push_metavariable.Goals as goal
 
@@ -10,7 +10,7 @@ returns c =
     let x = c.args.x.now in
     let f : NumberFits x.boundary = subst NumberFits c.number.ensures c.push_number.ensures.fits.0 in
     record {
-      ok = on_ok c.push_number.result (λ h. metavariable_line x.name x.boundary c.args.out.now c.push_str.new.self c.push_name.new.out c.push_number.new.out
+      ok = on_ok_weaker c.push_number.result (λ h. metavariable_line x.name x.boundary c.args.out.now c.push_str.new.self c.push_name.new.out c.push_number.new.out
           c.in_ok-push_name.ensures.token f c.in_ok-push_str.ensures.ok c.in_ok-push_name.ensures.ok
           (subst (λ n. c.push_number.new.out ≡ c.push_name.new.out ++ parts_text (number n ∷ [])) c.number.ensures h)) c.push_number.ensures.ok;
     }

@@ -1,7 +1,7 @@
 use Rattle.std.proofs.Common.{rules, ◌≡◌, ◌∙◌, sym}
 use Rattle.ft_base.specs.Names.{is_name_token}
 use Rattle.ft_base.specs.Words.{word_of}
-use Rattle.ft_lexer.specs.Fronts.{word_or_mark}
+use Rattle.ft_grammar.specs.Fronts.{word_or_mark}
 use Rattle.ft_lexer.proofs.Fronts.{name_of-some, name_of-none}
 use Rattle.ft_lexer.proofs.front.name_or_word.Goals as goal
 

@@ -1,7 +1,7 @@
 use Rattle.std.proofs.Common.{◌≡◌, ◌+◌, ◌-◌, ◌*◌, ◌∙◌, ap, arith, drop}
 use Rattle.std.specs.Prelude.{slice_index}
 use Rattle.std.proofs.lemmas.List.{drop_more, get_or_default}
-use Rattle.ft_lexer.specs.Fronts.{decimal_value}
+use Rattle.ft_grammar.specs.Fronts.{decimal_value}
 use Rattle.ft_lexer.proofs.Fronts.{value_above}
 use Rattle.ft_lexer.proofs.front.value.Goals as goal
 

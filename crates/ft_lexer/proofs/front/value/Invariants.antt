@@ -1,5 +1,5 @@
 use Rattle.std.proofs.Common.{◌≡◌, ◌≤◌, drop}
-use Rattle.ft_lexer.specs.Fronts.{decimal_value}
+use Rattle.ft_grammar.specs.Fronts.{decimal_value}
 use Rattle.ft_lexer.proofs.front.value.Given as goal
 
 abbrev pub invariant-loop-c : goal.invariant-loop-c

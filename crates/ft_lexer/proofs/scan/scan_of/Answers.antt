@@ -1,8 +1,9 @@
 use Rattle.std.proofs.Common.{rules, ◌≡◌, ◌∙◌, ◌+◌, subst, ◌≤◌, arith, length, drop}
 use Rattle.std.specs.Prelude.{slice_index}
 use Rattle.std.proofs.lemmas.List.{get_or_default}
-use Rattle.ft_lexer.specs.Fronts.{front}
-use Rattle.ft_lexer.proofs.Steps.{lex_step, part_at, width_parts, width_next, range_from}
+use Rattle.ft_grammar.specs.Fronts.{front}
+use Rattle.ft_common.proofs.Lists.{range_from}
+use Rattle.ft_lexer.proofs.Steps.{lex_step, part_at, width_parts, width_next}
 use Rattle.ft_lexer.proofs.scan.scan_of.Goals as goal
 
 pub width_of-requires : goal.width_of-requires

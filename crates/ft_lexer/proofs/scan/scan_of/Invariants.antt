@@ -1,5 +1,5 @@
 use Rattle.std.proofs.Common.{◌≡◌, ◌≤◌, ◌+◌, ◌-◌, ◌++◌, length, drop}
-use Rattle.ft_lexer.specs.Tokens.{width, tokens_from}
+use Rattle.ft_grammar.specs.Tokens.{width, tokens_from}
 use Rattle.ft_lexer.proofs.scan.scan_of.Given as goal
 
 abbrev pub invariant-loop-i : goal.invariant-loop-i

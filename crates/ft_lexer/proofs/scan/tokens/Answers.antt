@@ -2,7 +2,7 @@ use Rattle.std.proofs.Common.{rules, ◌≡◌, ◌∙◌, ap, arith}
 use Rattle.std.specs.Str.{chars}
 use Rattle.std.proofs.lemmas.Result.{IfOk-weaker}
 use Rattle.std.proofs.lemmas.Str.{chars_from_encodes}
-use Rattle.ft_lexer.specs.Tokens.{width}
+use Rattle.ft_grammar.specs.Tokens.{width}
 use Rattle.ft_lexer.proofs.Steps.{width_chars}
 use Rattle.ft_lexer.proofs.Pieces.{is_ended_of}
 use Rattle.ft_lexer.proofs.scan.tokens.Goals as goal

@@ -1,5 +1,5 @@
 use Rattle.std.proofs.Common.{◌≡◌, ◌+◌, drop}
-use Rattle.ft_lexer.specs.Tokens.{width}
+use Rattle.ft_grammar.specs.Tokens.{width}
 use Rattle.ft_lexer.proofs.scan.width_of.Given as goal
 
 abbrev pub invariant-loop-c : goal.invariant-loop-c

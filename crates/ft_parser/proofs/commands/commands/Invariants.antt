@@ -1,7 +1,7 @@
 use Rattle.std.proofs.Common.{◌≡◌, ◌-◌, length, []}
-use Rattle.ft_parser.specs.Forms.{is_no_end}
-use Rattle.ft_parser.specs.Grammar.{any_command, nesting}
-use Rattle.ft_parser.specs.Reading.{level, read, more_from}
+use Rattle.ft_grammar.specs.Forms.{is_no_end}
+use Rattle.ft_grammar.specs.Grammar.{any_command, nesting}
+use Rattle.ft_grammar.specs.Reading.{level, read, more_from}
 use Rattle.ft_parser.proofs.commands.commands.Given as goal
 
 abbrev pub invariant-loop-turn : goal.invariant-loop-turn

@@ -1,6 +1,6 @@
 use Rattle.std.proofs.Common.{◌≡◌, ◌∙◌, sym, ap, Err, arith}
-use Rattle.ft_parser.specs.Rules.{pattern}
-use Rattle.ft_parser.specs.Reading.{level}
+use Rattle.ft_grammar.specs.Rules.{pattern}
+use Rattle.ft_grammar.specs.Reading.{level}
 use Rattle.ft_parser.proofs.Turns.{deeper, none_left}
 use Rattle.ft_parser.proofs.patterns.+nested_pattern.Goals as goal
 

@@ -1,8 +1,8 @@
 use Rattle.std.proofs.Common.{◌≡◌, ◌-◌, length, []}
-use Rattle.ft_lexer.specs.declared.token.Mark.TheVariants.{LeftParen}
-use Rattle.ft_parser.specs.Rules.{is_mark}
-use Rattle.ft_parser.specs.Grammar.{premise, nesting}
-use Rattle.ft_parser.specs.Reading.{level, read, more_from}
+use Rattle.ft_grammar.specs.declared.token.Mark.TheVariants.{LeftParen}
+use Rattle.ft_grammar.specs.Rules.{is_mark}
+use Rattle.ft_grammar.specs.Grammar.{premise, nesting}
+use Rattle.ft_grammar.specs.Reading.{level, read, more_from}
 use Rattle.ft_parser.proofs.premises.premises.Given as goal
 
 abbrev pub invariant-loop-turn : goal.invariant-loop-turn

@@ -1,7 +1,7 @@
 use Rattle.std.proofs.Common.{◌≡◌, ◌∙◌, sym, ap, refl, Bool, true, false, List, Err, arith}
-use Rattle.ft_lexer.specs.declared.token.Token.{Token}
-use Rattle.ft_parser.specs.declared.fault.SyntaxFault.TheVariants.{TooNested}
-use Rattle.ft_parser.specs.Reading.{type_level, level, start_of}
+use Rattle.ft_grammar.specs.declared.token.Token.{Token}
+use Rattle.ft_grammar.specs.declared.fault.SyntaxFault.TheVariants.{TooNested}
+use Rattle.ft_grammar.specs.Reading.{type_level, level, start_of}
 use Rattle.ft_parser.proofs.Turns.{deeper}
 use Rattle.ft_parser.proofs.types.+nested_type.Goals as goal
 

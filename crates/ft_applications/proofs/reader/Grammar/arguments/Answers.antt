@@ -1,7 +1,7 @@
 use Rattle.std.proofs.Common.{rules, arith}
 use Rattle.std.proofs.lemmas.Grind.{common_steps}
 use Rattle.ft_applications.specs.Reading.{expression, arguments_from}
-use Rattle.ft_applications.proofs.Turns.{one_more}
+use Rattle.ft_common.proofs.Turns.{one_more}
 use Rattle.ft_applications.proofs.reader.Grammar.arguments.Goals as goal
 
 pub loop-turn-preserved : goal.loop-turn-preserved

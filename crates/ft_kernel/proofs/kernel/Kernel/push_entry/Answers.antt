@@ -3,7 +3,8 @@ use Rattle.ft_items.specs.Good.{Allowed}
 use Rattle.ft_items.specs.Store.{entries_in}
 use Rattle.ft_kernel.specs.State.{State}
 use Rattle.ft_kernel.specs.Lines.{item_in, ContentBelow}
-use Rattle.ft_kernel.proofs.Grows.{places_entries}
+use Rattle.ft_kernel.proofs.LineKinds.{many_places}
+use Rattle.ft_kernel.proofs.LineKinds as kinds
 use Rattle.ft_kernel.proofs.Pushes.{push_entry}
 use Rattle.ft_kernel.proofs.kernel.Kernel.push_entry.Goals as goal
 
@@ -18,5 +19,5 @@ invariant_of-self-in_default c =
 pub returns-clause-number : goal.returns-clause-number
 returns-clause-number c =
     let number : c.len-number.result ≡ length c.self.inside.entries.items = search rules in
-    number ∙ ap length c.self.invariant.entries_are ∙ places_entries c.self.inside.terms 0 c.self.inside.lines.items
+    number ∙ many_places kinds.entries c.self.inside.terms c.self.inside.lines.items _ c.self.invariant.entries_are
     ∙ ap (λ (s : State). length (entries_in s.items)) c.self.view_is

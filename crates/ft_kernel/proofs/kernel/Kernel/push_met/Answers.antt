@@ -3,7 +3,8 @@ use Rattle.ft_items.specs.Good.{Allowed}
 use Rattle.ft_items.specs.Item.{metavariable}
 use Rattle.ft_items.specs.Store.{metavariables_in}
 use Rattle.ft_kernel.specs.State.{State}
-use Rattle.ft_kernel.proofs.Grows.{places_metavariables}
+use Rattle.ft_kernel.proofs.LineKinds.{many_places}
+use Rattle.ft_kernel.proofs.LineKinds as kinds
 use Rattle.ft_kernel.proofs.Pushes.{push_met}
 use Rattle.ft_kernel.proofs.kernel.Kernel.push_met.Goals as goal
 
@@ -17,5 +18,5 @@ invariant_of-self-in_default c =
 pub returns-clause-number : goal.returns-clause-number
 returns-clause-number c =
     let number : c.len-number.result ≡ length c.self.inside.metavariables.items = search rules in
-    c.at.ensures ∙ number ∙ ap length c.self.invariant.metavariables_are ∙ places_metavariables c.self.inside.terms 0 c.self.inside.lines.items
+    c.at.ensures ∙ number ∙ many_places kinds.metavariables c.self.inside.terms c.self.inside.lines.items _ c.self.invariant.metavariables_are
     ∙ ap (λ (s : State). length (metavariables_in s.items)) c.self.view_is

@@ -4,7 +4,8 @@ use Rattle.ft_items.specs.Good.{Allowed}
 use Rattle.ft_items.specs.Item.{rule}
 use Rattle.ft_items.specs.Store.{rules_in}
 use Rattle.ft_kernel.specs.State.{State}
-use Rattle.ft_kernel.proofs.Grows.{places_rules}
+use Rattle.ft_kernel.proofs.LineKinds.{many_places}
+use Rattle.ft_kernel.proofs.LineKinds as kinds
 use Rattle.ft_kernel.proofs.Pushes.{push_rule, undone}
 use Rattle.ft_kernel.proofs.kernel.Kernel.push_rule.Goals as goal
 
@@ -18,7 +19,7 @@ invariant_of-self-in_default-insert c =
 pub returns-clause-number : goal.returns-clause-number
 returns-clause-number c =
     let number : c.len-number.result ≡ length c.self.inside.rules.items = search rules in
-    c.at.ensures ∙ number ∙ ap length c.self.invariant.rules_are ∙ places_rules c.self.inside.terms 0 c.self.inside.lines.items
+    c.at.ensures ∙ number ∙ many_places kinds.rules c.self.inside.terms c.self.inside.lines.items _ c.self.invariant.rules_are
     ∙ ap (λ (s : State). length (rules_in s.items)) c.self.view_is
 
 pub invariant_of-self-in-Err : goal.invariant_of-self-in-Err

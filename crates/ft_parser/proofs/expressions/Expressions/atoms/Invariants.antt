@@ -1,7 +1,7 @@
 use Rattle.std.proofs.Common.{◌≡◌, ◌-◌, length, []}
-use Rattle.ft_parser.specs.Forms.{begins_atom}
-use Rattle.ft_parser.specs.Grammar.{atom}
-use Rattle.ft_parser.specs.Reading.{level, read, more_from}
+use Rattle.ft_grammar.specs.Forms.{begins_atom}
+use Rattle.ft_grammar.specs.Grammar.{atom}
+use Rattle.ft_grammar.specs.Reading.{level, read, more_from}
 use Rattle.ft_parser.proofs.expressions.Expressions.atoms.Given as goal
 
 abbrev pub invariant-loop-turn : goal.invariant-loop-turn

@@ -1,8 +1,8 @@
 use Rattle.std.proofs.Common.{◌≡◌, ◌-◌, length}
-use Rattle.ft_lexer.specs.declared.token.Mark.TheVariants.{Bar}
-use Rattle.ft_parser.specs.Rules.{is_mark}
-use Rattle.ft_parser.specs.Grammar.{operation_case}
-use Rattle.ft_parser.specs.Reading.{level, read, more_from}
+use Rattle.ft_grammar.specs.declared.token.Mark.TheVariants.{Bar}
+use Rattle.ft_grammar.specs.Rules.{is_mark}
+use Rattle.ft_grammar.specs.Grammar.{operation_case}
+use Rattle.ft_grammar.specs.Reading.{level, read, more_from}
 use Rattle.ft_parser.proofs.expressions.Expressions.more_operation_cases.Given as goal
 
 abbrev pub invariant-loop-turn : goal.invariant-loop-turn

@@ -1,7 +1,7 @@
 use Rattle.std.proofs.Common.{◌≡◌, ◌-◌, length, []}
-use Rattle.ft_parser.specs.Forms.{begins_pattern_atom}
-use Rattle.ft_parser.specs.Grammar.{atomic_pattern}
-use Rattle.ft_parser.specs.Reading.{level, read, more_from}
+use Rattle.ft_grammar.specs.Forms.{begins_pattern_atom}
+use Rattle.ft_grammar.specs.Grammar.{atomic_pattern}
+use Rattle.ft_grammar.specs.Reading.{level, read, more_from}
 use Rattle.ft_parser.proofs.patterns.Patterns.atomic_patterns.Given as goal
 
 abbrev pub invariant-loop-turn : goal.invariant-loop-turn

@@ -9,4 +9,4 @@ abbrev pub decreases-equal_argument : goal.decreases-equal_argument
 decreases-equal_argument l = body_measure l.x.body
 
 abbrev pub invariant-equal_expr-loop-i : goal.invariant-equal_expr-loop-i
-invariant-equal_expr-loop-i l = SameFirst l.self l.i l.first.args.items l.second.args.items
+invariant-equal_expr-loop-i l = SameFirst l.self l.i l.first l.second

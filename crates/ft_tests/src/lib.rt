@@ -1,0 +1,16 @@
+//! Tests of the whole program by texts: words and an input in, a text and a status out.
+
+#![tactic(auto)]
+
+#[cfg(test)]
+mod called;
+#[cfg(test)]
+mod files;
+#[cfg(test)]
+mod lines;
+#[cfg(test)]
+mod long;
+#[cfg(test)]
+mod sources;
+#[cfg(test)]
+mod streams;

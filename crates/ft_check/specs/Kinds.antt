@@ -1,7 +1,7 @@
 -- Tests of what the numbers in a step name: None where a number names nothing.
 use Rattle.std.specs.Prelude.{ℕ, ◌&&◌, not, Bool, true, Option, option_map, List}
 use Rattle.ft_items.specs.Equal.{is_thesis}
-use Rattle.ft_items.specs.Store.{Store, each, entry_named, variable_named, metavariable_named, rule_of, Resolved, with_two}
+use Rattle.ft_items.specs.Store.{Store, each, entry_named, variable_named, metavariable_named, rule_named, Resolved, with_two}
 use Rattle.ft_items.specs.Rows.{concludes_thesis}
 use Rattle.ft_items.specs.Good.{all_theses, of_kind, same_kind}
 
@@ -32,7 +32,7 @@ abbrev pub metavariable_there : Store → ℕ → Option Bool
 metavariable_there W m = option_map (λ d. true) (metavariable_named W m)
 
 abbrev pub rule_there : Store → ℕ → Option Bool
-rule_there W r = option_map (λ R. true) (rule_of W r)
+rule_there W r = option_map (λ R. true) (rule_named W r)
 
 -- both tests, where all is there
 abbrev pub both : Option Bool → Option Bool → Option Bool

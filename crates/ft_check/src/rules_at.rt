@@ -6,7 +6,7 @@ ghost use Rattle.ft_judge.specs.Meaning.{GoalBelow};
 ghost use Rattle.ft_items.specs.Item.{Stated as StatedNumbers};
 ghost use Rattle.ft_items.specs.Sets.{union, unions};
 ghost use Rattle.ft_items.specs.Equal.{is_thesis};
-ghost use Rattle.ft_items.specs.Store.{Assertion, each, entry_named, rule_of, store_of};
+ghost use Rattle.ft_items.specs.Store.{Assertion, each, entry_named, rule_named, store_of};
 ghost use Rattle.ft_items.specs.Rows.{rule_instance, rule_instance_with, sets, statements};
 ghost use Rattle.ft_items.specs.Good.{Good, all_theses, reason_of_result};
 ghost use Rattle.ft_check.specs.Applying.{IsRule};
@@ -74,7 +74,7 @@ pub fn check_applied(
     ps: &Numbers,
 ) -> Result<Option<Reject>, Memory>
     requires { EntryBelow (length items.now.trees) found }
-    ensures { (R : ℕ × Rule) (given : List Assertion) (t : StatedNumbers) → Good (take i items.now.items) → rule_of (store_of (take i items.now.items)) r ≡ Some R
+    ensures { (R : ℕ × Rule) (given : List Assertion) (t : StatedNumbers) → Good (take i items.now.items) → rule_named (store_of (take i items.now.items)) r ≡ Some R
         → each (entry_named (store_of (take i items.now.items))) ps.now ≡ Some given → all_theses given ≡ true
         → IfOk result (λ x. option_map reason_of x ≡ reason_of_result (rule_instance R.0 R.1 (statements given)) (unions (sets given)) (with_step (entry_in items.now.trees found.entry) t)) }
 {
@@ -125,7 +125,7 @@ pub fn check_applied_with(
     ps: &Numbers,
 ) -> Result<Option<Reject>, Memory>
     requires { EntryBelow (length items.now.trees) found }
-    ensures { (R : ℕ × Rule) (a : Assertion) (given : List Assertion) (t : StatedNumbers) → Good (take i items.now.items) → rule_of (store_of (take i items.now.items)) r ≡ Some R
+    ensures { (R : ℕ × Rule) (a : Assertion) (given : List Assertion) (t : StatedNumbers) → Good (take i items.now.items) → rule_named (store_of (take i items.now.items)) r ≡ Some R
         → entry_named (store_of (take i items.now.items)) b ≡ Some a → is_thesis a.statement ≡ false
         → each (entry_named (store_of (take i items.now.items))) ps.now ≡ Some given → all_theses given ≡ true
         → IfOk result (λ x. option_map reason_of x ≡ reason_of_result (rule_instance_with R.0 R.1 a.statement (statements given)) (union a.set (unions (sets given))) (with_step (entry_in items.now.trees found.entry) t)) }

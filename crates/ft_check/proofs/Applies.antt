@@ -20,8 +20,8 @@ use Rattle.ft_check.specs.declared.applied.RuleAt.{RuleAt}
 use Rattle.ft_check.specs.declared.compare.Compared.{Compared}
 use Rattle.ft_check.proofs.Basics.{each_first, named}
 use Rattle.ft_check.proofs.Fits.{each_at, each_length}
+use Rattle.ft_common.proofs.Options.{none_some}
 use Rattle.ft_check.proofs.GoalsTaken.{KnownRule, rule_gone, rule_known}
-use Rattle.ft_check.proofs.Standing.{none_some}
 
 pub rule_named : (W : Store) (r : ℕ) (R : ℕ × Rule) → rule_of W r ≡ Some R → (r ≡ R.0) × (rule_at W.rules r ≡ Some R.1)
 rule_named W r R h = go (rule_at W.rules r) refl h

@@ -2,9 +2,8 @@
 use Rattle.std.proofs.Common.{◌≡◌, ℕ, zero, suc, Option, Some, None, List, [], ◌∷◌, refl, sym, ap, ◌∙◌, map}
 use Rattle.std.specs.Prelude.{option_map, option_and_then}
 use Rattle.std.proofs.lemmas.Option.{same_Some}
-use Rattle.ft_items.specs.Item.{Name}
-use Rattle.ft_items.specs.Store.{Assertion, Declared, Store, annotated, each, metavariable_named, nth}
-use Rattle.ft_check.proofs.Standing.{none_some}
+use Rattle.ft_common.proofs.Options.{none_some}
+use Rattle.ft_items.specs.Store.{Declared, Store, each, metavariable_named, nth}
 
 pub nth_map : {A B : Type 0} (f : A → B) (xs : List A) (n : ℕ) → nth (map f xs) n ≡ option_map f (nth xs n)
 nth_map f [] n = refl
@@ -29,7 +28,3 @@ named W m d h = go (nth W.metavariables m) refl h
     go (Some c) e h =
         let same : (m, c) ≡ d = same_Some (m, c) d h in
         (sym (ap (λ (x : ℕ × Declared). x.0) same), e ∙ ap (λ (x : ℕ × Declared). Some x.1) same)
-
-pub annotated_number : (x : ℕ × Name × ℕ) (o : Option Assertion) → (annotated x o).0 ≡ x.0
-annotated_number x None = refl
-annotated_number x (Some a) = refl

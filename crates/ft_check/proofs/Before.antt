@@ -1,5 +1,5 @@
 -- What the first place of an item says of the items before a place.
-use Rattle.std.proofs.Common.{◌≡◌, ℕ, zero, suc, nat_eq, Bool, true, false, ◌&&◌, not, leb, cond, Option, Some, None, List, [], ◌∷◌, refl, sym, ap, ◌∙◌, take, ◌<◌, ◌≤◌, ◌≢◌, ◌⊎◌, inl, inr, arith}
+use Rattle.std.proofs.Common.{◌≡◌, ℕ, zero, suc, nat_eq, Bool, true, false, ◌&&◌, not, leb, cond, Option, Some, None, List, [], ◌∷◌, refl, sym, ◌∙◌, take, ◌<◌, ◌≤◌, ◌≢◌, ◌⊎◌, inl, inr, arith}
 use Rattle.std.specs.Prelude.{option_map}
 use Rattle.std.specs.List.{list_all}
 use Rattle.std.proofs.lemmas.Bool.{le-leb, lt-leb}

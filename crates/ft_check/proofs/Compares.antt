@@ -1,5 +1,5 @@
 -- What has to be the same, one by one.
-use Rattle.std.proofs.Common.{◌≡◌, ◌≢◌, ℕ, zero, suc, ◌+◌, ◌<◌, ◌≤◌, Bool, false, ◌&&◌, List, [], ◌∷◌, ◌++◌, refl, sym, ap, ap₂, ◌∙◌, subst, length, drop, get_or, arith, Result, Ok, Err, IfOk}
+use Rattle.std.proofs.Common.{◌≡◌, ◌≢◌, ℕ, zero, suc, ◌+◌, ◌<◌, ◌≤◌, Bool, false, ◌&&◌, List, [], ◌∷◌, ◌++◌, refl, sym, ap, ap₂, ◌∙◌, subst, length, drop, get_or}
 use Rattle.std.specs.List.{list_all}
 use Rattle.std.proofs.lemmas.List.{drop_more, get_or_default}
 use Rattle.std.proofs.Math.ListN.{drop_of_length-le}
@@ -7,7 +7,7 @@ use Rattle.std.proofs.Math.Bool.{and_assoc, and-false, and-true}
 use Rattle.ft_theory.specs.Expressions.{Expression}
 use Rattle.ft_theory.specs.Statements.{Claim, plain, map_claim, map_statement}
 use Rattle.ft_items.specs.Equal.{equal_claims, equal_expressions, fits, fits_goal}
-use Rattle.ft_syntax.specs.Table.{tree, AllBelow}
+use Rattle.ft_syntax.specs.Table.{tree}
 use Rattle.ft_judge.specs.Meaning.{under, claim_in, goal_in, thesis_in, boundary_in, FormBelow, GoalBelow}
 use Rattle.ft_judge.specs.declared.judgement.Form.{Form}
 use Rattle.ft_judge.specs.declared.judgement.Form.TheVariants as form
@@ -17,11 +17,6 @@ use Rattle.ft_judge.specs.declared.judgement.Thesis.{Thesis as ThesisValue}
 use Rattle.ft_judge.specs.declared.judgement.Boundary.{Boundary as BoundaryValue}
 use Rattle.ft_check.specs.Comparing.{same_at, all_same, domains_same, ComparedBelow}
 use Rattle.ft_check.specs.declared.compare.Compared.{Compared}
-
--- what an answer gives gives what follows from it
-pub if_ok_map : {A E : Type 0} (r : Result A E) (P Q : A → Type 0) → ((x : A) → P x → Q x) → IfOk r P → IfOk r Q
-if_ok_map (Ok x) P Q f h = f x h
-if_ok_map (Err e) P Q f h = h
 
 all_last : {A : Type 0} (f : A → Bool) (xs : List A) (x : A) → list_all f (xs ++ x ∷ []) ≡ (list_all f xs && f x)
 all_last f [] x = and-true (f x)
@@ -55,11 +50,6 @@ domains_next ts j As Bs k A B a b c same l e f h g =
 pub domains_end : (ts : List Expression) (j : Expression → Expression) (As Bs : List ℕ) (k : ℕ) (a b : Bool) → length As ≡ length Bs → length As ≤ k → a ≡ (b && domains_same ts j (drop k As) (drop k Bs)) → b ≡ a
 domains_end ts j As Bs k a b same l h =
     sym (h ∙ ap₂ (λ As Bs. b && domains_same ts j As Bs) (drop_of_length-le As l) (drop_of_length-le Bs (subst (λ n. n ≤ k) same l)) ∙ and-true b)
-
-pub below_at : (n : ℕ) (As : List ℕ) (k A : ℕ) → AllBelow n As → k < length As → A ≡ get_or As k A → A < n
-below_at n [] k A h l e = absurd (omega (arith, l))
-below_at n (B ∷ As) zero A h l e = subst (λ x. x < n) (sym e) h.0
-below_at n (B ∷ As) (suc k) A h l e = below_at n As k A h.1 (omega (arith, l)) e
 
 -- forms and goals
 pub two_pushed : (a b c x y : Bool) → a ≡ (c && x) → b ≡ (a && y) → b ≡ (c && (x && y))

@@ -1,5 +1,6 @@
 -- The conclusion of a rule at arguments, filled with its symbol.
 use Rattle.std.proofs.Common.{◌≡◌, ℕ, Bool, true, false, ◌&&◌, cond, Option, Some, None, List, [], ◌∷◌, refl, sym, ap, ap₂, ◌∙◌, subst}
+use Rattle.std.specs.Cmp.{both_ways}
 use Rattle.std.proofs.Math.Bool.{and_comm, and-true}
 use Rattle.std.proofs.lemmas.Option.{same_Some}
 use Rattle.ft_theory.specs.Expressions.{Expression}
@@ -20,10 +21,9 @@ use Rattle.ft_judge.specs.declared.judgement.Thesis.{Thesis as ThesisValue}
 use Rattle.ft_judge.specs.declared.judgement.Boundary.{Boundary as BoundaryValue}
 use Rattle.ft_check.specs.Comparing.{head_same}
 use Rattle.ft_check.specs.Entries.{is_nil}
-use Rattle.ft_check.proofs.Results.{same_test}
 
 equal_back : (e f : Expression) → equal_expressions e f ≡ equal_expressions f e
-equal_back e f = same_test (equal_expressions e f) (equal_expressions f e) (go e f) (go f e)
+equal_back e f = both_ways (equal_expressions e f) (equal_expressions f e) (go e f) (go f e)
   where
     go : (e f : Expression) → equal_expressions e f ≡ true → equal_expressions f e ≡ true
     go e f h = subst (λ x. equal_expressions x e ≡ true) (expression_true e f h) (expression_self e)

@@ -24,7 +24,7 @@ use Rattle.ft_check.specs.Entries.{with_step}
 use Rattle.ft_check.specs.Kinds.{kinds_right}
 use Rattle.ft_check.specs.Rejects.{reason_of}
 use Rattle.ft_check.specs.declared.reject.Reject.{Reject}
-use Rattle.ft_check.proofs.Standing.{none_some}
+use Rattle.ft_common.proofs.Options.{none_some}
 use Rattle.ft_check.proofs.BuiltLaws.{resolved_built}
 
 -- the result of a step

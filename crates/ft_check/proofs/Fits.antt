@@ -16,11 +16,12 @@ use Rattle.ft_items.proofs.SetLemmas.{both}
 use Rattle.ft_judge.specs.Meaning.{under, thesis_in, boundary_in}
 use Rattle.ft_judge.specs.declared.judgement.Thesis.{Thesis as ThesisValue}
 use Rattle.ft_judge.specs.declared.judgement.Boundary.{Boundary as BoundaryValue}
+use Rattle.ft_common.proofs.Options.{none_some}
 use Rattle.ft_check.specs.Entries.{is_nil}
 use Rattle.ft_check.proofs.Basics.{each_first, nth_map}
 use Rattle.ft_check.proofs.OfKind.{boundary_is, thesis_is}
 use Rattle.ft_check.proofs.RuleLines.{metavariable_line}
-use Rattle.ft_check.proofs.Standing.{none_some, entries_are}
+use Rattle.ft_check.proofs.Standing.{entries_are}
 
 -- The boundary of a metavariable of a good list.
 pub record MetavariableKnown (items : List Item) (m : ℕ) (d : Declared) : Type 0 where
@@ -90,8 +91,8 @@ no_thesis ts b x e h = let clash : true ≡ false = thesis_is ts b ∙ ap is_the
     no : true ≡ false → ⊥
     no e = cc
 
-pub moved : (P : Statement → Statement → Type 0) (x y w b : Statement) → (is_thesis x ≡ true → is_thesis w ≡ false → P x w) → x ≡ y → w ≡ b → is_thesis y ≡ true → is_thesis b ≡ false → P y b
-moved P x y w b f e d h k = subst (λ z. P z b) e (subst (λ z. P x z) d (f (ap is_thesis e ∙ h) (ap is_thesis d ∙ k)))
+pub transported : (P : Statement → Statement → Type 0) (x y w b : Statement) → (is_thesis x ≡ true → is_thesis w ≡ false → P x w) → x ≡ y → w ≡ b → is_thesis y ≡ true → is_thesis b ≡ false → P y b
+transported P x y w b f e d h k = subst (λ z. P z b) e (subst (λ z. P x z) d (f (ap is_thesis e ∙ h) (ap is_thesis d ∙ k)))
 
 -- the member of a list in its place
 pub each_at : {B : Type 0} (f : ℕ → Option B) (xs : List ℕ) (ys : List B) (k x : ℕ) → each f xs ≡ Some ys → k < length xs → x ≡ get_or xs k 0 → (y : B) × (f x ≡ Some y) × (drop k ys ≡ y ∷ drop (k + 1) ys)

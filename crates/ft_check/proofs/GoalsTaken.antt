@@ -14,8 +14,8 @@ use Rattle.ft_judge.specs.declared.judgement.Goal.{Goal}
 use Rattle.ft_judge.specs.declared.judgement.Thesis.{Thesis as ThesisValue}
 use Rattle.ft_judge.specs.declared.judgement.Boundary.{Boundary as BoundaryValue}
 use Rattle.ft_check.specs.Entries.{line_of}
-use Rattle.ft_check.proofs.Standing.{none_some}
 use Rattle.ft_check.proofs.OfKind.{thesis_is}
+use Rattle.ft_common.proofs.Options.{none_some}
 use Rattle.ft_check.proofs.RuleLines.{Ruled, rule_line, rule_is_line}
 
 pub no_thesis : {P : Type 0} (ts : List Expression) (x : ThesisValue) → is_thesis (thesis_in ts x) ≡ false → P

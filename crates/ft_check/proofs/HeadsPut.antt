@@ -15,6 +15,7 @@ use Rattle.ft_items.specs.Rows.{statements}
 use Rattle.ft_items.specs.Good.{all_theses}
 use Rattle.ft_items.proofs.SetLemmas.{both}
 use Rattle.ft_syntax.specs.Arguments.{Argument, as_arguments, with_argument}
+use Rattle.ft_syntax.specs.Laws.{arguments_below_extends, arguments_extend, arguments_push}
 use Rattle.ft_syntax.specs.Instances.{instance_in, PairsBelow}
 use Rattle.ft_syntax.specs.Table.{tree, Extends, argument_in, arguments_in, ArgumentsBelow, BodyBelow}
 use Rattle.ft_syntax.specs.declared.syntax.Arg.{Arg}
@@ -28,28 +29,11 @@ use Rattle.ft_check.specs.Putting.{head_argument}
 use Rattle.ft_check.specs.declared.compare.Compared.{Compared}
 use Rattle.ft_check.proofs.Basics.{each_first}
 use Rattle.ft_check.proofs.OfKind.{boundary_is}
-use Rattle.ft_check.proofs.Standing.{none_some}
-use Rattle.ft_check.proofs.PutTogether.{tree_stays, below_stays, paired_instance}
-
--- What stays in a table that goes on.
-body_below : (ts us : List Expression) (b : Option ℕ) → Extends ts us → BodyBelow (length ts) b → BodyBelow (length us) b
-body_below ts us None x h = tt
-body_below ts us (Some e) x h = below_stays ts us e x h
-
-body_stays : (ts us : List Expression) (b : Option ℕ) → Extends ts us → BodyBelow (length ts) b → option_map (tree us) b ≡ option_map (tree ts) b
-body_stays ts us None x h = refl
-body_stays ts us (Some e) x h = ap Some (tree_stays ts us e x h)
-
-pub arguments_below : (ts us : List Expression) (as' : List Arg) → Extends ts us → ArgumentsBelow (length ts) as' → ArgumentsBelow (length us) as'
-arguments_below ts us [] x h = tt
-arguments_below ts us (a ∷ as') x h = (body_below ts us a.body x h.0, arguments_below ts us as' x h.1)
-
-list_stays : (ts us : List Expression) (as' : List Arg) → Extends ts us → ArgumentsBelow (length ts) as' → map (argument_in us) as' ≡ map (argument_in ts) as'
-list_stays ts us [] x h = refl
-list_stays ts us (a ∷ as') x h = ap₂ (λ b c. (a.binders, b) ∷ c) (body_stays ts us a.body x h.0) (list_stays ts us as' x h.1)
+use Rattle.ft_common.proofs.Options.{none_some}
+use Rattle.ft_check.proofs.PutTogether.{paired_instance}
 
 pub arguments_stay : (ts us : List Expression) (as' : List Arg) → Extends ts us → ArgumentsBelow (length ts) as' → arguments_in us as' ≡ arguments_in ts as'
-arguments_stay ts us as' x h = ap as_arguments (list_stays ts us as' x h)
+arguments_stay ts us as' x h = ap as_arguments (arguments_extend ts us as' x h)
 
 -- The head of a thesis.
 head_is : (ts : List Expression) (As : List ℕ) (f : Form) → (length As, option_map (tree ts) (head_of_form f)) ≡ head_argument (under ts As (plain (claim_in ts f)))
@@ -94,15 +78,11 @@ pub record HeadsSoFar (W : Store) (ps : List ℕ) (k : ℕ) (ts : List Expressio
 pub heading_start : (W : Store) (ps : List ℕ) (ts : List Expression) → HeadsSoFar W ps 0 ts []
 heading_start W ps ts = record { below = tt; going = λ given e t. record { rest = given; are = e; theses = t; same = refl } }
 
-below_last : (n : ℕ) (as' : List Arg) (a : Arg) → ArgumentsBelow n as' → BodyBelow n a.body → ArgumentsBelow n (as' ++ a ∷ [])
-below_last n [] a h l = (l, tt)
-below_last n (b ∷ as') a h l = (h.0, below_last n as' a h.1 l)
-
 pub heading_more : (W : Store) (ps : List ℕ) (k p : ℕ) (ts us : List Expression) (as' bs : List Arg) (x : Arg) → HeadsSoFar W ps k ts as' → k < length ps → p ≡ get_or ps k 0 → Extends ts us → BodyBelow (length us) x.body
     → ((a : Assertion) → entry_named W p ≡ Some a → is_thesis a.statement ≡ true → argument_in us x ≡ head_argument a.statement) → bs ≡ as' ++ x ∷ [] → HeadsSoFar W ps (k + 1) us bs
 heading_more W ps k p ts us as' bs x m l e g b f z = subst (HeadsSoFar W ps (k + 1) us) (sym z)
     (record {
-      below = below_last (length us) as' x (arguments_below ts us as' g m.below) b;
+      below = arguments_push (length us) as' x (arguments_below_extends ts us as' g m.below) b;
       going = λ given q t. one given (m.going given q t);
     })
   where
@@ -116,7 +96,7 @@ heading_more W ps k p ts us as' bs x m l e g b f z = subst (HeadsSoFar W ps (k +
           theses = w.1;
           same = ap (λ z. z ++ map head_argument (statements s.1)) (map-append (argument_in us) as' (x ∷ []))
               ∙ append_assoc (map (argument_in us) as') (argument_in us x ∷ []) (map head_argument (statements s.1))
-              ∙ ap₂ (λ z y. z ++ y ∷ map head_argument (statements s.1)) (list_stays ts us as' g m.below) (f s.0 s.2 w.0)
+              ∙ ap₂ (λ z y. z ++ y ∷ map head_argument (statements s.1)) (arguments_extend ts us as' g m.below) (f s.0 s.2 w.0)
               ∙ ap (λ z. map (argument_in ts) as' ++ map head_argument (statements z)) (sym s.4)
               ∙ h.same;
         }

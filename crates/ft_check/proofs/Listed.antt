@@ -18,8 +18,8 @@ use Rattle.ft_check.specs.Built.{is_built, conclusion_built, reason_by, reason_b
 use Rattle.ft_check.specs.Rejects.{reason_of}
 use Rattle.ft_check.specs.Verdicts.{verdict_of}
 use Rattle.ft_check.specs.declared.verdict.Verdict.{Verdict as Told}
-use Rattle.ft_check.proofs.Standing.{none_some}
 use Rattle.ft_check.proofs.Naming.{rules_many}
+use Rattle.ft_common.proofs.Options.{none_some}
 use Rattle.ft_check.proofs.BuiltLaws.{built_is_verdict, accepted_is_accepted}
 
 -- A list without a reason is good.
@@ -164,11 +164,6 @@ counts_next items k x r r' e e' s s' l l' m h lt n' c rs es ss ls ms =
     let n : NoneTo items k = none_before reason_built empty_store zero (take k items) (x ∷ []) (sym (ap (first_rejected_by reason_built empty_store zero) (take_nth items k x h)) ∙ n') in
     let here = found_none k (reason_built (store_of (take k items)) x) None (sym (last_is items k x h (omega (arith, lt)) n) ∙ n') in
     counts_last items k x r r' e e' s s' l l' m h n n' c rs es ss ls (ms (good_so_far (take k items) n) here.0)
-
-pub there_at : {A : Type 0} (xs : List A) (n : ℕ) → n < length xs → (x : A) × (nth xs n ≡ Some x)
-there_at [] n h = absurd (omega (arith, h))
-there_at (y ∷ xs) zero h = (y, refl)
-there_at (y ∷ xs) (suc n) h = there_at xs n (omega (arith, h))
 
 -- Where there is no reason against an entry, its step is built.
 tested_built : (k b : Bool) (c : Option Statement) (S : List Atom) (e : Entry) → unless k Kind (reason_of_result (cond b c None) S e) ≡ None → b ≡ true

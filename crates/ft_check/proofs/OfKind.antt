@@ -2,8 +2,9 @@
 use Rattle.std.proofs.Common.{◌≡◌, ℕ, true, false, List, [], ◌∷◌, refl, sym, ap, ◌∙◌}
 use Rattle.ft_theory.specs.Expressions.{Expression}
 use Rattle.ft_theory.specs.Statements.{Statement, plain}
-use Rattle.ft_items.specs.Equal.{is_thesis, is_thesis_claim, is_plain}
+use Rattle.ft_items.specs.Equal.{is_thesis, is_plain}
 use Rattle.ft_items.specs.Good.{is_plain_type}
+use Rattle.ft_judge.specs.Laws as law
 use Rattle.ft_judge.specs.Meaning.{claim_in, goal_in, under, thesis_in, boundary_in}
 use Rattle.ft_judge.specs.declared.judgement.Form.{Form}
 use Rattle.ft_judge.specs.declared.judgement.Form.TheVariants as form
@@ -13,27 +14,11 @@ use Rattle.ft_judge.specs.declared.judgement.Thesis.{Thesis as ThesisValue}
 use Rattle.ft_judge.specs.declared.judgement.Boundary.{Boundary as BoundaryValue}
 use Rattle.ft_check.specs.Entries.{is_nil}
 
-under_thesis : (ts : List Expression) (As : List ℕ) (x : Statement) → is_thesis (under ts As x) ≡ is_thesis x
-under_thesis ts [] x = refl
-under_thesis ts (A ∷ As) x = under_thesis ts As x
-
-claim_is : (ts : List Expression) (f : Form) → is_thesis_claim (claim_in ts f) ≡ true
-claim_is ts (form.Ty A) = refl
-claim_is ts (form.Tm t A) = refl
-claim_is ts (form.EqTy A B) = refl
-claim_is ts (form.EqTm s t A) = refl
-
-goal_is : (ts : List Expression) (g : Goal) → is_thesis_claim (goal_in ts g) ≡ false
-goal_is ts goal.Ty = refl
-goal_is ts (goal.Tm A) = refl
-goal_is ts (goal.EqTy A B) = refl
-goal_is ts (goal.EqTm s t A) = refl
-
 pub thesis_is : (ts : List Expression) (x : ThesisValue) → true ≡ is_thesis (thesis_in ts x)
-thesis_is ts x = sym (under_thesis ts x.domains (plain (claim_in ts x.form)) ∙ claim_is ts x.form)
+thesis_is ts x = sym (law.thesis_is ts x)
 
 pub boundary_is : (ts : List Expression) (x : BoundaryValue) → false ≡ is_thesis (boundary_in ts x)
-boundary_is ts x = sym (under_thesis ts x.domains (plain (goal_in ts x.goal)) ∙ goal_is ts x.goal)
+boundary_is ts x = sym (law.boundary_is ts x)
 
 -- plain where there are no domains
 under_plain : (ts : List Expression) (As : List ℕ) (x : Statement) → is_plain x ≡ true → is_nil As ≡ is_plain (under ts As x)

@@ -3,6 +3,7 @@ use Rattle.std.proofs.Common.{◌≡◌, ℕ, zero, suc, ◌+◌, ◌<◌, ◌�
 use Rattle.std.specs.Prelude.{option_map, option_and_then, is_some}
 use Rattle.std.specs.List.{list_all}
 use Rattle.std.proofs.lemmas.List.{drop_all, drop_more, map-append, take_more}
+use Rattle.ft_common.proofs.Options.{is_some-option_map, none_some}
 use Rattle.ft_items.specs.Item.{Name, Item}
 use Rattle.ft_items.specs.Sets.{Atom, met, is_within}
 use Rattle.ft_items.specs.Store.{Assertion, Declared, declared, each, metavariable_named, nth, store_of, entries_in, metavariables_in}
@@ -11,7 +12,7 @@ use Rattle.ft_items.specs.Good.{Good}
 use Rattle.ft_items.proofs.Lists.{store_is}
 use Rattle.ft_check.specs.Entries.{set_or_none, set_at, boundary_set, rest_on_earlier}
 use Rattle.ft_check.proofs.Basics.{each_first, named, nth_map}
-use Rattle.ft_check.proofs.Standing.{none_some, entries_are}
+use Rattle.ft_check.proofs.Standing.{entries_are}
 
 is_some_each : {A B : Type 0} (f : A → Option B) (xs : List A) → is_some (each f xs) ≡ list_all (λ x. is_some (f x)) xs
 is_some_each f [] = refl
@@ -26,17 +27,13 @@ all_same : {A : Type 0} (f g : A → Bool) → ((x : A) → f x ≡ g x) → (xs
 all_same f g h [] = refl
 all_same f g h (x ∷ xs) = ap₂ ◌&&◌ (h x) (all_same f g h xs)
 
-some_map : {A B : Type 0} (f : A → B) (o : Option A) → is_some (option_map f o) ≡ is_some o
-some_map f None = refl
-some_map f (Some x) = refl
-
 -- each number names a metavariable of the store where it names one of the list
 pub named_all : (items : List Item) (ms : List ℕ) → Good items → list_all (λ m. is_some (nth (metavariables_in items) m)) ms ≡ is_some (each (metavariable_named (store_of items)) ms)
 named_all items ms g = sym (is_some_each (metavariable_named (store_of items)) ms
     ∙ all_same (λ m. is_some (metavariable_named (store_of items) m)) (λ m. is_some (nth (metavariables_in items) m))
-    (λ m. some_map (λ d. (m, d)) (nth (store_of items).metavariables m) ∙ ap (λ ds. is_some (nth ds m)) (store_is items g).metavariables
+    (λ m. is_some-option_map (λ d. (m, d)) (nth (store_of items).metavariables m) ∙ ap (λ ds. is_some (nth ds m)) (store_is items g).metavariables
     ∙ ap is_some (nth_map (λ (x : Name × ℕ). declared x (nth (entries_in items) x.1)) (metavariables_in items) m)
-    ∙ some_map (λ (x : Name × ℕ). declared x (nth (entries_in items) x.1)) (nth (metavariables_in items) m)) ms)
+    ∙ is_some-option_map (λ (x : Name × ℕ). declared x (nth (entries_in items) x.1)) (nth (metavariables_in items) m)) ms)
 
 pub atoms_are : (items : List Item) (ms : List ℕ) (ds : List (ℕ × Declared)) → each (metavariable_named (store_of items)) ms ≡ Some ds → atoms ds ≡ map met ms
 atoms_are items [] ds h = let same : [] ≡ ds = cc in ap atoms (sym same)

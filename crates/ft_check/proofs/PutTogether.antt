@@ -1,56 +1,19 @@
 -- Expressions put together in a table that goes on.
-use Rattle.std.proofs.Common.{◌≡◌, ◌↔◌, ℕ, ◌<◌, nat_eq, Bool, true, false, cond, ◌&&◌, Option, Some, None, List, [], ◌∷◌, ◌++◌, refl, sym, ap, ap₂, ◌∙◌, subst, length, map, IsTrue, arith}
+use Rattle.std.proofs.Common.{◌≡◌, ◌↔◌, ℕ, ◌<◌, nat_eq, Bool, true, false, cond, ◌&&◌, Option, Some, None, List, [], ◌∷◌, refl, sym, ap₂, ◌∙◌, subst, length, map, IsTrue}
 use Rattle.std.specs.Prelude.{is_some, option_map}
-use mathlib.Core.Path.{fun_ext}
-use lib.ListN.{length-append}
-use Rattle.std.proofs.lemmas.List.{append_assoc, append-nil, get_or_append_left}
-use Rattle.ft_theory.specs.Expressions.{Expression, bound, instantiate}
+use Rattle.ft_theory.specs.Expressions.{Expression, instantiate}
 use Rattle.ft_theory.specs.Small.{IsSmall}
 use Rattle.ft_theory.specs.Statements.{Statement}
 use Rattle.ft_theory.specs.Rules.{instance_of}
 use Rattle.ft_items.specs.Equal.{equal_expressions}
 use Rattle.ft_sound.proofs.EqualLemmas.{expression_true}
 use Rattle.ft_syntax.specs.Arguments.{with_argument}
+use Rattle.ft_syntax.specs.Laws.{instance_extends, tree_extends}
 use Rattle.ft_syntax.specs.Instances.{body_for, instance_in, PairsBelow}
-use Rattle.ft_syntax.specs.Table.{tree, Extends, arguments_in, BodyBelow}
+use Rattle.ft_syntax.specs.Table.{tree, Extends, arguments_in}
 use Rattle.ft_syntax.specs.declared.syntax.Arg.{Arg}
 use Rattle.ft_check.specs.Comparing.{paired}
 use Rattle.ft_check.proofs.Results.{by_equal}
-
-pub goes_same : (ts us : List Expression) → us ≡ ts → Extends ts us
-goes_same ts us h = ([], h ∙ sym (append-nil ts))
-
-pub goes_then : (ts us vs : List Expression) → Extends ts us → Extends us vs → Extends ts vs
-goes_then ts us vs x y = (x.0 ++ y.0, y.1 ∙ ap (λ z. z ++ y.0) x.1 ∙ append_assoc ts x.0 y.0)
-
-pub tree_stays : (ts us : List Expression) (e : ℕ) → Extends ts us → e < length ts → tree us e ≡ tree ts e
-tree_stays ts us e x l = ap (λ ws. tree ws e) x.1 ∙ get_or_append_left ts x.0 (bound 0) e l
-
-pub below_stays : (ts us : List Expression) (e : ℕ) → Extends ts us → e < length ts → e < length us
-below_stays ts us e x l = let m = length-append ts x.0 in let n : length us ≡ length (ts ++ x.0) = ap length x.1 in omega arith
-
-body_for_below : (n : ℕ) (ps : List (ℕ × Arg)) (m k b : ℕ) → PairsBelow n ps → body_for ps m k ≡ Some b → b < n
-body_for_below n [] m k b h g = cc
-body_for_below n (p ∷ ps) m k b h g = go (nat_eq m p.0 && nat_eq k p.1.binders && is_some p.1.body) (λ f. body_for_below n ps m k b h.1 f) g
-  where
-    go : (t : Bool) → (body_for ps m k ≡ Some b → b < n) → cond t p.1.body (body_for ps m k) ≡ Some b → b < n
-    go true f g = subst (BodyBelow n) g h.0
-    go false f g = f g
-
-pub pairs_stay : (ts us : List Expression) (ps : List (ℕ × Arg)) → Extends ts us → PairsBelow (length ts) ps → PairsBelow (length us) ps
-pairs_stay ts us [] x h = tt
-pairs_stay ts us (p ∷ ps) x h = (go p.1.body h.0, pairs_stay ts us ps x h.1)
-  where
-    go : (b : Option ℕ) → BodyBelow (length ts) b → BodyBelow (length us) b
-    go None g = tt
-    go (Some e) g = below_stays ts us e x g
-
-pub instance_stays : (ts us : List Expression) (ps : List (ℕ × Arg)) → Extends ts us → PairsBelow (length ts) ps → instance_in us ps ≡ instance_in ts ps
-instance_stays ts us ps x h = fun_ext (λ m. fun_ext (λ k. go m k (body_for ps m k) refl))
-  where
-    go : (m k : ℕ) (b : Option ℕ) → body_for ps m k ≡ b → option_map (tree us) b ≡ option_map (tree ts) b
-    go m k None e = refl
-    go m k (Some b) e = ap Some (tree_stays ts us b x (body_for_below (length ts) ps m k b h e))
 
 -- What is found is small, and so no instance that is not.
 pub too_big_differs : (e f : Expression) → IsSmall e → (IsSmall f → ⊥) → false ≡ equal_expressions e f
@@ -64,18 +27,18 @@ too_big_differs e f s n = go (equal_expressions e f) refl
 pub instance_too_big : (us vs : List Expression) (ps : List (ℕ × Arg)) (w : ℕ) (x y : Expression) → Extends us vs → PairsBelow (length us) ps → tree vs w ≡ y → IsSmall x → (IsSmall (instantiate (instance_in vs ps) (tree vs w)) → ⊥)
     → false ≡ equal_expressions x (instantiate (instance_in us ps) y)
 instance_too_big us vs ps w x y g h t s n =
-    too_big_differs x (instantiate (instance_in us ps) y) s (λ k. n (subst IsSmall (sym (ap₂ instantiate (instance_stays us vs ps g h) t)) k))
+    too_big_differs x (instantiate (instance_in us ps) y) s (λ k. n (subst IsSmall (sym (ap₂ instantiate (instance_extends us vs ps g h) t)) k))
 
 -- One comparison: y is copied into the table as w, r is its instance, and then x is copied as f.
 pub instance_same : (us vs rs ws : List Expression) (ps : List (ℕ × Arg)) (w r f : ℕ) (x y : Expression) (b : Bool)
     → Extends us vs → PairsBelow (length us) ps → tree vs w ≡ y → r < length rs → tree rs r ≡ instantiate (instance_in vs ps) (tree vs w) → Extends rs ws → tree ws f ≡ x
     → (IsTrue b ↔ (tree ws f ≡ tree ws r)) → b ≡ equal_expressions x (instantiate (instance_in us ps) y)
 instance_same us vs rs ws ps w r f x y b g h t l e k q s =
-    by_equal (tree ws f) (tree ws r) b s ∙ ap₂ equal_expressions q (tree_stays rs ws r k l ∙ e ∙ ap₂ instantiate (instance_stays us vs ps g h) t)
+    by_equal (tree ws f) (tree ws r) b s ∙ ap₂ equal_expressions q (tree_extends rs ws r k l ∙ e ∙ ap₂ instantiate (instance_extends us vs ps g h) t)
 
 -- The same with the symbol at arguments, which is r.
 pub symbol_same : (rs ws : List Expression) (r f : ℕ) (x y : Expression) (b : Bool) → r < length rs → tree rs r ≡ y → Extends rs ws → tree ws f ≡ x → (IsTrue b ↔ (tree ws f ≡ tree ws r)) → b ≡ equal_expressions x y
-symbol_same rs ws r f x y b l e k q s = by_equal (tree ws f) (tree ws r) b s ∙ ap₂ equal_expressions q (tree_stays rs ws r k l ∙ e)
+symbol_same rs ws r f x y b l e k q s = by_equal (tree ws f) (tree ws r) b s ∙ ap₂ equal_expressions q (tree_extends rs ws r k l ∙ e)
 
 -- The instance of pairs is that of the premises at the arguments.
 pub paired_instance : (ts : List Expression) (ps : List (ℕ × Statement)) (as' : List Arg) (m k : ℕ) → instance_in ts (paired (map (λ (p : ℕ × Statement). p.0) ps) as') m k ≡ instance_of ps (arguments_in ts as') m k

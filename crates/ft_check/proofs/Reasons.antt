@@ -1,5 +1,5 @@
 -- The reasons against items, by what their numbers name.
-use Rattle.std.proofs.Common.{◌≡◌, ℕ, nat_eq, nat_lt, Bool, true, false, ◌&&◌, not, Option, Some, None, List, [], ◌∷◌, refl, sym, ap, ap₂, ◌∙◌, map, max, take, ◌<◌, ◌≤◌, arith}
+use Rattle.std.proofs.Common.{◌≡◌, ℕ, nat_lt, Bool, true, false, ◌&&◌, not, Option, Some, None, List, [], ◌∷◌, refl, sym, ap, ap₂, ◌∙◌, map, max, take, ◌<◌, ◌≤◌, arith}
 use Rattle.std.specs.List.{list_all}
 use Rattle.std.proofs.lemmas.Bool.{lt-ltb, le-ltb, ltb-true, ltb-false}
 use Rattle.ft_items.specs.Item.{Name, Item, variable, metavariable, rule, entry, shown}
@@ -7,11 +7,10 @@ use Rattle.ft_items.specs.Sets.{metavariables_only}
 use Rattle.ft_items.specs.Store.{Assertion, annotated, nth, store_of, entries_in, variables_in}
 use Rattle.ft_items.specs.Equal.{is_thesis}
 use Rattle.ft_items.specs.Good.{Reject as Reason, Reference as reference, Kind as kind, Premise as premise, Number as number, Loose as loose, Good, is_next, is_plain_type, reason_of_shown, reason_of_metavariable, reason_of_variable, unless}
-use Rattle.ft_items.proofs.Lists.{store_is}
+use Rattle.ft_items.proofs.Lists.{store_is, annotated_number}
 use Rattle.ft_stated.specs.First.{at_least, first_place, greatest_number, is_variable_of}
 use Rattle.ft_check.specs.Entries.{no_variable}
 use Rattle.ft_check.proofs.Before.{equal_swapped, is_not_before, none_before}
-use Rattle.ft_check.proofs.Basics.{annotated_number}
 
 -- a shown mark
 pub shown_missing : (o : Option Assertion) → None ≡ o → Some reference ≡ reason_of_shown o

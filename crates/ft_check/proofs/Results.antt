@@ -1,5 +1,6 @@
 -- Whether what is stated is the result of a step.
 use Rattle.std.proofs.Common.{◌≡◌, ◌≢◌, ◌↔◌, ℕ, Bool, inl, inr, length, true, false, ◌&&◌, Some, None, List, [], ◌∷◌, refl, sym, ap, ◌∙◌, subst, IsTrue}
+use Rattle.std.specs.Cmp.{both_ways}
 use Rattle.std.proofs.lemmas.List.{length-map}
 use Rattle.ft_theory.specs.Expressions.{Expression}
 use Rattle.ft_theory.specs.Statements.{Statement, plain, is_type, type_goal, term_goal}
@@ -20,15 +21,9 @@ use Rattle.ft_judge.specs.declared.judgement.Thesis.{Thesis as ThesisValue}
 use Rattle.ft_judge.specs.declared.judgement.Boundary.{Boundary as BoundaryValue}
 use Rattle.ft_check.specs.Entries.{is_nil}
 
-pub same_test : (b c : Bool) → (b ≡ true → c ≡ true) → (c ≡ true → b ≡ true) → b ≡ c
-same_test true true f g = refl
-same_test true false f g = sym (f refl)
-same_test false true f g = g refl
-same_test false false f g = refl
-
 -- a test that decides whether expressions are the same is the definition's
 pub by_equal : (e f : Expression) (b : Bool) → (IsTrue b ↔ (e ≡ f)) → b ≡ equal_expressions e f
-by_equal e f b h = same_test b (equal_expressions e f)
+by_equal e f b h = both_ways b (equal_expressions e f)
     (λ yes. subst (λ g. equal_expressions e g ≡ true) (h.0 yes) (expression_self e))
     (λ yes. h.1 (expression_true e f yes))
 
@@ -54,7 +49,7 @@ other_length xs ys S R e f n = go (same_set S R) refl
     go false h = refl
 
 pub same_members : (S R : List Atom) → Ascending S → Ascending R → (is_within S R && is_within R S) ≡ same_set S R
-same_members S R a b = same_test (is_within S R && is_within R S) (same_set S R)
+same_members S R a b = both_ways (is_within S R && is_within R S) (same_set S R)
     (λ h. let p = both (is_within S R) (is_within R S) h in
     subst (λ Q. same_set S Q ≡ true) (ascending_equal S R a b (within_true S R p.0) (within_true R S p.1)) (same_set_self S))
     (λ h. let e : S ≡ R = same_set_true S R h in subst (λ Q. (is_within S Q && is_within Q S) ≡ true) e (both_true (is_within S S) (is_within S S) (within_self S) (within_self S)))

@@ -1,43 +1,15 @@
 -- The rules and the metavariables of a good list, by their lines.
-use Rattle.std.proofs.Common.{◌≡◌, ℕ, zero, suc, true, false, Option, Some, None, List, [], ◌∷◌, refl, sym, ap, ◌∙◌, subst, map}
+use Rattle.std.proofs.Common.{◌≡◌, ℕ, zero, suc, true, false, Some, List, [], ◌∷◌, refl, sym, ap, ◌∙◌, subst, map}
 use Rattle.std.specs.Prelude.{option_map}
 use Rattle.std.proofs.lemmas.Option.{same_Some}
 use Rattle.ft_theory.specs.Rules.{Rule, rule_at}
 use Rattle.ft_items.specs.Item.{Name, Item, variable, metavariable, rule, entry, shown}
 use Rattle.ft_items.specs.Equal.{is_thesis, is_plain}
-use Rattle.ft_items.specs.Store.{Assertion, Declared, Store, declared, ruled, nth, each, entry_named, metavariable_named, add, add_all, empty_store, store_of, entries_in, metavariables_in, rules_in}
+use Rattle.ft_items.specs.Store.{Assertion, Declared, Store, declared, ruled, nth, each, entry_named, metavariable_named, add, add_all, empty_store, store_of, metavariables_in, rules_in}
 use Rattle.ft_items.specs.Good.{AllowedRule, GoodAfter, Good}
-use Rattle.ft_items.proofs.Lists.{Before, each_before, nth_before, store_is}
+use Rattle.ft_items.proofs.Lists.{Before, before_all, each_before, store_is}
+use Rattle.ft_common.proofs.Options.{none_some}
 use Rattle.ft_check.proofs.Basics.{nth_map}
-use Rattle.ft_check.proofs.Standing.{none_some}
-
--- what an item has added stays
-stays_variable : (W : Store) (v : ℕ) (n : Name) (o : Option Assertion) → Before W (Rattle.ft_items.specs.Store.add_variable W v n o)
-stays_variable W v n None = record { entries = λ p a q. q; metavariables = λ m d q. q }
-stays_variable W v n (Some a) = record { entries = λ p a q. q; metavariables = λ m d q. q }
-
-stays_metavariable : (W : Store) (n : Name) (o : Option Assertion) → Before W (Rattle.ft_items.specs.Store.add_metavariable W n o)
-stays_metavariable W n None = record { entries = λ p a q. q; metavariables = λ m d q. q }
-stays_metavariable W n (Some a) = record { entries = λ p a q. q; metavariables = λ m d q. nth_before W.metavariables (record { name = n; boundary = a.statement; set = a.set } ∷ []) m d q }
-
-stays_rule : (W : Store) (n : Name) (os : Option (List (ℕ × Declared))) (o : Option Assertion) → Before W (Rattle.ft_items.specs.Store.add_rule W n os o)
-stays_rule W n None o = record { entries = λ p a q. q; metavariables = λ m d q. q }
-stays_rule W n (Some ds) None = record { entries = λ p a q. q; metavariables = λ m d q. q }
-stays_rule W n (Some ds) (Some a) = record { entries = λ p a q. q; metavariables = λ m d q. q }
-
-stays : (W : Store) (i : Item) → Before W (add W i)
-stays W (variable v n p) = stays_variable W v n (entry_named W p)
-stays W (metavariable n p) = stays_metavariable W n (entry_named W p)
-stays W (rule n ms p) = stays_rule W n (each (metavariable_named W) ms) (entry_named W p)
-stays W (entry e) = record { entries = λ p a q. nth_before W.entries (record { statement = e.statement; set = e.set } ∷ []) p a q; metavariables = λ m d q. q }
-stays W (shown p) = record { entries = λ p a q. q; metavariables = λ m d q. q }
-
-stays_all : (W : Store) (items : List Item) → Before W (add_all W items)
-stays_all W [] = record { entries = λ p a q. q; metavariables = λ m d q. q }
-stays_all W (i ∷ items) =
-    let f = stays W i in
-    let g = stays_all (add W i) items in
-    record { entries = λ p a q. g.entries p a (f.entries p a q); metavariables = λ m d q. g.metavariables m d (f.metavariables m d q) }
 
 -- A rule that is declared has metavariables that differ, and a plain boundary for its conclusion.
 pub record Ruled (X : Store) (ms : List ℕ) (p : ℕ) : Type 0 where
@@ -62,7 +34,7 @@ rule_line_in : (W : Store) (items : List Item) (r : ℕ) (x : Name × List ℕ �
 rule_line_in W [] r x g h = none_some h
 rule_line_in W (rule n ms p ∷ items) zero x g h =
     let same : (n, ms, p) ≡ x = same_Some (n, ms, p) x h in
-    subst (λ (y : Name × List ℕ × ℕ). Ruled (add_all W (rule n ms p ∷ items)) y.1 y.2) same (ruled_stays W (add_all W (rule n ms p ∷ items)) ms p n (stays_all W (rule n ms p ∷ items)) g.0)
+    subst (λ (y : Name × List ℕ × ℕ). Ruled (add_all W (rule n ms p ∷ items)) y.1 y.2) same (ruled_stays W (add_all W (rule n ms p ∷ items)) ms p n (before_all W (rule n ms p ∷ items)) g.0)
 rule_line_in W (rule n ms p ∷ items) (suc r) x g h = rule_line_in (add W (rule n ms p)) items r x g.1 h
 rule_line_in W (variable v n p ∷ items) r x g h = rule_line_in (add W (variable v n p)) items r x g.1 h
 rule_line_in W (metavariable n p ∷ items) r x g h = rule_line_in (add W (metavariable n p)) items r x g.1 h
@@ -83,7 +55,7 @@ metavariable_line_in W [] m x g h = none_some h
 metavariable_line_in W (metavariable n p ∷ items) zero x g h =
     let same : (n, p) ≡ x = same_Some (n, p) x h in
     subst (λ (y : Name × ℕ). Bounded (add_all W (metavariable n p ∷ items)) y.1) same
-    (record { conclusion = g.0.0; is = (stays_all W (metavariable n p ∷ items)).entries p g.0.0 g.0.1; boundary = g.0.2 })
+    (record { conclusion = g.0.0; is = (before_all W (metavariable n p ∷ items)).entries p g.0.0 g.0.1; boundary = g.0.2 })
 metavariable_line_in W (metavariable n p ∷ items) (suc m) x g h = metavariable_line_in (add W (metavariable n p)) items m x g.1 h
 metavariable_line_in W (variable v n p ∷ items) m x g h = metavariable_line_in (add W (variable v n p)) items m x g.1 h
 metavariable_line_in W (rule n ms p ∷ items) m x g h = metavariable_line_in (add W (rule n ms p)) items m x g.1 h

@@ -1,14 +1,12 @@
 -- Tests of sets and of lists, item by item.
-use Rattle.std.proofs.Common.{◌≡◌, ℕ, zero, suc, ◌+◌, ◌<◌, ◌≤◌, nat_eq, Bool, true, false, cond, ◌&&◌, ◌||◌, not, Some, List, [], ◌∷◌, refl, sym, ap, ap₂, ◌∙◌, subst, length, get_or, take, drop, map, arith}
+use Rattle.std.proofs.Common.{◌≡◌, ℕ, ◌+◌, ◌<◌, ◌≤◌, nat_eq, Bool, true, false, cond, ◌&&◌, ◌||◌, not, List, [], ◌∷◌, refl, sym, ap, ap₂, ◌∙◌, length, get_or, drop, map}
 use Rattle.std.specs.List.{list_all, list_any}
 use Rattle.std.proofs.lemmas.List.{drop_all, drop_more}
 use Rattle.ft_items.specs.Sets.{Atom, met, var, same_atom, has, is_within, metavariables_only}
-use Rattle.ft_items.specs.Store.{nth}
 use Rattle.ft_items.specs.Rows.{differ}
 use Rattle.ft_assume.specs.declared.atom.Atom.{Atom as AtomValue}
 use Rattle.ft_assume.specs.declared.atom.Atom.TheVariants.{Met, Var}
 use Rattle.ft_assume.specs.Atoms.{atom_of, atoms_of}
-use Rattle.ft_check.proofs.Standing.{none_some}
 
 variable_not : (v : ℕ) (ms : List ℕ) → false ≡ list_any (λ n. same_atom (var v) (met n)) ms
 variable_not v [] = refl

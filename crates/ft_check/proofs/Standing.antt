@@ -2,27 +2,12 @@
 use Rattle.std.proofs.Common.{◌≡◌, ℕ, zero, suc, ◌<◌, ◌≤◌, nat_lt, Bool, true, false, Option, Some, None, List, [], ◌∷◌, refl, sym, ap, ap₂, ◌∙◌, subst, length, take, arith}
 use Rattle.std.proofs.lemmas.Bool.{lt-ltb, ltb-true, ltb-false}
 use Rattle.std.specs.Prelude.{option_map}
+use Rattle.ft_common.proofs.Options.{none_some}
 use Rattle.ft_items.specs.Item.{Name, Item, variable, metavariable, rule, entry, shown}
 use Rattle.ft_items.specs.Store.{Assertion, nth, entry_named, empty_store, store_of, entries_in, metavariables_in, rules_in}
-use Rattle.ft_items.proofs.Lists.{entries_all}
+use Rattle.ft_items.proofs.Lists.{entries_all, nth_past, nth_within}
 use Rattle.ft_stated.specs.Places.{EntryStands, MetavariableStands, RuleStands}
-use Rattle.ft_check.specs.Entries.{assertion_of, line_of, metavariable_of, rule_of}
-
-pub none_some : {A : Type 0} {x : A} {P : Type 0} → None ≡ Some x → P
-none_some {A} {x} e = absurd (clash e)
-  where
-    clash : None ≡ Some x → ⊥
-    clash e = cc
-
-pub nth_within : {A : Type 0} (xs : List A) (n : ℕ) (x : A) → nth xs n ≡ Some x → n < length xs
-nth_within [] n x h = none_some h
-nth_within (y ∷ xs) zero x h = omega arith
-nth_within (y ∷ xs) (suc n) x h = let lt : n < length xs = nth_within xs n x h in omega (arith, lt)
-
-pub nth_past : {A : Type 0} (xs : List A) (n : ℕ) → length xs ≤ n → nth xs n ≡ None
-nth_past [] n h = refl
-nth_past (y ∷ xs) zero h = absurd (omega (arith, h))
-nth_past (y ∷ xs) (suc n) h = nth_past xs n (omega (arith, h))
+use Rattle.ft_check.specs.Entries.{assertion_of, line_of, metavariable_of, stated_rule}
 
 -- what the items of a list add, where f tells what an item adds
 abbrev also : {A : Type 0} → Option A → List A → List A
@@ -49,7 +34,7 @@ metavariables_picked (rule n ms p ∷ items) = metavariables_picked items
 metavariables_picked (entry e ∷ items) = metavariables_picked items
 metavariables_picked (shown p ∷ items) = metavariables_picked items
 
-rules_picked : (items : List Item) → rules_in items ≡ picked rule_of items
+rules_picked : (items : List Item) → rules_in items ≡ picked stated_rule items
 rules_picked [] = refl
 rules_picked (variable v n p ∷ items) = rules_picked items
 rules_picked (metavariable n p ∷ items) = rules_picked items
@@ -163,48 +148,48 @@ pub rule_absent : (items : List Item) (i r : ℕ) → length (rules_in items) �
 rule_absent items i r le = above r (length (rules_in (take i items))) less
   where
     less : length (rules_in (take i items)) ≤ r
-    less = let all : length (picked rule_of items) ≤ r = subst (λ rs. length rs ≤ r) (rules_picked items) le in
-        let part : length (rules_in (take i items)) ≡ length (picked rule_of (take i items)) = ap length (rules_picked (take i items)) in omega (arith, all, part, fewer_all rule_of items i)
+    less = let all : length (picked stated_rule items) ≤ r = subst (λ rs. length rs ≤ r) (rules_picked items) le in
+        let part : length (rules_in (take i items)) ≡ length (picked stated_rule (take i items)) = ap length (rules_picked (take i items)) in omega (arith, all, part, fewer_all stated_rule items i)
 
 pub rule_found : (items : List Item) (i r k : ℕ) → RuleStands items r k → nat_lt k i ≡ nat_lt r (length (rules_in (take i items)))
 rule_found items i r k s = go (nat_lt k i) refl
   where
-    many : length (picked rule_of (take k items)) ≡ r
+    many : length (picked stated_rule (take k items)) ≡ r
     many = sym (ap length (rules_picked (take k items))) ∙ s.4
 
-    same : length (picked rule_of (take i items)) ≡ length (rules_in (take i items))
+    same : length (picked stated_rule (take i items)) ≡ length (rules_in (take i items))
     same = sym (ap length (rules_picked (take i items)))
 
     go : (b : Bool) → nat_lt k i ≡ b → b ≡ nat_lt r (length (rules_in (take i items)))
     go true e =
         let lt : k < i = ltb-true k i e in
-        let in_ : length (picked rule_of (take k items)) < length (picked rule_of (take i items)) =
-        nth_within (picked rule_of (take i items)) (length (picked rule_of (take k items))) (s.0, s.1, s.2) (there rule_of items k i (rule s.0 s.1 s.2) (s.0, s.1, s.2) s.3 refl lt) in
+        let in_ : length (picked stated_rule (take k items)) < length (picked stated_rule (take i items)) =
+        nth_within (picked stated_rule (take i items)) (length (picked stated_rule (take k items))) (s.0, s.1, s.2) (there stated_rule items k i (rule s.0 s.1 s.2) (s.0, s.1, s.2) s.3 refl lt) in
         sym (lt-ltb r (length (rules_in (take i items))) (omega (arith, in_, many, same)))
     go false e =
         let le : i ≤ k = ltb-false k i e in
-        above r (length (rules_in (take i items))) (omega (arith, many, same, fewer rule_of items i k le))
+        above r (length (rules_in (take i items))) (omega (arith, many, same, fewer stated_rule items i k le))
 
 pub rule_within : (items : List Item) (r k : ℕ) → RuleStands items r k → k < length items
 rule_within items r k s = nth_within items k (rule s.0 s.1 s.2) s.3
 
 pub line_absent : (items : List Item) (i r : ℕ) → length (rules_in items) ≤ r → None ≡ option_map line_of (nth (rules_in (take i items)) r)
-line_absent items i r le = sym (ap (option_map line_of) (ap (λ rs. nth rs r) (rules_picked (take i items)) ∙ nth_past (picked rule_of (take i items)) r less))
+line_absent items i r le = sym (ap (option_map line_of) (ap (λ rs. nth rs r) (rules_picked (take i items)) ∙ nth_past (picked stated_rule (take i items)) r less))
   where
-    less : length (picked rule_of (take i items)) ≤ r
-    less = let all : length (picked rule_of items) ≤ r = subst (λ rs. length rs ≤ r) (rules_picked items) le in omega (arith, all, fewer_all rule_of items i)
+    less : length (picked stated_rule (take i items)) ≤ r
+    less = let all : length (picked stated_rule items) ≤ r = subst (λ rs. length rs ≤ r) (rules_picked items) le in omega (arith, all, fewer_all stated_rule items i)
 
 pub line_later : (items : List Item) (i r k : ℕ) → RuleStands items r k → i ≤ k → None ≡ option_map line_of (nth (rules_in (take i items)) r)
-line_later items i r k s le = sym (ap (option_map line_of) (ap (λ rs. nth rs r) (rules_picked (take i items)) ∙ nth_past (picked rule_of (take i items)) r less))
+line_later items i r k s le = sym (ap (option_map line_of) (ap (λ rs. nth rs r) (rules_picked (take i items)) ∙ nth_past (picked stated_rule (take i items)) r less))
   where
-    less : length (picked rule_of (take i items)) ≤ r
-    less = let many : length (picked rule_of (take k items)) ≡ r = sym (ap length (rules_picked (take k items))) ∙ s.4 in omega (arith, many, fewer rule_of items i k le)
+    less : length (picked stated_rule (take i items)) ≤ r
+    less = let many : length (picked stated_rule (take k items)) ≡ r = sym (ap length (rules_picked (take k items))) ∙ s.4 in omega (arith, many, fewer stated_rule items i k le)
 
 pub line_there : (items : List Item) (i r k : ℕ) (x : Item) → RuleStands items r k → k < i → nth items k ≡ Some x
-    → option_map line_of (rule_of x) ≡ option_map line_of (nth (rules_in (take i items)) r)
+    → option_map line_of (stated_rule x) ≡ option_map line_of (nth (rules_in (take i items)) r)
 line_there items i r k x s lt h =
     let both : Some x ≡ Some (rule s.0 s.1 s.2) = sym h ∙ s.3 in
     let same : x ≡ rule s.0 s.1 s.2 = cc in
-    ap (option_map line_of) (ap rule_of same
+    ap (option_map line_of) (ap stated_rule same
     ∙ sym (ap₂ (λ rs n. nth rs n) (rules_picked (take i items)) (sym (sym (ap length (rules_picked (take k items))) ∙ s.4))
-    ∙ there rule_of items k i (rule s.0 s.1 s.2) (s.0, s.1, s.2) s.3 refl lt))
+    ∙ there stated_rule items k i (rule s.0 s.1 s.2) (s.0, s.1, s.2) s.3 refl lt))

@@ -7,10 +7,10 @@ use Rattle.ft_items.specs.Equal.{is_thesis}
 use Rattle.ft_items.specs.Item.{Name, Item}
 use Rattle.ft_items.specs.Store.{Assertion, annotated, Resolved, with_three, with_four, store_of, nth, entries_in, variables_in, metavariables_in, rules_in}
 use Rattle.ft_items.specs.Good.{Good, all_theses}
-use Rattle.ft_items.proofs.Lists.{store_is}
+use Rattle.ft_items.proofs.Lists.{store_is, annotated_number}
 use Rattle.ft_check.specs.Entries.{no_variable}
 use Rattle.ft_check.specs.Kinds.{both, also, variable_there, metavariable_there, rule_there}
-use Rattle.ft_check.proofs.Basics.{annotated_number, nth_map}
+use Rattle.ft_check.proofs.Basics.{nth_map}
 use Rattle.ft_check.proofs.Naming.{rules_many}
 
 -- Tests of what is there, one thing or more.

@@ -48,12 +48,12 @@ metavariable_of (entry e) = None
 metavariable_of (shown p) = None
 
 -- the name, the metavariables and the entry, where the item is a rule
-abbrev pub rule_of : Item → Option (Name × List ℕ × ℕ)
-rule_of (variable v n p) = None
-rule_of (metavariable n p) = None
-rule_of (rule n ms p) = Some (n, ms, p)
-rule_of (entry e) = None
-rule_of (shown p) = None
+abbrev pub stated_rule : Item → Option (Name × List ℕ × ℕ)
+stated_rule (variable v n p) = None
+stated_rule (metavariable n p) = None
+stated_rule (rule n ms p) = Some (n, ms, p)
+stated_rule (entry e) = None
+stated_rule (shown p) = None
 
 -- The set of the entry of a metavariable's boundary, by the numbers of both.
 

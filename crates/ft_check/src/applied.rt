@@ -9,7 +9,7 @@ ghost use Rattle.ft_check.specs.Applying.{IsRule};
 
 use crate::entry::{entry_before, rule_before};
 use ft_judge::Goal;
-use ft_stated::Items;
+use ft_stated::StatedItems;
 
 /// A rule at hand: its number, the metavariables of its premises and the goal of its conclusion.
 #[derive(Clone, Copy)]
@@ -20,7 +20,7 @@ pub struct RuleAt<'a> {
 }
 
 /// The rule of a number before place `i`, or None where there is none.
-pub fn rule_at_hand(items: &Items, i: u64, r: u64) -> Option<RuleAt<'_>>
+pub fn rule_at_hand(items: &StatedItems, i: u64, r: u64) -> Option<RuleAt<'_>>
     ensures is { (R : ℕ × Rule) → Good (take i items.now.items) → rule_of (store_of (take i items.now.items)) r ≡ Some R → IsSomeAnd result (λ x. IsRule items.now.trees (store_of (take i items.now.items)) x R) }
     ensures below { IfSome result (λ x. GoalBelow (length items.now.trees) x.goal) }
 {

@@ -14,11 +14,11 @@ ghost use Rattle.ft_check.specs.Entries.{entry_in, EntryBelow, with_step};
 ghost use Rattle.ft_check.specs.Rejects.{reason_of};
 
 use crate::entry::{Entry, entry_before};
-use crate::kinds::is_empty;
+use crate::entry_contents::is_empty;
 use crate::reject::Reject;
 use crate::result::{against_result, is_same_set};
 use ft_judge::{Boundary, Goal};
-use ft_stated::Items;
+use ft_stated::StatedItems;
 use ft_syntax::{E, Terms};
 
 // Whether the boundary is that of a type.
@@ -75,7 +75,7 @@ pub fn check_btype(found: Entry<'_>) -> Option<Reject>
 }
 
 /// The reason against an entry as the boundary of a term at the type of entry `p` before place `i`.
-pub fn check_bterm(items: &Items, i: u64, found: Entry<'_>, p: u64) -> Option<Reject>
+pub fn check_bterm(items: &StatedItems, i: u64, found: Entry<'_>, p: u64) -> Option<Reject>
     requires { EntryBelow (length items.now.trees) found }
     ensures { (a : Assertion) (t : StatedNumbers) → entry_named (store_of (take i items.now.items)) p ≡ Some a → option_map reason_of result ≡ reason_of_result (term_boundary a.statement) a.set (with_step (entry_in items.now.trees found.entry) t) }
 {

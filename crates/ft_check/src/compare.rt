@@ -28,7 +28,7 @@ fn push(list: &mut Vec<Compared>, found: E, wanted: E) -> Result<(), Memory>
     Ok(())
 }
 
-#[tactic(auto, using(crate::proofs::Compares::domains_next, crate::proofs::Compares::domains_end, crate::proofs::Compares::below_at))]
+#[tactic(auto, using(crate::proofs::Compares::domains_next, crate::proofs::Compares::domains_end, ft_syntax::specs::Laws::one_below))]
 fn push_domains(list: &mut Vec<Compared>, found: &[E], wanted: &[E]) -> Result<(), Memory>
     requires { length found.now ≡ length wanted.now }
     ensures same { (ts : List Expression) (j : Expression → Expression) → OnOk result (all_same ts j list.new.items ≡ (all_same ts j list.old.items && domains_same ts j found.now wanted.now)) }

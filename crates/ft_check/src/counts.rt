@@ -15,7 +15,7 @@ ghost use Rattle.ft_check.specs.Verdicts.{counts_of, IsAtMost};
 
 use crate::applied::rule_at_hand;
 use ft_judge::Goal;
-use ft_stated::{Items, Stated, StatedStep};
+use ft_stated::{Stated, StatedItems, StatedStep};
 
 /// The numbers of rules, entries and shown marks of a list, and the greatest level of its steps.
 #[derive(Clone, Copy)]
@@ -37,7 +37,7 @@ fn goal_level(goal: Goal) -> u64
 }
 
 // The same for the rule of a number.
-fn rule_level(items: &Items, i: u64, r: u64) -> u64
+fn rule_level(items: &StatedItems, i: u64, r: u64) -> u64
     ensures { (R : Rule) → Good (take i items.now.items) → rule_at (store_of (take i items.now.items)).rules r ≡ Some R → result ≡ level_of_rule R.conclusion }
 {
     match rule_at_hand(items, i, r) {
@@ -47,7 +47,7 @@ fn rule_level(items: &Items, i: u64, r: u64) -> u64
 }
 
 // The level of a step that is built.
-fn step_level(items: &Items, i: u64, step: &StatedStep) -> u64
+fn step_level(items: &StatedItems, i: u64, step: &StatedStep) -> u64
     ensures { (s : Resolved) → Good (take i items.now.items) → resolve (store_of (take i items.now.items)) (stated_step step.now) ≡ Some s → is_built s ≡ true → result ≡ level_of s }
 {
     match step {
@@ -58,7 +58,7 @@ fn step_level(items: &Items, i: u64, step: &StatedStep) -> u64
 }
 
 // The level of an item against which there is no reason.
-fn item_level(items: &Items, i: u64, x: &Stated) -> u64
+fn item_level(items: &StatedItems, i: u64, x: &Stated) -> u64
     ensures { (ts : List Expression) → Good (take i items.now.items) → reason_built (store_of (take i items.now.items)) (item_in ts x.now) ≡ None → result ≡ level_in (store_of (take i items.now.items)) (item_in ts x.now) }
 {
     match x {
@@ -115,7 +115,7 @@ impl Counted {
     }
 
     /// With the item at place `i` more, against which there is no reason.
-    pub fn next(self, items: &Items, i: u64) -> Counted
+    pub fn next(self, items: &StatedItems, i: u64) -> Counted
         requires place { i < length items.now.items }
         requires fits { i + 1 < 2 ^ 64 }
         requires few { IsAtMost i self }

@@ -4,11 +4,11 @@ ghost use Rattle.std.specs.Prelude.{◌≡◌, ℕ, List, ◌≤◌, IfSome, len
 ghost use Rattle.ft_theory.specs.Expressions.{Expression};
 ghost use Rattle.ft_items.specs.Store.{nth, entry_named, store_of, metavariables_in, rules_in};
 ghost use Rattle.ft_stated.specs.Lines.{item_in, StatedBelow};
-ghost use Rattle.ft_check.specs.Entries.{entry_in, EntryBelow, assertion_of, line_in, line_of, metavariable_of, rule_of as rule_in};
+ghost use Rattle.ft_check.specs.Entries.{entry_in, EntryBelow, assertion_of, line_in, line_of, metavariable_of, stated_rule as rule_in};
 
 use ft_assume::Assume;
 use ft_judge::{Boundary, Thesis};
-use ft_stated::{Items, Numbers, Stated};
+use ft_stated::{Numbers, Stated, StatedItems};
 
 /// An entry as it is stated, with its set.
 #[derive(Clone, Copy)]
@@ -47,7 +47,7 @@ pub struct RuleLine<'a> {
 }
 
 // The rule, where one is stated.
-fn rule_of(x: &Stated) -> Option<RuleLine<'_>>
+fn stated_rule(x: &Stated) -> Option<RuleLine<'_>>
     ensures { (ts : List Expression) → option_map line_in result ≡ option_map line_of (rule_in (item_in ts x.now)) }
 {
     match x {
@@ -61,7 +61,7 @@ fn rule_of(x: &Stated) -> Option<RuleLine<'_>>
 
 /// The entry of a number before place `i`, or None where there is none.
 #[tactic(auto, using(crate::proofs::Standing::entry_within, crate::proofs::Standing::entry_absent, crate::proofs::Standing::entry_later, crate::proofs::Standing::entry_there))]
-pub fn entry_before(items: &Items, i: u64, p: u64) -> Option<Entry<'_>>
+pub fn entry_before(items: &StatedItems, i: u64, p: u64) -> Option<Entry<'_>>
     ensures entry { option_map (entry_in items.now.trees) result ≡ entry_named (store_of (take i items.now.items)) p }
     ensures below { IfSome result (λ e. EntryBelow (length items.now.trees) e) }
 {
@@ -75,7 +75,7 @@ pub fn entry_before(items: &Items, i: u64, p: u64) -> Option<Entry<'_>>
 
 /// The entry of the boundary of the metavariable of a number before place `i`, or None where there is none.
 #[tactic(auto, using(crate::proofs::Standing::metavariable_within, crate::proofs::Standing::metavariable_absent, crate::proofs::Standing::metavariable_later, crate::proofs::Standing::metavariable_there))]
-pub fn metavariable_before(items: &Items, i: u64, m: u64) -> Option<u64>
+pub fn metavariable_before(items: &StatedItems, i: u64, m: u64) -> Option<u64>
     ensures { result ≡ option_map (λ d. d.1) (nth (metavariables_in (take i items.now.items)) m) }
 {
     let place = items.met_place(m)?;
@@ -88,7 +88,7 @@ pub fn metavariable_before(items: &Items, i: u64, m: u64) -> Option<u64>
 
 /// Whether there is a rule of a number before place `i`.
 #[tactic(auto, using(crate::proofs::Standing::rule_absent, crate::proofs::Standing::rule_found))]
-pub fn has_rule_before(items: &Items, i: u64, r: u64) -> bool
+pub fn has_rule_before(items: &StatedItems, i: u64, r: u64) -> bool
     ensures { result ≡ nat_lt r (length (rules_in (take i items.now.items))) }
 {
     match items.rule_place(r) {
@@ -99,12 +99,12 @@ pub fn has_rule_before(items: &Items, i: u64, r: u64) -> bool
 
 /// The rule of a number before place `i`, or None where there is none.
 #[tactic(auto, using(crate::proofs::Standing::rule_within, crate::proofs::Standing::line_absent, crate::proofs::Standing::line_later, crate::proofs::Standing::line_there))]
-pub fn rule_before(items: &Items, i: u64, r: u64) -> Option<RuleLine<'_>>
+pub fn rule_before(items: &StatedItems, i: u64, r: u64) -> Option<RuleLine<'_>>
     ensures { option_map line_in result ≡ option_map line_of (nth (rules_in (take i items.now.items)) r) }
 {
     let place = items.rule_place(r)?;
     if place < i {
-        rule_of(items.item(place))
+        stated_rule(items.item(place))
     } else {
         None
     }

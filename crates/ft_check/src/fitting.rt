@@ -13,13 +13,13 @@ ghost use Rattle.ft_check.specs.Entries.{entry_in, EntryBelow};
 
 use crate::compare::{Compared, push_goal, push_thesis};
 use crate::entry::{Entry, entry_before, metavariable_before};
-use crate::kinds::is_empty;
+use crate::entry_contents::is_empty;
 use ft_base::Memory;
 use ft_judge::{Boundary, Goal};
-use ft_stated::Items;
+use ft_stated::StatedItems;
 
 // The boundary of the metavariable of a number.
-fn boundary_named(items: &Items, i: u64, m: u64) -> Option<Entry<'_>>
+fn boundary_named(items: &StatedItems, i: u64, m: u64) -> Option<Entry<'_>>
     ensures entry { (d : Declared) → Good (take i items.now.items) → nth (store_of (take i items.now.items)).metavariables m ≡ Some d → option_map (λ e. (entry_in items.now.trees e).statement) result ≡ Some d.boundary }
     ensures below { IfSome result (λ e. EntryBelow (length items.now.trees) e) }
 {
@@ -47,7 +47,7 @@ fn push_entry(list: &mut Vec<Compared>, found: Entry<'_>, wanted: Entry<'_>) -> 
 // Adds what has to be the same for an entry to be an argument for the metavariable, or answers false where it is none.
 fn push_premise(
     list: &mut Vec<Compared>,
-    items: &Items,
+    items: &StatedItems,
     i: u64,
     m: u64,
     p: u64,
@@ -68,7 +68,7 @@ fn push_premise(
 // Adds what has to be the same for as many entries to be arguments for the metavariables, or answers false where they are none.
 fn push_each(
     list: &mut Vec<Compared>,
-    items: &Items,
+    items: &StatedItems,
     i: u64,
     ms: &[u64],
     ps: &[u64],
@@ -90,7 +90,7 @@ fn push_each(
 /// Adds what has to be the same for entries to be arguments for the metavariables, or answers false where they are none.
 pub fn push_premises(
     list: &mut Vec<Compared>,
-    items: &Items,
+    items: &StatedItems,
     i: u64,
     ms: &[u64],
     ps: &[u64],

@@ -17,7 +17,7 @@ use crate::compare::Compared;
 use crate::entry::{Entry, entry_before};
 use ft_base::Memory;
 use ft_judge::head_of;
-use ft_stated::Items;
+use ft_stated::StatedItems;
 use ft_syntax::{Arg, E, Instance, Pairs, SynFault, Terms};
 use std::alloc::Global;
 
@@ -30,7 +30,7 @@ pub struct Put {
 }
 
 // The argument of another table.
-#[tactic(auto, using(crate::proofs::PutTogether::goes_same))]
+#[tactic(auto, using(ft_syntax::specs::Laws::extends_same))]
 fn copy(terms: &mut Terms, other: &Terms, head: Arg) -> Result<Arg, Memory>
     requires { BodyBelow (length other.now) head.body }
     ensures is { IfOk result (λ x. argument_in terms.new x ≡ argument_in other.now head) }
@@ -50,8 +50,8 @@ fn copy(terms: &mut Terms, other: &Terms, head: Arg) -> Result<Arg, Memory>
 }
 
 // The head of an entry that is a thesis.
-#[tactic(auto, using(crate::proofs::PutTogether::goes_same, crate::proofs::HeadsPut::head_taken, crate::proofs::HeadsPut::head_below, crate::proofs::HeadsPut::no_entry, crate::proofs::HeadsPut::no_thesis))]
-fn head_at(terms: &mut Terms, items: &Items, i: u64, p: u64) -> Result<Arg, Memory>
+#[tactic(auto, using(ft_syntax::specs::Laws::extends_same, crate::proofs::HeadsPut::head_taken, crate::proofs::HeadsPut::head_below, crate::proofs::HeadsPut::no_entry, crate::proofs::HeadsPut::no_thesis))]
+fn head_at(terms: &mut Terms, items: &StatedItems, i: u64, p: u64) -> Result<Arg, Memory>
     ensures head { (a : Assertion) → entry_named (store_of (take i items.now.items)) p ≡ Some a → is_thesis a.statement ≡ true → IfOk result (λ x. argument_in terms.new x ≡ head_argument a.statement) }
     ensures below { IfOk result (λ x. BodyBelow (length terms.new) x.body) }
     ensures goes_on { Extends terms.old terms.new }
@@ -74,7 +74,7 @@ fn head_at(terms: &mut Terms, items: &Items, i: u64, p: u64) -> Result<Arg, Memo
 fn heads_in(
     alloc: Global,
     terms: &mut Terms,
-    items: &Items,
+    items: &StatedItems,
     i: u64,
     ps: &[u64],
 ) -> Result<Vec<Arg>, Memory>
@@ -106,7 +106,7 @@ fn paired(alloc: Global, ms: &[u64], arguments: &[Arg]) -> Result<Pairs, Memory>
 #[tactic(auto, using(crate::proofs::HeadsPut::pairs_below, crate::proofs::HeadsPut::instance_is))]
 pub fn put_heads(
     alloc: Global,
-    items: &Items,
+    items: &StatedItems,
     i: u64,
     ms: &[u64],
     ps: &[u64],
@@ -127,7 +127,7 @@ pub fn put_heads(
 }
 
 // Whether the expression that is found is the instance of the one that is wanted.
-#[tactic(auto, using(crate::proofs::PutTogether::goes_then, crate::proofs::PutTogether::below_stays, crate::proofs::PutTogether::pairs_stay, crate::proofs::PutTogether::instance_same, crate::proofs::PutTogether::instance_too_big))]
+#[tactic(auto, using(ft_syntax::specs::Laws::extends_trans, ft_syntax::specs::Laws::below_extends, ft_syntax::specs::Laws::pairs_below_extends, crate::proofs::PutTogether::instance_same, crate::proofs::PutTogether::instance_too_big))]
 fn is_instance(
     put: &mut Terms,
     instance: &Instance,
@@ -153,7 +153,7 @@ fn is_instance(
 }
 
 // Whether each expression that is found is the instance of the one that is wanted.
-#[tactic(auto, using(crate::proofs::PutTogether::goes_same, crate::proofs::PutTogether::goes_then, crate::proofs::PutTogether::pairs_stay, crate::proofs::HeadsPut::all_next, crate::proofs::HeadsPut::all_not, crate::proofs::HeadsPut::all_end, crate::proofs::HeadsPut::compared_at))]
+#[tactic(auto, using(ft_syntax::specs::Laws::extends_same, ft_syntax::specs::Laws::extends_trans, ft_syntax::specs::Laws::pairs_below_extends, crate::proofs::HeadsPut::all_next, crate::proofs::HeadsPut::all_not, crate::proofs::HeadsPut::all_end, crate::proofs::HeadsPut::compared_at))]
 fn all_instances(
     put: &mut Terms,
     instance: &Instance,
@@ -174,7 +174,7 @@ fn all_instances(
 }
 
 // Whether the expression is the symbol at the arguments.
-#[tactic(auto, using(crate::proofs::PutTogether::goes_then, crate::proofs::PutTogether::below_stays, crate::proofs::PutTogether::symbol_same, crate::proofs::PutTogether::too_big_differs))]
+#[tactic(auto, using(ft_syntax::specs::Laws::extends_trans, ft_syntax::specs::Laws::below_extends, crate::proofs::PutTogether::symbol_same, crate::proofs::PutTogether::too_big_differs))]
 fn is_symbol(
     put: &mut Terms,
     arguments: &[Arg],
@@ -201,7 +201,7 @@ fn is_symbol(
 
 impl Put {
     /// Whether each expression that is found is the instance of the one that is wanted.
-    #[tactic(auto, using(crate::proofs::PutTogether::pairs_stay, crate::proofs::PutTogether::instance_stays, crate::proofs::HeadsPut::arguments_below, crate::proofs::HeadsPut::arguments_stay))]
+    #[tactic(auto, using(ft_syntax::specs::Laws::pairs_below_extends, ft_syntax::specs::Laws::instance_extends, ft_syntax::specs::Laws::arguments_below_extends, crate::proofs::HeadsPut::arguments_stay))]
     pub fn are_instances(&mut self, terms: &Terms, list: &[Compared]) -> Result<bool, Memory>
         requires compared { ComparedBelow (length terms.now) list.now }
         requires below { IsPutIn self.old }
@@ -214,7 +214,7 @@ impl Put {
     }
 
     /// Whether the expression is the symbol at the arguments.
-    #[tactic(auto, using(crate::proofs::PutTogether::pairs_stay, crate::proofs::PutTogether::instance_stays, crate::proofs::HeadsPut::arguments_below, crate::proofs::HeadsPut::arguments_stay))]
+    #[tactic(auto, using(ft_syntax::specs::Laws::pairs_below_extends, ft_syntax::specs::Laws::instance_extends, ft_syntax::specs::Laws::arguments_below_extends, crate::proofs::HeadsPut::arguments_stay))]
     pub fn is_applied(&mut self, terms: &Terms, r: u64, found: E) -> Result<bool, Memory>
         requires found { found < length terms.now }
         requires below { IsPutIn self.old }

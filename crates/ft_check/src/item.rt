@@ -1,6 +1,6 @@
 //! The check of one item.
 
-ghost use Rattle.std.specs.Prelude.{◌≡◌, ◌<◌, ◌≤◌, Some, true, length, take, option_map, IfOk};
+ghost use Rattle.std.specs.Prelude.{◌≡◌, ◌<◌, Some, true, length, take, option_map, IfOk};
 ghost use Rattle.ft_items.specs.Item.{Item};
 ghost use Rattle.ft_items.specs.Equal.{is_thesis};
 ghost use Rattle.ft_items.specs.Store.{Resolved, nth, resolve, store_of};
@@ -14,18 +14,18 @@ ghost use Rattle.ft_check.specs.Rejects.{reason_of};
 
 use crate::boundaries::{check_bterm, check_btype};
 use crate::entry::Entry;
-use crate::lines::check_without_step;
 use crate::reject::Reject;
 use crate::rules_at::{check_applied, check_applied_with};
-use crate::steps::kinds;
+use crate::step_kinds::kinds;
+use crate::without_step::check_without_step;
 use ft_base::Memory;
-use ft_stated::{Items, Stated, StatedStep};
+use ft_stated::{Stated, StatedItems, StatedStep};
 use std::alloc::Global;
 
 // The reason against an entry whose step names entries of the right kinds.
 fn check_result(
     alloc: Global,
-    items: &Items,
+    items: &StatedItems,
     i: u64,
     found: Entry<'_>,
     step: &StatedStep,
@@ -46,13 +46,12 @@ fn check_result(
 // The first reason against an entry.
 fn check_entry(
     alloc: Global,
-    items: &Items,
+    items: &StatedItems,
     i: u64,
     found: Entry<'_>,
     step: &StatedStep,
 ) -> Result<Option<Reject>, Memory>
-    requires place { i ≤ length items.now.items }
-    requires below { EntryBelow (length items.now.trees) found }
+    requires { EntryBelow (length items.now.trees) found }
     ensures { Good (take i items.now.items)
         → IfOk result (λ r. option_map reason_of r ≡ reason_by conclusion_built (store_of (take i items.now.items)) (resolve (store_of (take i items.now.items)) (stated_step step.now)) (with_step (entry_in items.now.trees found.entry) (stated_step step.now))) }
 {
@@ -65,7 +64,7 @@ fn check_entry(
 
 /// The first reason against the item at place `i` after the items before it, or None where there is none. Where the items before
 /// it are no good list, nothing is said of the answer.
-pub fn check_item(alloc: Global, items: &Items, i: u64) -> Result<Option<Reject>, Memory>
+pub fn check_item(alloc: Global, items: &StatedItems, i: u64) -> Result<Option<Reject>, Memory>
     requires { i < length items.now.items }
     ensures { (x : Item) → nth items.now.items i ≡ Some x → Good (take i items.now.items) → IfOk result (λ r. option_map reason_of r ≡ reason_built (store_of (take i items.now.items)) x) }
 {

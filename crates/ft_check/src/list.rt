@@ -11,11 +11,11 @@ use crate::counts::Counted;
 use crate::item::check_item;
 use crate::verdict::Verdict;
 use ft_base::Memory;
-use ft_stated::Items;
+use ft_stated::StatedItems;
 use std::alloc::Global;
 
 // The first item against which there is a reason, or the counts of all.
-fn first_rejected(alloc: Global, items: &Items) -> Result<Verdict, Memory>
+fn first_rejected(alloc: Global, items: &StatedItems) -> Result<Verdict, Memory>
     ensures { IfOk result (λ v. verdict_of v ≡ verdict_built items.now.items) }
 {
     let mut counted = Counted {
@@ -40,7 +40,7 @@ fn first_rejected(alloc: Global, items: &Items) -> Result<Verdict, Memory>
 
 /// The verdict on a list.
 #[tactic(auto, using(crate::proofs::Listed::as_defined, crate::proofs::Listed::all_derivable))]
-pub fn check_items(alloc: Global, items: &Items) -> Result<Verdict, Memory>
+pub fn check_items(alloc: Global, items: &StatedItems) -> Result<Verdict, Memory>
     ensures verdict { IfOk result (λ v. verdict_of v ≡ verdict_built items.now.items) }
     ensures built { AllBuilt items.now.items → IfOk result (λ v. verdict_of v ≡ verdict_on items.now.items) }
     ensures derivable { IfOk result (λ v. (c : Counts) → verdict_of v ≡ Accepted c → EachEntry (λ W e. Derivable W e.statement e.set) items.now.items) }

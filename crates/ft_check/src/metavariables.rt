@@ -10,7 +10,7 @@ ghost use Rattle.ft_check.specs.Rejects.{reason_of, IsReason};
 use crate::entry::{Entry, entry_before};
 use crate::reject::Reject;
 use crate::sets::has_no_variable;
-use ft_stated::Items;
+use ft_stated::StatedItems;
 
 // The reason against an entry as the boundary of a metavariable.
 fn against_boundary(found: Entry<'_>) -> Option<Reject>
@@ -27,7 +27,7 @@ fn against_boundary(found: Entry<'_>) -> Option<Reject>
 
 /// The first reason against a metavariable with the boundary of entry `p` after the items before place `i`, or None where there
 /// is none. It takes no memory.
-pub fn check_metavariable(items: &Items, i: u64, p: u64) -> Option<Reject>
+pub fn check_metavariable(items: &StatedItems, i: u64, p: u64) -> Option<Reject>
     ensures { (n : Name) → IsReason (take i items.now.items) (metavariable n p) result }
 {
     match entry_before(items, i, p) {

@@ -1,13 +1,13 @@
 //! Whether the numbers in a step name what is there, and of which kind it is.
 
-ghost use Rattle.std.specs.Prelude.{◌≡◌, ◌≤◌, length, take};
+ghost use Rattle.std.specs.Prelude.{◌≡◌, take};
 ghost use Rattle.ft_items.specs.Store.{store_of};
 ghost use Rattle.ft_items.specs.Good.{Good};
 ghost use Rattle.ft_check.specs.Kinds.{thesis_named, boundary_named, kind_named, theses_named, entry_there, variable_there, metavariable_there, rule_there, both as both_tests, also as with_test};
 
 use crate::entry::{entry_before, has_rule_before, metavariable_before};
 use crate::variables::lacks_variable;
-use ft_stated::{Items, Numbers};
+use ft_stated::{Numbers, StatedItems};
 
 /// Both tests, where all is there.
 pub fn both(a: Option<bool>, b: Option<bool>) -> Option<bool>
@@ -33,7 +33,7 @@ pub fn also(a: Option<bool>, b: bool) -> Option<bool>
 }
 
 /// Whether the entry is a thesis.
-pub fn is_thesis(items: &Items, i: u64, p: u64) -> Option<bool>
+pub fn is_thesis(items: &StatedItems, i: u64, p: u64) -> Option<bool>
     ensures { result ≡ thesis_named (store_of (take i items.now.items)) p }
 {
     match entry_before(items, i, p) {
@@ -43,7 +43,7 @@ pub fn is_thesis(items: &Items, i: u64, p: u64) -> Option<bool>
 }
 
 /// Whether the entry is a boundary.
-pub fn is_boundary(items: &Items, i: u64, p: u64) -> Option<bool>
+pub fn is_boundary(items: &StatedItems, i: u64, p: u64) -> Option<bool>
     ensures { result ≡ boundary_named (store_of (take i items.now.items)) p }
 {
     match entry_before(items, i, p) {
@@ -53,7 +53,7 @@ pub fn is_boundary(items: &Items, i: u64, p: u64) -> Option<bool>
 }
 
 /// Whether the entry is a thesis where `thesis` is true, and else a boundary.
-pub fn is_of_kind(items: &Items, i: u64, p: u64, thesis: bool) -> Option<bool>
+pub fn is_of_kind(items: &StatedItems, i: u64, p: u64, thesis: bool) -> Option<bool>
     ensures { result ≡ kind_named thesis (store_of (take i items.now.items)) p }
 {
     match entry_before(items, i, p) {
@@ -64,7 +64,7 @@ pub fn is_of_kind(items: &Items, i: u64, p: u64, thesis: bool) -> Option<bool>
 
 /// Whether each of the entries is a thesis.
 #[tactic(auto, using(crate::proofs::NamedTheses::theses_none, crate::proofs::NamedTheses::theses_next, crate::proofs::NamedTheses::theses_start, crate::proofs::NamedTheses::theses_end))]
-pub fn are_theses(items: &Items, i: u64, numbers: &Numbers) -> Option<bool>
+pub fn are_theses(items: &StatedItems, i: u64, numbers: &Numbers) -> Option<bool>
     ensures { result ≡ theses_named (store_of (take i items.now.items)) numbers.now }
 {
     let ps = numbers.items();
@@ -80,7 +80,7 @@ pub fn are_theses(items: &Items, i: u64, numbers: &Numbers) -> Option<bool>
 }
 
 /// True, where the entry is there.
-pub fn is_entry(items: &Items, i: u64, p: u64) -> Option<bool>
+pub fn is_entry(items: &StatedItems, i: u64, p: u64) -> Option<bool>
     ensures { result ≡ entry_there (store_of (take i items.now.items)) p }
 {
     match entry_before(items, i, p) {
@@ -90,8 +90,7 @@ pub fn is_entry(items: &Items, i: u64, p: u64) -> Option<bool>
 }
 
 /// True, where the variable is there.
-pub fn is_variable(items: &Items, i: u64, v: u64) -> Option<bool>
-    requires { i ≤ length items.now.items }
+pub fn is_variable(items: &StatedItems, i: u64, v: u64) -> Option<bool>
     ensures { Good (take i items.now.items) → result ≡ variable_there (store_of (take i items.now.items)) v }
 {
     if lacks_variable(items, i, v) {
@@ -102,7 +101,7 @@ pub fn is_variable(items: &Items, i: u64, v: u64) -> Option<bool>
 }
 
 /// True, where the metavariable is there.
-pub fn is_metavariable(items: &Items, i: u64, m: u64) -> Option<bool>
+pub fn is_metavariable(items: &StatedItems, i: u64, m: u64) -> Option<bool>
     ensures { Good (take i items.now.items) → result ≡ metavariable_there (store_of (take i items.now.items)) m }
 {
     match metavariable_before(items, i, m) {
@@ -112,7 +111,7 @@ pub fn is_metavariable(items: &Items, i: u64, m: u64) -> Option<bool>
 }
 
 /// True, where the rule is there.
-pub fn is_rule(items: &Items, i: u64, r: u64) -> Option<bool>
+pub fn is_rule(items: &StatedItems, i: u64, r: u64) -> Option<bool>
     ensures { Good (take i items.now.items) → result ≡ rule_there (store_of (take i items.now.items)) r }
 {
     if has_rule_before(items, i, r) {

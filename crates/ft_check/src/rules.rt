@@ -1,6 +1,6 @@
 //! The check of a rule.
 
-ghost use Rattle.std.specs.Prelude.{◌≡◌, ◌≤◌, ◌&&◌, ℕ, ◌∷◌, [], List, Some, length, take, map, not, unwrap_or, is_some, option_map};
+ghost use Rattle.std.specs.Prelude.{◌≡◌, ◌&&◌, ℕ, ◌∷◌, [], List, Some, take, map, not, unwrap_or, is_some, option_map};
 ghost use Rattle.std.specs.List.{list_all};
 ghost use Rattle.ft_theory.specs.Expressions.{Expression};
 ghost use Rattle.ft_items.specs.Item.{rule};
@@ -17,10 +17,11 @@ use crate::reject::Reject;
 use crate::sets::{differ, is_within};
 use ft_assume::Assume;
 use ft_base::Name;
-use ft_stated::{Items, Numbers};
+use ft_base::limits::MAX_RULES;
+use ft_stated::{Numbers, StatedItems};
 
 // Whether no rule before place i has the name.
-fn is_new(items: &Items, i: u64, name: &Name) -> bool
+fn is_new(items: &StatedItems, i: u64, name: &Name) -> bool
     ensures { Good (take i items.now.items) → result ≡ is_new_among (store_of (take i items.now.items)).names name.now }
 {
     match items.name_place(name) {
@@ -30,7 +31,7 @@ fn is_new(items: &Items, i: u64, name: &Name) -> bool
 }
 
 // Whether each number is that of a metavariable before place i.
-fn are_metavariables(items: &Items, i: u64, ms: &[u64]) -> bool
+fn are_metavariables(items: &StatedItems, i: u64, ms: &[u64]) -> bool
     ensures { result ≡ list_all (λ m. is_some (nth (metavariables_in (take i items.now.items)) m)) ms.now }
 {
     for k in 0..ms.len() {
@@ -43,7 +44,7 @@ fn are_metavariables(items: &Items, i: u64, ms: &[u64]) -> bool
 }
 
 // What the boundary of a metavariable rests on.
-fn boundary_rests_on(items: &Items, i: u64, m: u64) -> Option<&Assume>
+fn boundary_rests_on(items: &StatedItems, i: u64, m: u64) -> Option<&Assume>
     ensures { unwrap_or (option_map (λ S. S.now) result) [] ≡ boundary_set (take i items.now.items) m }
 {
     let p = metavariable_before(items, i, m)?;
@@ -52,7 +53,7 @@ fn boundary_rests_on(items: &Items, i: u64, m: u64) -> Option<&Assume>
 }
 
 // Whether the boundary of a metavariable rests on some metavariables alone.
-fn rests_on(items: &Items, i: u64, m: u64, earlier: &[u64]) -> bool
+fn rests_on(items: &StatedItems, i: u64, m: u64, earlier: &[u64]) -> bool
     ensures { result ≡ within (boundary_set (take i items.now.items) m) (map met earlier.now) }
 {
     match boundary_rests_on(items, i, m) {
@@ -62,7 +63,7 @@ fn rests_on(items: &Items, i: u64, m: u64, earlier: &[u64]) -> bool
 }
 
 // Whether the boundary of each metavariable rests on earlier ones of the list alone.
-fn rest_on_earlier(items: &Items, i: u64, ms: &[u64]) -> bool
+fn rest_on_earlier(items: &StatedItems, i: u64, ms: &[u64]) -> bool
     ensures { result ≡ all_rest_on_earlier (boundary_set (take i items.now.items)) [] ms.now }
 {
     for k in 0..ms.len() {
@@ -82,14 +83,14 @@ fn is_of_kind(ms: &[u64], found: Entry<'_>) -> bool
 }
 
 // Whether the rule rests on its metavariables alone.
-fn is_tight(items: &Items, i: u64, ms: &[u64], found: Entry<'_>) -> bool
+fn is_tight(items: &StatedItems, i: u64, ms: &[u64], found: Entry<'_>) -> bool
     ensures { (ts : List Expression) → result ≡ (all_rest_on_earlier (boundary_set (take i items.now.items)) [] ms.now && within (entry_in ts found.entry).set (map met ms.now)) }
 {
     rest_on_earlier(items, i, ms) && is_within(found.set(), ms)
 }
 
 // The reason against an entry as the conclusion's boundary of a rule with these metavariables.
-fn against_conclusion(items: &Items, i: u64, ms: &[u64], found: Entry<'_>) -> Option<Reject>
+fn against_conclusion(items: &StatedItems, i: u64, ms: &[u64], found: Entry<'_>) -> Option<Reject>
     ensures { (ts : List Expression) (ds : List (ℕ × Declared)) → Good (take i items.now.items) → each (metavariable_named (store_of (take i items.now.items))) ms.now ≡ Some ds → option_map reason_of result ≡ reason_of_rule (Some ds) (Some (entry_in ts found.entry)) }
 {
     if !is_of_kind(ms, found) {
@@ -103,14 +104,13 @@ fn against_conclusion(items: &Items, i: u64, ms: &[u64], found: Entry<'_>) -> Op
 
 /// The first reason against a rule of this name, with these metavariables and the conclusion's boundary of entry `p`, after the
 /// items before place `i`, or None where there is none. It takes no memory.
-pub fn check_rule(items: &Items, i: u64, name: &Name, ms: &Numbers, p: u64) -> Option<Reject>
-    requires { i ≤ length items.now.items }
+pub fn check_rule(items: &StatedItems, i: u64, name: &Name, ms: &Numbers, p: u64) -> Option<Reject>
     ensures { IsReason (take i items.now.items) (rule name.now ms.now p) result }
 {
     if !is_new(items, i, name) {
         return Some(Reject::Name);
     }
-    if has_rule_before(items, i, 65535) {
+    if has_rule_before(items, i, MAX_RULES - 1) {
         return Some(Reject::Many);
     }
     if !are_metavariables(items, i, ms.items()) {

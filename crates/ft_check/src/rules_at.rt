@@ -21,11 +21,11 @@ use crate::instances::put_heads;
 use crate::reject::Reject;
 use ft_assume::Assume;
 use ft_base::Memory;
-use ft_stated::{Items, Numbers};
+use ft_stated::{Numbers, StatedItems};
 use std::alloc::Global;
 
 // The sets of these entries, together.
-fn union_of(alloc: Global, items: &Items, i: u64, ps: &[u64]) -> Result<Assume, Memory>
+fn union_of(alloc: Global, items: &StatedItems, i: u64, ps: &[u64]) -> Result<Assume, Memory>
     ensures { (given : List Assertion) → each (entry_named (store_of (take i items.now.items))) ps.now ≡ Some given → IfOk result (λ S. S ≡ unions (sets given)) }
 {
     let mut set = Assume::new(alloc);
@@ -43,7 +43,7 @@ fn union_of(alloc: Global, items: &Items, i: u64, ps: &[u64]) -> Result<Assume, 
 // The reason against an entry as the conclusion of the rule at hand at arguments.
 fn check_at(
     alloc: Global,
-    items: &Items,
+    items: &StatedItems,
     i: u64,
     found: Entry<'_>,
     rule: &RuleAt<'_>,
@@ -67,7 +67,7 @@ fn check_at(
 /// The reason against an entry as the conclusion of the rule `r` at arguments.
 pub fn check_applied(
     alloc: Global,
-    items: &Items,
+    items: &StatedItems,
     i: u64,
     found: Entry<'_>,
     r: u64,
@@ -87,7 +87,7 @@ pub fn check_applied(
 // The same, where the boundary of the conclusion is the entry `bound`.
 fn check_at_with(
     alloc: Global,
-    items: &Items,
+    items: &StatedItems,
     i: u64,
     found: Entry<'_>,
     rule: &RuleAt<'_>,
@@ -117,7 +117,7 @@ fn check_at_with(
 /// The reason against an entry as the conclusion of the rule `r` at arguments, where the boundary of the conclusion is entry `b`.
 pub fn check_applied_with(
     alloc: Global,
-    items: &Items,
+    items: &StatedItems,
     i: u64,
     found: Entry<'_>,
     r: u64,

@@ -6,11 +6,11 @@ ghost use Rattle.ft_check.specs.Rejects.{IsReason};
 
 use crate::entry::entry_before;
 use crate::reject::Reject;
-use ft_stated::Items;
+use ft_stated::StatedItems;
 
 /// The first reason against showing the entry `p` after the items before place `i`, or None where there is none. It takes no
 /// memory.
-pub fn check_shown(items: &Items, i: u64, p: u64) -> Option<Reject>
+pub fn check_shown(items: &StatedItems, i: u64, p: u64) -> Option<Reject>
     ensures { IsReason (take i items.now.items) (shown p) result }
 {
     match entry_before(items, i, p) {

@@ -1,6 +1,6 @@
 //! The check of a variable.
 
-ghost use Rattle.std.specs.Prelude.{◌≡◌, ◌≤◌, ◌∷◌, [], List, Some, length, take, option_map};
+ghost use Rattle.std.specs.Prelude.{◌≡◌, ◌∷◌, [], List, Some, take, option_map};
 ghost use Rattle.ft_theory.specs.Expressions.{Expression};
 ghost use Rattle.ft_items.specs.Item.{Name, variable};
 ghost use Rattle.ft_items.specs.Store.{store_of, variables_in};
@@ -10,10 +10,10 @@ ghost use Rattle.ft_check.specs.Rejects.{reason_of, IsReason};
 
 use crate::entry::{Entry, entry_before};
 use crate::reject::Reject;
-use ft_stated::Items;
+use ft_stated::StatedItems;
 
 // Whether each variable before place i has a smaller number.
-fn is_next(items: &Items, i: u64, v: u64) -> bool
+fn is_next(items: &StatedItems, i: u64, v: u64) -> bool
     ensures { Good (take i items.now.items) → result ≡ is_greatest (store_of (take i items.now.items)).variables v }
 {
     match items.greatest_before(i) {
@@ -23,8 +23,7 @@ fn is_next(items: &Items, i: u64, v: u64) -> bool
 }
 
 /// Whether no variable before place `i` has the number.
-pub fn lacks_variable(items: &Items, i: u64, v: u64) -> bool
-    requires { i ≤ length items.now.items }
+pub fn lacks_variable(items: &StatedItems, i: u64, v: u64) -> bool
     ensures { result ≡ no_variable v (variables_in (take i items.now.items)) }
 {
     match items.var_place(v) {
@@ -48,8 +47,7 @@ fn against_type(found: Entry<'_>) -> Option<Reject>
 
 /// The first reason against a variable of this number with the type of entry `p` after the items before place `i`, or None
 /// where there is none. It takes no memory.
-pub fn check_variable(items: &Items, i: u64, number: u64, p: u64) -> Option<Reject>
-    requires { i ≤ length items.now.items }
+pub fn check_variable(items: &StatedItems, i: u64, number: u64, p: u64) -> Option<Reject>
     ensures { (n : Name) → IsReason (take i items.now.items) (variable number n p) result }
 {
     if !is_next(items, i, number) {

@@ -6,7 +6,7 @@ ghost use Rattle.ft_items.specs.Item.{Item};
 ghost use Rattle.ft_items.specs.Lines.{lines_in, IsLineOf, AreLinesAfterFirst, AreLinesOf};
 ghost use Rattle.ft_items.specs.Texts.{IsTextOf};
 ghost use Rattle.ft_syntax.specs.Table.{Extends};
-ghost use Rattle.ft_stated.specs.Lines.{item_in, items_in, StatedBelow, AllBelow};
+ghost use Rattle.ft_stated.specs.Lines.{item_in, items_in, StatedBelow, AllStatedBelow};
 ghost use Rattle.ft_read.specs.Files.{IsFault, IsItemFault, IsLaterFault};
 ghost use Rattle.ft_read.specs.declared.fault.FileFault.TheVariants.{Memory};
 
@@ -15,12 +15,12 @@ use crate::lines::split_line;
 use crate::version::check_first;
 use ft_lines::laws::names_are_visible;
 use ft_lines::{Fault, line};
-use ft_stated::{Items, Stated};
+use ft_stated::{Stated, StatedItems};
 use ft_syntax::Terms;
 use std::alloc::Global;
 
 /// The items of a derivation file, or its fault.
-pub fn read_items(alloc: Global, bytes: &[u8]) -> Result<Items, FileFault>
+pub fn read_items(alloc: Global, bytes: &[u8]) -> Result<StatedItems, FileFault>
     // The file is the text of the items.
     ensures items { IfOk result (λ x. IsTextOf is_name_token bytes.now x.items) }
     // It has the fault.
@@ -35,7 +35,7 @@ pub fn read_items(alloc: Global, bytes: &[u8]) -> Result<Items, FileFault>
 
 // The items of the lines of a file, or its fault.
 #[tactic(auto, using(crate::proofs::Whole::no_line, crate::proofs::Whole::first_fault, crate::proofs::Whole::later_fault, crate::proofs::Whole::lines_of))]
-fn items_of(alloc: Global, bytes: &[u8]) -> Result<Items, FileFault>
+fn items_of(alloc: Global, bytes: &[u8]) -> Result<StatedItems, FileFault>
     ensures items { IfOk result (λ x. AreLinesOf is_name_token (lines_in bytes.now) x.items) }
     ensures fault { IfErr result (λ f. IsFault bytes.now f) }
 {
@@ -44,7 +44,7 @@ fn items_of(alloc: Global, bytes: &[u8]) -> Result<Items, FileFault>
             check_first(first)?;
             let mut terms = Terms::new(alloc);
             let stated = after_first(alloc, &mut terms, rest)?;
-            Ok(Items::new(terms, stated)?)
+            Ok(StatedItems::new(terms, stated)?)
         }
         None => Err(FileFault::Form(1)),
     }
@@ -52,7 +52,7 @@ fn items_of(alloc: Global, bytes: &[u8]) -> Result<Items, FileFault>
 
 // The items that the lines after the first state, over the table.
 fn after_first(alloc: Global, terms: &mut Terms, bytes: &[u8]) -> Result<Vec<Stated>, FileFault>
-    ensures items { IfOk result (λ x. AllBelow (length terms.new) x.items × AreLinesAfterFirst is_name_token (lines_in bytes.now) (items_in terms.new x.items)) }
+    ensures items { IfOk result (λ x. AllStatedBelow (length terms.new) x.items × AreLinesAfterFirst is_name_token (lines_in bytes.now) (items_in terms.new x.items)) }
     ensures fault { IfErr result (λ f. IsLaterFault (lines_in bytes.now) f) }
 {
     let mut stated = Vec::new(alloc);

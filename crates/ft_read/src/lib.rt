@@ -4,8 +4,6 @@
 mod fault;
 mod file;
 mod lines;
-#[cfg(test)]
-mod tests;
 mod version;
 
 pub use fault::FileFault;

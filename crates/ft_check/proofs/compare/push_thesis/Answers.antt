@@ -1,6 +1,7 @@
 use Rattle.std.proofs.Common.{rules, ◌≢◌, length, subst, sym}
 use Rattle.ft_syntax.specs.Table.{AllBelow}
-use Rattle.ft_check.proofs.Compares.{thesis_fits, no_thesis_fits, if_ok_map}
+use Rattle.ft_check.proofs.Compares.{thesis_fits, no_thesis_fits}
+use Rattle.std.proofs.lemmas.Result.{IfOk-weaker}
 use Rattle.ft_check.proofs.compare.push_thesis.Goals as goal
 
 pub returns-then-found-wanted-clause-same : goal.returns-then-found-wanted-clause-same
@@ -10,7 +11,7 @@ returns-then-found-wanted-clause-same c =
 
 pub returns-clause-same : goal.returns-clause-same
 returns-clause-same c =
-    λ ts j. if_ok_map c.push_form.result _ _ (λ yes h. thesis_fits ts j c.args.x.now c.args.b.now c.items-found.result.now c.items-wanted.result.now _ _ _ c.items-found.ensures c.items-wanted.ensures (c.in_ok-push_domains.ensures.same ts j) h) (c.push_form.ensures.same ts j)
+    λ ts j. IfOk-weaker c.push_form.result _ _ (λ yes h. thesis_fits ts j c.args.x.now c.args.b.now c.items-found.result.now c.items-wanted.result.now _ _ _ c.items-found.ensures c.items-wanted.ensures (c.in_ok-push_domains.ensures.same ts j) h) (c.push_form.ensures.same ts j)
 
 pub returns-clause-below : goal.returns-clause-below
 returns-clause-below c =

@@ -6,8 +6,8 @@ use Rattle.ft_syntax.specs.Instances.{instance_in}
 use Rattle.ft_syntax.specs.Table.{arguments_in}
 use Rattle.ft_judge.specs.Meaning.{claim_in, goal_in}
 use Rattle.ft_check.specs.Comparing.{all_same, head_same, ComparedBelow}
-use Rattle.ft_check.proofs.Compares.{if_ok_map}
 use Rattle.ft_check.proofs.Concludes.{form_not, list_not, all_filled}
+use Rattle.std.proofs.lemmas.Result.{IfOk-weaker}
 use Rattle.ft_check.proofs.concluding.is_filled.Goals as goal
 
 pub returns-then-not-branch : goal.returns-then-not-branch
@@ -38,7 +38,7 @@ returns c =
     let J = instantiate (instance_in c.args.put.now.terms c.args.put.now.instance.pairs) in
     let yes : c.in_ok-push_form.field-0 ≡ true = search rules in
     let all : c.in_ok-are_instances.field-0 ≡ true = search rules in
-    if_ok_map c.has_applied.result _ _
+    IfOk-weaker c.has_applied.result _ _
     (λ b h. all_filled T J (symbol c.args.rule.now.symbol (arguments_in c.args.put.now.terms c.args.put.now.arguments.items)) c.args.form.now c.args.rule.now.goal _ _ _ b yes all (c.in_ok-are_instances.ensures.are ∙ ap (all_same T J) c.deref.ensures.value)
     (c.in_ok-push_form.ensures.same T J ∙ ap (λ xs. all_same T J xs && fits_goal (claim_in T c.args.form.now) (map_claim J (goal_in T c.args.rule.now.goal))) c.new-list.ensures.items)
     (h ∙ ap (λ a. head_same T (symbol c.args.rule.now.symbol a) c.args.form.now) c.in_ok-are_instances.ensures.arguments))

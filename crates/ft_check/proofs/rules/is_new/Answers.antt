@@ -1,4 +1,4 @@
-use Rattle.std.proofs.Common.{rules, ◌∙◌, ap, sym}
+use Rattle.std.proofs.Common.{◌∙◌, ap, sym}
 use Rattle.ft_check.proofs.Before.{is_not_before}
 use Rattle.ft_check.proofs.Naming.{new_is}
 use Rattle.ft_check.proofs.rules.is_new.Goals as goal

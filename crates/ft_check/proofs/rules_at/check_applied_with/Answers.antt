@@ -7,9 +7,9 @@ use Rattle.ft_items.specs.Sets.{union, unions}
 use Rattle.ft_items.specs.Good.{reason_of_result}
 use Rattle.ft_items.specs.Store.{Assertion, each, entry_named, store_of}
 use Rattle.ft_check.specs.Entries.{entry_in, with_step}
-use Rattle.ft_check.proofs.Standing.{none_some}
-use Rattle.ft_check.proofs.Compares.{if_ok_map}
 use Rattle.ft_check.proofs.Applies.{not_read}
+use Rattle.ft_common.proofs.Options.{none_some}
+use Rattle.std.proofs.lemmas.Result.{IfOk-weaker}
 use Rattle.ft_check.proofs.rules_at.check_applied_with.Goals as goal
 
 pub returns-in_default : goal.returns-in_default
@@ -22,6 +22,6 @@ pub returns : goal.returns
 returns c = λ R b given t g e h w p a.
     let T = c.args.items.now.trees in
     let same = same_Some (entry_in T c.in-Some.bound) b (sym (ap (option_map (entry_in T)) c.in-Some.is) ∙ c.entry_before.ensures.entry ∙ h) in
-    if_ok_map c.check_at_with.result _ _ (λ x y. y ∙ ap (λ (a : Assertion). reason_of_result (rule_instance_with R.0 R.1 a.statement (statements given)) (union a.set (unions (sets given))) (with_step (entry_in T c.args.found) t)) same)
+    IfOk-weaker c.check_at_with.result _ _ (λ x y. y ∙ ap (λ (a : Assertion). reason_of_result (rule_instance_with R.0 R.1 a.statement (statements given)) (union a.set (unions (sets given))) (with_step (entry_in T c.args.found) t)) same)
     (c.check_at_with.ensures R given t g (c.in-Some-rule_at_hand.ensures.is R g e) (ap (λ (a : Assertion). is_thesis a.statement) same ∙ w)
     (ap (each (entry_named (store_of (take c.args.i c.args.items.now.items)))) c.items.ensures ∙ p) a)

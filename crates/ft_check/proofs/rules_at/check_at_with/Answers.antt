@@ -14,10 +14,10 @@ use Rattle.ft_judge.specs.Meaning.{goal_in}
 use Rattle.ft_check.specs.Comparing.{all_same, ComparedBelow}
 use Rattle.ft_check.specs.Entries.{entry_in, with_step}
 use Rattle.ft_check.specs.Rejects.{reason_of}
-use Rattle.ft_check.proofs.Compares.{if_ok_map}
 use Rattle.ft_check.proofs.Concludes.{premise_not}
 use Rattle.ft_check.proofs.Fits.{no_same}
 use Rattle.ft_check.proofs.Applies.{at_these, first_not, numbers_are, second_not, two_lists}
+use Rattle.std.proofs.lemmas.Result.{IfOk-weaker}
 use Rattle.ft_check.proofs.rules_at.check_at_with.Goals as goal
 
 pub returns-then-not-branch : goal.returns-then-not-branch
@@ -48,7 +48,7 @@ returns c =
     let T = c.args.items.now.trees in
     let yes : c.in_ok-push_premises.field-0 ≡ true = search rules in
     let also : c.in_ok-push_boundary.field-0 ≡ true = search rules in
-    λ R given t g k w p a. if_ok_map c.check_conclusion.result _ _
+    λ R given t g k w p a. IfOk-weaker c.check_conclusion.result _ _
     (λ x e. at_these T (store_of (take c.args.i c.args.items.now.items)) c.args.rule.now R (statements given) _ _ _ (are_arguments R.1.premises (statements given) && equal_statements (entry_in T c.args.bound).statement (plain (conclusion_at R.1 (heads (statements given))))) _ _ _ _ k
     (c.in_ok-put.ensures.instance given R.1.premises p a (ap (map (λ (x : ℕ × Statement). x.0)) k.premises ∙ numbers_are (store_of (take c.args.i c.args.items.now.items)) c.args.rule.now.metavariables.now k.declared k.are))
     (c.in_ok-put.ensures.heads given p a)

@@ -12,11 +12,11 @@ use crate::reject::Reject;
 use crate::rules::check_rule;
 use crate::shown::check_shown;
 use crate::variables::check_variable;
-use ft_stated::{Items, Stated};
+use ft_stated::{Stated, StatedItems};
 
 /// The first reason against the item at place `i`, which is no entry, after the items before it, or None where there is none.
 /// It takes no memory. Where the items before are no good list, nothing is said of the answer.
-pub fn check_without_step(items: &Items, i: u64) -> Option<Reject>
+pub fn check_without_step(items: &StatedItems, i: u64) -> Option<Reject>
     requires place { i < length items.now.items }
     requires kind { (x : Item) → nth items.now.items i ≡ Some x → is_entry x ≡ false }
     ensures { (x : Item) → nth items.now.items i ≡ Some x → IsReason (take i items.now.items) x result }

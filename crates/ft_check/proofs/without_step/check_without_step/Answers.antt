@@ -1,6 +1,6 @@
 use Rattle.std.proofs.Common.{take}
 use Rattle.ft_check.proofs.Stating.{without_step, against_item}
-use Rattle.ft_check.proofs.lines.check_without_step.Goals as goal
+use Rattle.ft_check.proofs.without_step.check_without_step.Goals as goal
 
 pub unreachable-requires : goal.unreachable-requires
 unreachable-requires c = without_step c.args.items.now.trees c.item.result.now (c.requires.kind _ c.item.ensures.item) c.in_default.not-Var c.in_default.not-Met c.in_default.not-Rule c.in_default.not-Shown

@@ -1,4 +1,4 @@
-//! Of which kind an entry is.
+//! What an entry contains: the kind of its statement, its type or goal, and its set.
 
 ghost use Rattle.std.specs.Prelude.{◌≡◌, ◌<◌, ℕ, List, Some, true, false, IfSome, option_map};
 ghost use Rattle.ft_theory.specs.Expressions.{Expression};

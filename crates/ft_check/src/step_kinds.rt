@@ -1,6 +1,6 @@
 //! Of which kind the entries are that a step names.
 
-ghost use Rattle.std.specs.Prelude.{◌≡◌, ◌≤◌, length, take, option_map};
+ghost use Rattle.std.specs.Prelude.{◌≡◌, take, option_map};
 ghost use Rattle.ft_items.specs.Store.{resolve, store_of};
 ghost use Rattle.ft_items.specs.Good.{Good};
 ghost use Rattle.ft_stated.specs.Steps.{stated_step};
@@ -10,28 +10,28 @@ use crate::named::{
     also, are_theses, both, is_boundary, is_entry, is_metavariable, is_of_kind, is_rule, is_thesis,
     is_variable,
 };
-use ft_stated::{Items, Numbers, StatedStep};
+use ft_stated::{Numbers, StatedItems, StatedStep};
 
-fn one_thesis(items: &Items, i: u64, p: u64, right: bool) -> Option<bool>
+fn one_thesis(items: &StatedItems, i: u64, p: u64, right: bool) -> Option<bool>
     ensures { result ≡ with_test (thesis_named (store_of (take i items.now.items)) p) right }
 {
     also(is_thesis(items, i, p), right)
 }
 
-fn two_theses(items: &Items, i: u64, p: u64, q: u64, right: bool) -> Option<bool>
+fn two_theses(items: &StatedItems, i: u64, p: u64, q: u64, right: bool) -> Option<bool>
     ensures { result ≡ with_test (both_tests (thesis_named (store_of (take i items.now.items)) p) (thesis_named (store_of (take i items.now.items)) q)) right }
 {
     also(both(is_thesis(items, i, p), is_thesis(items, i, q)), right)
 }
 
-fn three_theses(items: &Items, i: u64, p: u64, q: u64, r: u64, right: bool) -> Option<bool>
+fn three_theses(items: &StatedItems, i: u64, p: u64, q: u64, r: u64, right: bool) -> Option<bool>
     ensures { result ≡ with_test (both_tests (thesis_named (store_of (take i items.now.items)) p) (both_tests (thesis_named (store_of (take i items.now.items)) q) (thesis_named (store_of (take i items.now.items)) r))) right }
 {
     let later = both(is_thesis(items, i, q), is_thesis(items, i, r));
     also(both(is_thesis(items, i, p), later), right)
 }
 
-fn metavariable_at(items: &Items, i: u64, m: u64, ps: &Numbers, right: bool) -> Option<bool>
+fn metavariable_at(items: &StatedItems, i: u64, m: u64, ps: &Numbers, right: bool) -> Option<bool>
     ensures { Good (take i items.now.items) → result ≡ with_test (both_tests (metavariable_there (store_of (take i items.now.items)) m) (theses_named (store_of (take i items.now.items)) ps.now)) right }
 {
     also(
@@ -40,13 +40,13 @@ fn metavariable_at(items: &Items, i: u64, m: u64, ps: &Numbers, right: bool) -> 
     )
 }
 
-fn rule_at(items: &Items, i: u64, r: u64, ps: &Numbers, right: bool) -> Option<bool>
+fn rule_at(items: &StatedItems, i: u64, r: u64, ps: &Numbers, right: bool) -> Option<bool>
     ensures { Good (take i items.now.items) → result ≡ with_test (both_tests (rule_there (store_of (take i items.now.items)) r) (theses_named (store_of (take i items.now.items)) ps.now)) right }
 {
     also(both(is_rule(items, i, r), are_theses(items, i, ps)), right)
 }
 
-fn rule_with(items: &Items, i: u64, r: u64, b: u64, ps: &Numbers, right: bool) -> Option<bool>
+fn rule_with(items: &StatedItems, i: u64, r: u64, b: u64, ps: &Numbers, right: bool) -> Option<bool>
     ensures { Good (take i items.now.items) → result ≡ with_test (both_tests (rule_there (store_of (take i items.now.items)) r) (both_tests (boundary_named (store_of (take i items.now.items)) b) (theses_named (store_of (take i items.now.items)) ps.now))) right }
 {
     let later = both(is_boundary(items, i, b), are_theses(items, i, ps));
@@ -54,7 +54,7 @@ fn rule_with(items: &Items, i: u64, r: u64, b: u64, ps: &Numbers, right: bool) -
 }
 
 fn rule_twice(
-    items: &Items,
+    items: &StatedItems,
     i: u64,
     r: u64,
     ps: &Numbers,
@@ -68,7 +68,7 @@ fn rule_twice(
 }
 
 fn rule_moved(
-    items: &Items,
+    items: &StatedItems,
     i: u64,
     r: u64,
     ps: &Numbers,
@@ -83,14 +83,13 @@ fn rule_moved(
     also(both(is_rule(items, i, r), later), right)
 }
 
-fn substituted(items: &Items, i: u64, p: u64, t: u64, thesis: bool) -> Option<bool>
+fn substituted(items: &StatedItems, i: u64, p: u64, t: u64, thesis: bool) -> Option<bool>
     ensures { result ≡ both_tests (kind_named thesis (store_of (take i items.now.items)) p) (thesis_named (store_of (take i items.now.items)) t) }
 {
     both(is_of_kind(items, i, p, thesis), is_thesis(items, i, t))
 }
 
-fn abstracted(items: &Items, i: u64, v: u64, p: u64, thesis: bool) -> Option<bool>
-    requires { i ≤ length items.now.items }
+fn abstracted(items: &StatedItems, i: u64, v: u64, p: u64, thesis: bool) -> Option<bool>
     ensures { Good (take i items.now.items) → result ≡ both_tests (variable_there (store_of (take i items.now.items)) v) (kind_named thesis (store_of (take i items.now.items)) p) }
 {
     both(is_variable(items, i, v), is_of_kind(items, i, p, thesis))
@@ -98,8 +97,7 @@ fn abstracted(items: &Items, i: u64, v: u64, p: u64, thesis: bool) -> Option<boo
 
 /// Whether a step after the items before place `i` has theses and boundaries where its row has them, and concludes a thesis
 /// where `thesis` is true and else a boundary; None where a number names nothing.
-pub fn kinds(items: &Items, i: u64, step: &StatedStep, thesis: bool) -> Option<bool>
-    requires { i ≤ length items.now.items }
+pub fn kinds(items: &StatedItems, i: u64, step: &StatedStep, thesis: bool) -> Option<bool>
     ensures { Good (take i items.now.items) → result ≡ option_map (kinds_right thesis) (resolve (store_of (take i items.now.items)) (stated_step step.now)) }
 {
     match step {

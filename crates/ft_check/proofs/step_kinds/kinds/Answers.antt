@@ -7,7 +7,7 @@ use Rattle.ft_items.specs.Good.{all_theses}
 use Rattle.ft_stated.specs.Steps.{stated_step}
 use Rattle.ft_check.specs.Kinds.{kinds_right}
 use Rattle.ft_check.proofs.StepKinds.{shape_three, shape_four, with_right, twice_right, moved_right}
-use Rattle.ft_check.proofs.steps.kinds.Goals as goal
+use Rattle.ft_check.proofs.step_kinds.kinds.Goals as goal
 
 pub returns-in-Rulewith : goal.returns-in-Rulewith
 returns-in-Rulewith c =

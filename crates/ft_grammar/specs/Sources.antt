@@ -26,8 +26,8 @@ IsFirstUnexpected at ts =
     (before : List Token) × (t : Token) × (after : List Token) × (ts ≡ before ++ t ∷ after) × (at ≡ t.start) × CanGoOn before
     × ((depth : ℕ) → HasNoSource depth (before ++ t ∷ []))
 
--- the tokens have a first one, which begins at that place, with which they can't go on at the nesting
-abbrev pub IsFirstTooNested : ℕ → ℕ → List Token → Type 0
-IsFirstTooNested nesting at ts =
+-- the tokens have one, which begins at that place, with which they can't go on at the nesting; those before it can at some nesting
+abbrev pub IsTooNested : ℕ → ℕ → List Token → Type 0
+IsTooNested nesting at ts =
     (before : List Token) × (t : Token) × (after : List Token) × (ts ≡ before ++ t ∷ after) × (at ≡ t.start) × CanGoOn before
     × HasNoSource nesting (before ++ t ∷ [])

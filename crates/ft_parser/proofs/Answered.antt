@@ -1,5 +1,6 @@
 -- What the answer of a function that reads a whole source says of the grammar.
-use Rattle.std.proofs.Common.{◌≡◌, ◌≢◌, ◌∙◌, sym, ap, refl, ℕ, Bool, true, false, ◌&&◌, not, IsTrue, IfOk, IfErr, IsErrOf, List, [], ◌∷◌, Ok, Err, Result}
+use Rattle.std.proofs.Common.{◌≡◌, ◌≢◌, ◌∙◌, sym, ap, refl, ℕ, true, not, IsTrue, IfOk, IfErr, IsErrOf, List, [], ◌∷◌, Ok, Err, Result}
+use Rattle.std.proofs.lemmas.Bool.{and_parts}
 use Rattle.ft_grammar.specs.declared.token.Kind.{Kind}
 use Rattle.ft_grammar.specs.declared.token.Kind.TheVariants as kind
 use Rattle.ft_grammar.specs.declared.token.Token.{Token}
@@ -10,9 +11,9 @@ use Rattle.ft_grammar.specs.declared.syntax.Command.{Command}
 use Rattle.ft_grammar.specs.Forms.{is_no_end}
 use Rattle.ft_grammar.specs.Grammar.{IsSource, nesting}
 use Rattle.ft_grammar.specs.Reading.{parse, ReadsAll}
-use Rattle.ft_grammar.specs.Sources.{IsClosed, IsFirstTooNested, IsFirstUnexpected}
+use Rattle.ft_grammar.specs.Sources.{IsClosed, IsTooNested, IsFirstUnexpected}
 use Rattle.ft_parser.proofs.SourceLaws.{accepted_is_in_grammar, in_grammar_is_accepted}
-use Rattle.ft_parser.proofs.Refusals.{unexpected_is_first, too_nested_is_first}
+use Rattle.ft_parser.proofs.Refusals.{unexpected_is_first, too_nested_cannot_go_on}
 
 the_end : (k : Kind) → IsTrue (is_end k) → k ≡ kind.End
 the_end kind.End h = refl
@@ -31,15 +32,10 @@ no_end (kind.Word w) h = refl
 no_end (kind.Mark m) h = refl
 no_end kind.Bad h = refl
 
-both : (a b : Bool) → IsTrue (a && b) → IsTrue a × IsTrue b
-both true true h = (refl, refl)
-both true false h = cc
-both false b h = cc
-
 pub closed : (ts : List Token) → IsTrue (is_ended ts) → IsClosed ts
 closed [] h = cc
 closed (t ∷ []) h = the_end t.kind h
-closed (t ∷ u ∷ us) h = let each = both (not (is_end t.kind)) (is_ended (u ∷ us)) h in (no_end t.kind each.0, closed (u ∷ us) each.1)
+closed (t ∷ u ∷ us) h = let each = and_parts (not (is_end t.kind)) (is_ended (u ∷ us)) h in (no_end t.kind each.0, closed (u ∷ us) each.1)
 
 pub accepted : {B : Type 0} (value : B → List Command) (ts : List Token) (r : Result B SyntaxFault) → IsTrue (is_ended ts)
     → ReadsAll (parse ts) r value → IfOk r (λ b. IsSource nesting (value b) ts)
@@ -71,8 +67,8 @@ unexpected value ts (Err e) at h reads is =
     unexpected_is_first at ts (closed ts h) (reads (λ m. not_memory_at at (sym same ∙ m)) ∙ ap Err same)
 
 pub too_nested : {B : Type 0} (value : B → List Command) (ts : List Token) (r : Result B SyntaxFault) (at : ℕ) → IsTrue (is_ended ts)
-    → ReadsAll (parse ts) r value → IsErrOf r (TooNested at) → IsFirstTooNested nesting at ts
+    → ReadsAll (parse ts) r value → IsErrOf r (TooNested at) → IsTooNested nesting at ts
 too_nested value ts (Ok b) at h reads is = cc
 too_nested value ts (Err e) at h reads is =
     let same = err_is e (TooNested at) is in
-    too_nested_is_first at ts (closed ts h) (reads (λ m. not_memory_nested at (sym same ∙ m)) ∙ ap Err same)
+    too_nested_cannot_go_on at ts (closed ts h) (reads (λ m. not_memory_nested at (sym same ∙ m)) ∙ ap Err same)

@@ -1,5 +1,8 @@
 -- The same for the rules of commands that have premises.
 use Rattle.std.proofs.Common.{◌≡◌, refl, ℕ, Bool, true, false, ◌&&◌, List, []}
+use Rattle.std.proofs.lemmas.Bool.{and_parts}
+use Rattle.ft_common.proofs.Booleans.{false_true}
+use Rattle.ft_common.proofs.Options.{none_some}
 use Rattle.ft_base.specs.declared.word.Word.TheVariants as w
 use Rattle.ft_grammar.specs.declared.token.Mark.TheVariants as m
 use Rattle.ft_grammar.specs.declared.token.Kind.{Kind}
@@ -12,7 +15,7 @@ use Rattle.ft_grammar.specs.Grammar.{IsPart, atom, call, application, list_expre
 use Rattle.ft_parser.proofs.EveryKind.{within, apart}
 use Rattle.ft_parser.proofs.Follow.{begins, follows, anything, after_expression, is_right_paren, is_end, after_command, begins_body, begins_conclusion}
 use Rattle.ft_parser.proofs.Complete.{Fits, shrink}
-use Rattle.std.proofs.Common.{◌∙◌, sym, ap, ◌⊎◌, inl, inr, append_assoc, if◌then◌else◌, ◌∷◌, ◌++◌, length, drop, Ok, Option, Some, None, zero, suc}
+use Rattle.std.proofs.Common.{◌∙◌, sym, ap, ◌⊎◌, inl, inr, append_assoc, if◌then◌else◌, ◌∷◌, ◌++◌, length, drop, Ok, Some, None, zero, suc}
 use Rattle.ft_base.specs.declared.name.Name.{Name}
 use Rattle.ft_base.specs.declared.word.Word.{Word}
 use Rattle.ft_grammar.specs.declared.token.Token.{Token}
@@ -23,24 +26,18 @@ use Rattle.ft_parser.proofs.Complete.{has_name, ends, ReadsBack, Within}
 use Rattle.ft_parser.proofs.Cases.{ok_rest}
 use Rattle.ft_parser.proofs.FitRules.{fits_binder, fits_type_body, fits_term_body, fits_equation_body, fits_any_conclusion, fits_let_command, fits_operation_command, fits_computation_command, fits_extensionality_command, fits_show_command}
 
-no_value : {A : Type 0} {a : A} → ◌≡◌ {A = Option A} None (Some a) → ⊥
-no_value h = cc
-
-not_true : ◌≡◌ {A = Bool} false true → ⊥
-not_true h = cc
-
 chosen_word : (b : Bool) (u : Unit {0}) → (if b then Some tt else None) ≡ Some u → b ≡ true
 chosen_word true u h = refl
-chosen_word false u h = absurd (no_value h)
+chosen_word false u h = absurd (none_some h)
 
 is_the_word : (v : Word) (k : Kind) (u : Unit {0}) → worded (exactly v) k ≡ Some u → is_word v k ≡ true
 unfolding is_word exactly
 is_the_word v (kind.Word x) u h = chosen_word (is_word v (kind.Word x)) u h
-is_the_word v (kind.Name n) u h = absurd (no_value h)
-is_the_word v (kind.Number n) u h = absurd (no_value h)
-is_the_word v (kind.Mark n) u h = absurd (no_value h)
-is_the_word v kind.Bad u h = absurd (no_value h)
-is_the_word v kind.End u h = absurd (no_value h)
+is_the_word v (kind.Name n) u h = absurd (none_some h)
+is_the_word v (kind.Number n) u h = absurd (none_some h)
+is_the_word v (kind.Mark n) u h = absurd (none_some h)
+is_the_word v kind.Bad u h = absurd (none_some h)
+is_the_word v kind.End u h = absurd (none_some h)
 
 -- the first two tokens, where the first is a name
 two_tokens : (second : Kind → Bool) (b : Bool) (xs rest : List Token) (t u : Token) (zs : List Token) → xs ≡ t ∷ (u ∷ zs) → is_name t.kind ≡ true → second u.kind ≡ b
@@ -107,15 +104,11 @@ stuck second end (suc d) t us a rest n s h = by_kind t.kind n h
     by_kind (kind.Name m) n h =
         let e = end (kind_of us) s in
         ok_rest (sym (a_name d m t.start t.end us e.0 e.1 e.2) ∙ h)
-    by_kind (kind.Number m) n h = absurd (not_true n)
-    by_kind (kind.Word m) n h = absurd (not_true n)
-    by_kind (kind.Mark m) n h = absurd (not_true n)
-    by_kind kind.Bad n h = absurd (not_true n)
-    by_kind kind.End n h = absurd (not_true n)
-
-both_are : (a b : Bool) → (a && b) ≡ true → (a ≡ true) × (b ≡ true)
-both_are true b h = (refl, h)
-both_are false b h = absurd (not_true h)
+    by_kind (kind.Number m) n h = absurd (false_true n)
+    by_kind (kind.Word m) n h = absurd (false_true n)
+    by_kind (kind.Mark m) n h = absurd (false_true n)
+    by_kind kind.Bad n h = absurd (false_true n)
+    by_kind kind.End n h = absurd (false_true n)
 
 is_or_not : (b : Bool) → (b ≡ true) ⊎ (b ≡ false)
 is_or_not true = inl refl
@@ -132,9 +125,9 @@ no_second second end other d parts a (t ∷ us) rest h next = by_test (is_or_not
     by_test : ((is_name t.kind && second (kind_of us)) ≡ true) ⊎ ((is_name t.kind && second (kind_of us)) ≡ false) → (is_name t.kind && second (kind_of us)) ≡ false
     by_test (inr no_) = no_
     by_test (inl yes_) =
-        let c = both_are (is_name t.kind) (second (kind_of us)) yes_ in
+        let c = and_parts (is_name t.kind) (second (kind_of us)) yes_ in
         let same = stuck second end d t us a rest c.0 c.1 h in
-        absurd (not_true (sym (other (kind_of us) c.1) ∙ ap (λ ws. is_mark m.DoubleEquals (kind_of ws)) same ∙ next))
+        absurd (false_true (sym (other (kind_of us) c.1) ∙ ap (λ ws. is_mark m.DoubleEquals (kind_of ws)) same ∙ next))
 
 double_equals_follows : Within begins follows (is_mark m.DoubleEquals) (follows expression)
 unfolding is_mark begins_atom

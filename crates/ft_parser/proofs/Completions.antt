@@ -9,6 +9,7 @@ use Rattle.ft_grammar.specs.declared.token.Token.{Token}
 use Rattle.ft_grammar.specs.declared.fault.SyntaxFault.{SyntaxFault}
 use Rattle.ft_grammar.specs.Rules.{Rule, Part, Tree, AllOf, Is, give, name, number, word, mark, part, starting, sequence, either, either_by_two, unless, more, is_mark, named, numbered, worded}
 use Rattle.ft_grammar.specs.Reading.{Outcome, Parser, and_then, read, more_from, start_of, kind_of, read_name, read_number, read_word, read_mark, value_or_refuse, refuse}
+use Rattle.ft_parser.proofs.Cases.{same_left}
 use Rattle.ft_parser.proofs.Sound.{eaten, PartsEat, IsSound, Proper, sound}
 
 abbrev pub at_zero : Kind → Token
@@ -85,14 +86,6 @@ module _ (R : (p : Part) → Tree p → List Token → Type 0) where
 
   abbrev pub CanComplete : {A : Type 0} → Parser A → (A → List Token → Type 0) → Type 0
   CanComplete p P = (ts left : List Token) (n : SyntaxFault) → p ts ≡ Err (n, left) → Completed P ts left
-
-  err_left : {A : Type 0} → List Token → Outcome A → List Token
-  err_left d (Ok p) = d
-  err_left d (Err e) = e.1
-
-  same_left : {A : Type 0} {e f : SyntaxFault} {xs ys : List Token} → ◌≡◌ {A = Outcome A} (Err (e, xs)) (Err (f, ys)) → xs ≡ ys
-  unfolding err_left
-  same_left {A = A} {xs = xs} h = ap (err_left {A = A} xs) h
 
   no_err : {A : Type 0} (p : A × List Token) (e : SyntaxFault × List Token) → ◌≡◌ {A = Outcome A} (Ok p) (Err e) → ⊥
   no_err p e h = cc

@@ -1,12 +1,13 @@
 -- The tokens before one that is refused begin a source.
-use Rattle.std.proofs.Common.{◌≡◌, sym, ap, refl, ℕ, zero, suc, List, [], ◌∷◌, ◌++◌, Ok, Err, append_assoc}
+use Rattle.std.proofs.Common.{◌≡◌, sym, refl, ℕ, zero, suc, List, [], ◌∷◌, ◌++◌, Err, append_assoc}
 use Rattle.ft_grammar.specs.declared.token.Kind.TheVariants as kind
 use Rattle.ft_grammar.specs.declared.token.Token.{Token}
 use Rattle.ft_grammar.specs.declared.fault.SyntaxFault.{SyntaxFault}
 use Rattle.ft_grammar.specs.Rules.{Part, Tree, Is}
 use Rattle.ft_grammar.specs.Grammar.{rule_of, IsPart, commands}
-use Rattle.ft_grammar.specs.Reading.{Outcome, read, level, too_nested}
+use Rattle.ft_grammar.specs.Reading.{read, level}
 use Rattle.ft_grammar.specs.Sources.{CanGoOn}
+use Rattle.ft_parser.proofs.Cases.{same_left}
 use Rattle.ft_parser.proofs.SourceLaws.{NoEnd, no_end, part_no_end}
 use Rattle.ft_parser.proofs.Sound.{IsSound}
 use Rattle.ft_parser.proofs.ProperRules.{proper_part, proper_commands}
@@ -26,17 +27,9 @@ samples d p = part_sample (IsPart d) p
 sounds : (d : ℕ) (p : Part) → IsSound (IsPart (suc d)) (level d p) (λ a. IsPart (suc d) p a)
 sounds d p ts a rest h = let got = parts_sound d p ts a rest h in (got.0, got.1, part_grows d p a got.0 got.2)
 
-left_in : {A : Type 0} → List Token → Outcome A → List Token
-left_in d (Ok p) = d
-left_in d (Err e) = e.1
-
-nested_left : {A : Type 0} (ts left : List Token) (n : SyntaxFault) → too_nested {A = A} ts ≡ Err (n, left) → ts ≡ left
-unfolding left_in
-nested_left {A = A} ts left n h = ap (left_in {A = A} ts) h
-
 parts_complete : (d : ℕ) (p : Part) → CanComplete (IsPart (suc d)) (level d p) (λ a. IsPart (suc d) p a)
 unfolding IsPart level
-parts_complete zero p ts left n h = let s = part_sample (IsPart 0) p in ([], nested_left ts left n h, s.1, s.0, s.3)
+parts_complete zero p ts left n h = let s = part_sample (IsPart 0) p in ([], same_left h, s.1, s.0, s.3)
 parts_complete (suc d) p ts left n h =
     complete (IsPart (suc d)) (level d) (parts_eat (suc d)) (samples d) (sounds d) (parts_complete d) (rule_of p) (proper_part p) (sampled_part (IsPart (suc d)) p) ts left n h
 

@@ -1,5 +1,7 @@
 -- What holds of every kind of token, by one test.
 use Rattle.std.proofs.Common.{◌≡◌, refl, ap, ◌∙◌, ℕ, Bool, true, false, ◌&&◌, not, List, [], ◌∷◌, ◌⊎◌, inl, inr}
+use Rattle.std.proofs.lemmas.Bool.{and_parts, not-true}
+use Rattle.ft_common.proofs.Booleans.{false_true}
 use Rattle.ft_base.specs.declared.name.Name.{Name}
 use Rattle.ft_base.specs.declared.word.Word.{Word}
 use Rattle.ft_base.specs.declared.word.Word.TheVariants as w
@@ -88,17 +90,10 @@ abbrev pub each : {A : Type 0} → (A → Bool) → List A → Bool
 each P [] = true
 each P (a ∷ as_rest) = P a && each P as_rest
 
-both : (a b : Bool) → (a && b) ≡ true → (a ≡ true) × (b ≡ true)
-both true b h = (refl, h)
-both false b h = absurd (clash h)
-  where
-    clash : ◌≡◌ {A = Bool} false true → ⊥
-    clash h = cc
-
 of_each : {A : Type 0} (P : A → Bool) (bs : List A) (a : A) → each P bs ≡ true → IsIn a bs → P a ≡ true
 of_each P [] a h i = absurd i
-of_each P (b ∷ bs) a h (inl e) = ap P e ∙ (both (P b) (each P bs) h).0
-of_each P (b ∷ bs) a h (inr i) = of_each P bs a (both (P b) (each P bs) h).1 i
+of_each P (b ∷ bs) a h (inl e) = ap P e ∙ (and_parts (P b) (each P bs) h).0
+of_each P (b ∷ bs) a h (inr i) = of_each P bs a (and_parts (P b) (each P bs) h).1 i
 
 abbrev pub implies : Bool → Bool → Bool
 implies true b = b
@@ -106,17 +101,7 @@ implies false b = true
 
 implied : (a b : Bool) → implies a b ≡ true → a ≡ true → b ≡ true
 implied true b h e = h
-implied false b h e = absurd (clash e)
-  where
-    clash : ◌≡◌ {A = Bool} false true → ⊥
-    clash h = cc
-
-negated : (b : Bool) → not b ≡ true → b ≡ false
-negated true h = absurd (clash h)
-  where
-    clash : ◌≡◌ {A = Bool} false true → ⊥
-    clash h = cc
-negated false h = refl
+implied false b h e = false_true e
 
 pub every_kind : (P : Kind → Bool) → ((n : Name) → P (kind.Name n) ≡ true) → ((n : ℕ) → P (kind.Number n) ≡ true)
     → each (λ v. P (kind.Word v)) all_words ≡ true → each (λ v. P (kind.Mark v)) all_marks ≡ true → P kind.Bad ≡ true → P kind.End ≡ true
@@ -139,4 +124,4 @@ pub apart : (F G : Kind → Bool) → ((n : Name) → implies (F (kind.Name n)) 
     → implies (F kind.Bad) (not (G kind.Bad)) ≡ true → implies (F kind.End) (not (G kind.End)) ≡ true
     → (k : Kind) → F k ≡ true → G k ≡ false
 apart F G names numbers words marks bad end k h =
-    negated (G k) (implied (F k) (not (G k)) (every_kind (λ k. implies (F k) (not (G k))) names numbers words marks bad end k) h)
+    not-true (G k) (implied (F k) (not (G k)) (every_kind (λ k. implies (F k) (not (G k))) names numbers words marks bad end k) h)

@@ -1,6 +1,7 @@
 -- Where reading stops, nothing that follows the next token counts.
 use Rattle.std.proofs.Common.{◌≡◌, ◌∙◌, sym, ap, refl, subst, ℕ, zero, suc, ◌≤◌, Bool, true, false, if◌then◌else◌, ◌&&◌, List, [], ◌∷◌, ◌++◌, length, Ok, Err, Option, Some, None, drop, append_assoc, arith}
 use Rattle.std.proofs.lemmas.List.{length-append}
+use Rattle.ft_common.proofs.Booleans.{false_true}
 use Rattle.ft_grammar.specs.declared.token.Mark.{Mark}
 use Rattle.ft_grammar.specs.declared.token.Kind.{Kind}
 use Rattle.ft_grammar.specs.declared.token.Kind.TheVariants as kind
@@ -202,9 +203,6 @@ more_local test one end less each (suc n) found (t ∷ ts) few =
 abbrev pub Beyond : {A : Type 0} → (Kind → Bool) → Parser A → Type 0
 Beyond test p = (t : Token) (us : List Token) → test t.kind ≡ true → suc (length (left_of (p (t ∷ us)))) ≤ length (t ∷ us)
 
-not_true : ◌≡◌ {A = Bool} false true → ⊥
-not_true h = cc
-
 same_two : (one two : Kind → Bool) (ts xs left rest : List Token) → ts ≡ xs ++ left → (one (kind_of ts) ≡ true → xs ≡ [] → ⊥) → SameNext left rest
     → (one (kind_of (xs ++ rest)) && two (kind_of (drop 1 (xs ++ rest)))) ≡ (one (kind_of ts) && two (kind_of (drop 1 ts)))
 same_two one two ts (x ∷ xs) left rest e some same =
@@ -222,7 +220,7 @@ same_two one two ts [] left rest e some same = by_test (one (kind_of ts)) refl
 
 taken_some : (test : Kind → Bool) → test kind.End ≡ false → (ts xs left : List Token) → ts ≡ xs ++ left
     → ((t : Token) (us : List Token) → ts ≡ t ∷ us → test t.kind ≡ true → suc (length left) ≤ length (t ∷ us)) → test (kind_of ts) ≡ true → xs ≡ [] → ⊥
-taken_some test end [] xs left e less is none = not_true (sym end ∙ is)
+taken_some test end [] xs left e less is none = false_true (sym end ∙ is)
 taken_some test end (t ∷ us) xs left e less is none =
     let l = less t us refl is in
     let same : length (t ∷ us) ≡ length left = ap length (e ∙ ap (λ ys. ys ++ left) none) in

@@ -1,6 +1,6 @@
 -- The rules of the grammar look no further than the next token.
-use Rattle.std.proofs.Common.{◌≡◌, sym, refl, subst, ℕ, zero, suc, ◌≤◌, Bool, true, false, IsTrue, List, [], ◌∷◌, ◌++◌, length, arith}
-use Rattle.std.proofs.lemmas.List.{length-append}
+use Rattle.std.proofs.Common.{◌≡◌, sym, refl, subst, ℕ, zero, suc, ◌≤◌, true, IsTrue, [], ◌∷◌, length}
+use Rattle.ft_common.proofs.Booleans.{false_true}
 use Rattle.ft_grammar.specs.declared.token.Mark.TheVariants as m
 use Rattle.ft_grammar.specs.declared.token.Kind.{Kind}
 use Rattle.ft_grammar.specs.declared.token.Kind.TheVariants as kind
@@ -11,17 +11,12 @@ use Rattle.ft_grammar.specs.Rules.{Rule, Part, expression, pattern, type, type_a
 use Rattle.ft_grammar.specs.Forms.{begins_atom, begins_pattern_atom, is_no_end}
 use Rattle.ft_grammar.specs.Grammar.{rule_of, IsPart, list_type, option_type, parenthesized_type, atomic_type, any_type, parenthesized_pattern, atomic_pattern, some_pattern, symbol_pattern, list_pattern, any_pattern, parenthesized, none_of, nil_of, base, brace, braces, atom, call, one_part, two_parts, argument, congruence, perform, application, list_expression, let_in, if_then_else, case, match_with, operation_body, operation_case, value_body, handle_cases, handle_with, abstraction, any_expression, binder, type_body, term_body, equation_type, equation_body, any_body, premise, type_conclusion, term_conclusion, any_conclusion, rule_command, let_command, operation_command, computation_command, extensionality_command, show_command, any_command, commands}
 use Rattle.ft_grammar.specs.Reading.{level, read, read_name, read_word, read_mark}
+use Rattle.ft_parser.proofs.Cases.{some_first}
 use Rattle.ft_parser.proofs.Sound.{Proper, eats, eaten, sound}
 use Rattle.ft_parser.proofs.ProperRules.{proper_atomic_pattern, proper_brace, proper_atom, proper_case, proper_operation_case, proper_binder, proper_premise, proper_any_command}
 use Rattle.ft_parser.proofs.Levels.{parts_eat, parts_sound}
 use Rattle.ft_parser.proofs.BodyRules.{a_name}
 use Rattle.ft_parser.proofs.Local.{Looks, Takes, IsLocal, local, nested_local, beyond, left_of}
-
-some_first : (xs : List Token) → (xs ≡ [] → ⊥) → (rest : List Token) → suc (length rest) ≤ length (xs ++ rest)
-some_first [] some rest = absurd (some refl)
-some_first (x ∷ xs) some rest =
-    let l : length (x ∷ (xs ++ rest)) ≡ suc (length (xs ++ rest)) = refl in
-    omega (arith, l, length-append xs rest)
 
 pub rule_takes : (d : ℕ) {A : Type 0} (r : Rule A) → Proper r → IsTrue (eats r) → Takes (read (level d) r)
 rule_takes d r proper eat ts a rest h =
@@ -188,9 +183,6 @@ unfolding level
 parts_local zero p ts = nested_local ts
 parts_local (suc d) p ts = local (level d) (parts_local d) (rule_of p) (looks_part d p) ts
 
-not_true : ◌≡◌ {A = Bool} false true → ⊥
-not_true h = cc
-
 -- a name alone
 for_name : (P : Token → Type 0) → ((n : _) (s e : ℕ) → P (record { kind = kind.Name n; start = s; end = e })) → (t : Token) → is_name t.kind ≡ true → P t
 unfolding is_name
@@ -198,11 +190,11 @@ for_name P named t is = by_kind t.kind is
   where
     by_kind : (k : Kind) → is_name k ≡ true → P (record { kind = k; start = t.start; end = t.end })
     by_kind (kind.Name n) is = named n t.start t.end
-    by_kind (kind.Number n) is = absurd (not_true is)
-    by_kind (kind.Word v) is = absurd (not_true is)
-    by_kind (kind.Mark v) is = absurd (not_true is)
-    by_kind kind.Bad is = absurd (not_true is)
-    by_kind kind.End is = absurd (not_true is)
+    by_kind (kind.Number n) is = absurd (false_true is)
+    by_kind (kind.Word v) is = absurd (false_true is)
+    by_kind (kind.Mark v) is = absurd (false_true is)
+    by_kind kind.Bad is = absurd (false_true is)
+    by_kind kind.End is = absurd (false_true is)
 
 type_alone : (d : ℕ) (t : Token) → is_name t.kind ≡ true → left_of (read (level (suc d)) type_body (t ∷ [])) ≡ []
 unfolding type_body read_name read_word exactly

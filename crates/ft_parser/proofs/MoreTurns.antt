@@ -4,7 +4,7 @@ use Rattle.ft_grammar.specs.declared.token.Kind.{Kind}
 use Rattle.ft_grammar.specs.declared.token.Token.{Token}
 use Rattle.ft_grammar.specs.declared.fault.SyntaxFault.{SyntaxFault}
 use Rattle.ft_grammar.specs.Reading.{Outcome, Parser, and_then, kind_of, more_from}
-use Rattle.ft_parser.proofs.Turns.{one_more, no_more}
+use Rattle.ft_common.proofs.Turns.{one_more, no_more}
 
 one_turn : {A : Type 0} (test : Kind → Bool) (one : Parser A) (n : ℕ) (found : List A) (ts : List Token) → test (kind_of ts) ≡ true
     → more_from test one (suc n) found ts ≡ and_then (one ts) (λ a. more_from test one n (found ++ a ∷ []))

@@ -1,11 +1,12 @@
 -- What is refused, and what may follow it.
-use Rattle.std.proofs.Common.{◌≡◌, ◌∙◌, sym, ap, refl, subst, ℕ, zero, suc, ◌≤◌, ◌⊎◌, inl, inr, arith, append_assoc, append-nil, length, Bool, true, false, List, [], ◌∷◌, ◌++◌, Ok, Err, Result}
+use Rattle.std.proofs.Common.{◌≡◌, ◌∙◌, sym, ap, refl, subst, ℕ, zero, suc, ◌≤◌, ◌⊎◌, inl, inr, arith, append_assoc, append-nil, length, List, [], ◌∷◌, ◌++◌, Ok, Err, Result}
+use Rattle.ft_common.proofs.Booleans.{false_true}
 use Rattle.ft_grammar.specs.declared.token.Token.{Token}
 use Rattle.ft_grammar.specs.declared.fault.SyntaxFault.{SyntaxFault}
 use Rattle.ft_grammar.specs.declared.syntax.Command.{Command}
 use Rattle.ft_grammar.specs.Grammar.{IsSource, commands, nesting}
 use Rattle.ft_grammar.specs.Reading.{Outcome, read, level, start_of, answer, parse}
-use Rattle.ft_grammar.specs.Sources.{IsClosed, HasNoSource, IsFirstUnexpected, IsFirstTooNested}
+use Rattle.ft_grammar.specs.Sources.{IsClosed, HasNoSource, IsFirstUnexpected, IsTooNested}
 use Rattle.ft_grammar.specs.Forms.{is_no_end}
 use Rattle.ft_grammar.specs.declared.fault.SyntaxFault.TheVariants.{Unexpected, TooNested, Memory}
 use Rattle.ft_parser.proofs.FaultNames.{Names, NamesNext, names_next, level_names}
@@ -63,13 +64,10 @@ cancel (x ∷ xs) (y ∷ ys) left e = cons (head e) (cancel xs ys left (tail e))
 regroup : (xs : List Token) (t : Token) (rest : List Token) → (xs ++ t ∷ []) ++ rest ≡ xs ++ t ∷ rest
 regroup xs t rest = append_assoc xs (t ∷ []) rest
 
-not_true : ◌≡◌ {A = Bool} false true → ⊥
-not_true h = cc
-
 closed_has_end : (ts ys : List Token) → IsClosed ts → NoEnd (ts ++ ys) → ⊥
 unfolding is_no_end
 closed_has_end [] ys closed none = closed
-closed_has_end (t ∷ []) ys closed none = not_true (sym (ap is_no_end closed) ∙ none.0)
+closed_has_end (t ∷ []) ys closed none = false_true (sym (ap is_no_end closed) ∙ none.0)
 closed_has_end (t ∷ u ∷ ts) ys closed none = closed_has_end (u ∷ ts) ys closed.1 none.1
 
 no_source_after : (d : ℕ) (fault : SyntaxFault) (ts left : List Token) (t : Token) (h : read (level (suc d)) commands ts ≡ Err (fault, t ∷ left)) (xs : List Token) → ts ≡ xs ++ t ∷ left
@@ -100,7 +98,7 @@ no_source_at_all d n ts left t h xs is e cs rest g =
 -- what is told of each fault
 abbrev Told : ℕ → SyntaxFault → List Token → Type 0
 Told d (Unexpected n) ts = IsFirstUnexpected n ts
-Told d (TooNested n) ts = IsFirstTooNested d n ts
+Told d (TooNested n) ts = IsTooNested d n ts
 Told d Memory ts = Unit {0}
 
 place_of : SyntaxFault → ℕ
@@ -146,8 +144,8 @@ unexpected_is_first n ts closed h =
     let o = refused (read (level nesting) commands ts) (Unexpected n) h in
     told 199 (Unexpected n) ts o.0 closed o.1
 
-pub too_nested_is_first : (n : ℕ) (ts : List Token) → IsClosed ts → parse ts ≡ Err (TooNested n) → IsFirstTooNested nesting n ts
+pub too_nested_cannot_go_on : (n : ℕ) (ts : List Token) → IsClosed ts → parse ts ≡ Err (TooNested n) → IsTooNested nesting n ts
 unfolding parse
-too_nested_is_first n ts closed h =
+too_nested_cannot_go_on n ts closed h =
     let o = refused (read (level nesting) commands ts) (TooNested n) h in
     told 199 (TooNested n) ts o.0 closed o.1

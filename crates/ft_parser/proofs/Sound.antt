@@ -1,5 +1,6 @@
 -- What is read by a rule has its value by the rule.
 use Rattle.std.proofs.Common.{◌≡◌, ◌∙◌, sym, ap, refl, subst, ℕ, zero, suc, Bool, true, false, if◌then◌else◌, ◌&&◌, IsTrue, List, [], ◌∷◌, ◌++◌, length, Ok, Err, Option, Some, None, drop, append_assoc, append-nil, ◌⊎◌, inl, inr}
+use Rattle.std.proofs.lemmas.Bool.{and_parts}
 use Rattle.ft_grammar.specs.declared.token.Kind.{Kind}
 use Rattle.ft_grammar.specs.declared.token.Token.{Token}
 use Rattle.ft_grammar.specs.declared.token.Mark.{Mark}
@@ -37,11 +38,6 @@ Proper (either test r s) = Proper r × Proper s
 Proper (either_by_two first second r s) = Proper r × Proper s
 Proper (unless test r) = IsTrue (eats r) × Proper r
 Proper (more found test r) = IsTrue (eats r) × Proper r
-
-both_true : (a b : Bool) → IsTrue (a && b) → IsTrue a × IsTrue b
-both_true true true h = (refl, refl)
-both_true true false h = absurd cc
-both_true false b h = absurd cc
 
 no_front : (ys zs : List Token) → ◌≡◌ {A = List Token} [] (ys ++ zs) → ys ≡ []
 no_front [] zs h = refl
@@ -83,10 +79,10 @@ module _ (R : (p : Part) → Tree p → List Token → Type 0) where
       clash : {t : Token} {ys : List Token} → ◌≡◌ {A = List Token} (t ∷ ys) [] → ⊥
       clash h = cc
   eaten parts (sequence r f) a xs e h none = eaten parts r h.0 h.1 e h.4 (no_front h.1 h.2 (sym none ∙ h.3))
-  eaten parts (either test r s) a xs e (inl h) none = eaten parts r a xs (both_true (eats r) (eats s) e).0 h none
-  eaten parts (either test r s) a xs e (inr h) none = eaten parts s a xs (both_true (eats r) (eats s) e).1 h none
-  eaten parts (either_by_two first second r s) a xs e (inl h) none = eaten parts r a xs (both_true (eats r) (eats s) e).0 h none
-  eaten parts (either_by_two first second r s) a xs e (inr h) none = eaten parts s a xs (both_true (eats r) (eats s) e).1 h none
+  eaten parts (either test r s) a xs e (inl h) none = eaten parts r a xs (and_parts (eats r) (eats s) e).0 h none
+  eaten parts (either test r s) a xs e (inr h) none = eaten parts s a xs (and_parts (eats r) (eats s) e).1 h none
+  eaten parts (either_by_two first second r s) a xs e (inl h) none = eaten parts r a xs (and_parts (eats r) (eats s) e).0 h none
+  eaten parts (either_by_two first second r s) a xs e (inr h) none = eaten parts s a xs (and_parts (eats r) (eats s) e).1 h none
   eaten parts (unless test r) a xs e h none = clash (sym h.2 ∙ none)
     where
       clash : {t : Token} {ys : List Token} → ◌≡◌ {A = List Token} (t ∷ ys) [] → ⊥

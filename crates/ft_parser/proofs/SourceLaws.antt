@@ -1,6 +1,7 @@
 -- The laws of sources.
-use Rattle.std.proofs.Common.{◌≡◌, ◌∙◌, sym, ap, refl, subst, ℕ, zero, suc, ◌≤◌, Bool, true, false, if◌then◌else◌, IsTrue, List, [], ◌∷◌, ◌++◌, length, Ok, Err, Result, Option, Some, None, ◌⊎◌, inl, inr, arith}
-use Rattle.std.proofs.lemmas.List.{length-append}
+use Rattle.std.proofs.Common.{◌≡◌, ◌∙◌, sym, ap, refl, subst, ℕ, zero, suc, ◌≤◌, Bool, true, false, if◌then◌else◌, IsTrue, List, [], ◌∷◌, ◌++◌, length, Ok, Err, Result, Option, Some, ◌⊎◌, inl, inr, arith}
+use Rattle.ft_common.proofs.Booleans.{false_true}
+use Rattle.ft_common.proofs.Options.{none_some}
 use Rattle.ft_base.specs.declared.word.Word.{Word}
 use Rattle.ft_grammar.specs.declared.token.Kind.{Kind}
 use Rattle.ft_grammar.specs.declared.token.Kind.TheVariants as kind
@@ -14,7 +15,7 @@ use Rattle.ft_grammar.specs.Forms.{is_no_end}
 use Rattle.ft_grammar.specs.Grammar.{IsPart, IsSource, commands, any_command, rule_command, let_command, operation_command, computation_command, extensionality_command, show_command, rule_of, nesting}
 use Rattle.ft_grammar.specs.Sources.{IsClosed}
 use Rattle.ft_grammar.specs.Reading.{Outcome, Parser, read, level, and_then, more_from, kind_of, answer, parse}
-use Rattle.ft_parser.proofs.Cases.{bind_ok, ok_value, ok_rest}
+use Rattle.ft_parser.proofs.Cases.{bind_ok, ok_value, ok_rest, some_first}
 use Rattle.ft_parser.proofs.Follow.{begins, follows, is_end}
 use Rattle.ft_parser.proofs.Sound.{sound, eaten, eats}
 use Rattle.ft_parser.proofs.Complete.{back}
@@ -46,12 +47,6 @@ pub one_tree : (d : ℕ) (cs ds : List Command) (ts : List Token) → IsSource d
 one_tree d cs ds ts h g = ok_value (sym (source_is_read d cs ts h).1 ∙ (source_is_read d ds ts g).1)
 
 -- ---- what is read is in the grammar
-no_value : {A : Type 0} {a : A} → ◌≡◌ {A = Option A} None (Some a) → ⊥
-no_value h = cc
-
-not_true : ◌≡◌ {A = Bool} false true → ⊥
-not_true h = cc
-
 -- no token of the list is the end
 abbrev pub NoEnd : List Token → Type 0
 NoEnd [] = Unit {0}
@@ -68,7 +63,7 @@ named_no_end at (kind.Number n) a h = refl
 named_no_end at (kind.Word v) a h = refl
 named_no_end at (kind.Mark m) a h = refl
 named_no_end at kind.Bad a h = refl
-named_no_end at kind.End a h = absurd (no_value h)
+named_no_end at kind.End a h = absurd (none_some h)
 
 numbered_no_end : (k : Kind) (a : ℕ) → numbered k ≡ Some a → is_no_end k ≡ true
 unfolding is_no_end
@@ -77,7 +72,7 @@ numbered_no_end (kind.Number n) a h = refl
 numbered_no_end (kind.Word v) a h = refl
 numbered_no_end (kind.Mark m) a h = refl
 numbered_no_end kind.Bad a h = refl
-numbered_no_end kind.End a h = absurd (no_value h)
+numbered_no_end kind.End a h = absurd (none_some h)
 
 worded_no_end : {A : Type 0} (value : Word → Option A) (k : Kind) (a : A) → worded value k ≡ Some a → is_no_end k ≡ true
 unfolding is_no_end
@@ -86,7 +81,7 @@ worded_no_end value (kind.Number n) a h = refl
 worded_no_end value (kind.Word v) a h = refl
 worded_no_end value (kind.Mark m) a h = refl
 worded_no_end value kind.Bad a h = refl
-worded_no_end value kind.End a h = absurd (no_value h)
+worded_no_end value kind.End a h = absurd (none_some h)
 
 mark_no_end : (m : Mark) (k : Kind) → is_mark m k ≡ true → is_no_end k ≡ true
 unfolding is_no_end is_mark
@@ -95,7 +90,7 @@ mark_no_end m (kind.Number n) h = refl
 mark_no_end m (kind.Word v) h = refl
 mark_no_end m (kind.Mark v) h = refl
 mark_no_end m kind.Bad h = refl
-mark_no_end m kind.End h = absurd (not_true h)
+mark_no_end m kind.End h = absurd (false_true h)
 
 module _ (R : (p : Part) → Tree p → List Token → Type 0) where
   one_no_end : (xs : List Token) (t : Token) → xs ≡ t ∷ [] → is_no_end t.kind ≡ true → NoEnd xs
@@ -154,12 +149,6 @@ stops {A = A} one less (suc n) found ts given rest few h = by_test (is_or_not (i
         let fewer : length o.1 ≤ n = omega (arith, less ts o.0 o.1 o.2, few) in
         others (found ++ o.0 ∷ []) o.1 given rest fewer o.3
 
-some_first : (xs : List Token) → (xs ≡ [] → ⊥) → (rest : List Token) → suc (length rest) ≤ length (xs ++ rest)
-some_first [] some rest = absurd (some refl)
-some_first (x ∷ xs) some rest =
-    let l : length (x ∷ (xs ++ rest)) ≡ suc (length (xs ++ rest)) = refl in
-    omega (arith, l, length-append xs rest)
-
 eats_command : IsTrue (eats any_command)
 unfolding any_command rule_command let_command operation_command computation_command extensionality_command show_command
 eats_command = refl
@@ -174,8 +163,8 @@ closed_rest : (xs rest : List Token) → NoEnd xs → is_no_end (kind_of rest) �
 unfolding is_no_end
 closed_rest [] [] none stop closed = absurd closed
 closed_rest [] (t ∷ []) none stop closed = (t, refl, closed)
-closed_rest [] (t ∷ u ∷ us) none stop closed = absurd (not_true (sym stop ∙ closed.0))
-closed_rest (x ∷ []) [] none stop closed = absurd (not_true (sym (ap is_no_end closed) ∙ none.0))
+closed_rest [] (t ∷ u ∷ us) none stop closed = absurd (false_true (sym stop ∙ closed.0))
+closed_rest (x ∷ []) [] none stop closed = absurd (false_true (sym (ap is_no_end closed) ∙ none.0))
 closed_rest (x ∷ []) (t ∷ us) none stop closed = closed_rest [] (t ∷ us) none.1 stop closed.1
 closed_rest (x ∷ y ∷ xs) rest none stop closed = closed_rest (y ∷ xs) rest none.1 stop closed.1
 

@@ -1,16 +1,14 @@
 -- The value of a word, beside the word.
 use Rattle.std.proofs.Common.{◌≡◌, sym, ap, refl, Option, Some, None}
+use Rattle.std.proofs.lemmas.Option.{same_Some}
 use Rattle.ft_base.specs.declared.word.Word.{Word}
 use Rattle.ft_grammar.specs.declared.token.Kind.{Kind}
 use Rattle.ft_grammar.specs.declared.token.Kind.TheVariants as kind
 use Rattle.ft_grammar.specs.Rules.{worded}
 
-some_is : {A : Type 0} (a b : A) → Some a ≡ Some b → a ≡ b
-some_is a b h = cc
-
 -- the value of the word that is there
 pub word_there : {A : Type 0} (value : Word → Option A) (k : Kind) (w : Word) → Some w ≡ worded (λ v. Some v) k → worded value k ≡ value w
-word_there value (kind.Word v) w h = ap value (sym (some_is w v h))
+word_there value (kind.Word v) w h = ap value (sym (same_Some w v h))
 word_there value (kind.Name n) w h = cc
 word_there value (kind.Number n) w h = cc
 word_there value (kind.Mark m) w h = cc

@@ -136,14 +136,8 @@ fn one_form(tokens: &mut Cursor<'_>) -> Result<OneForm, SyntaxFault>
     ensures { Reads (read_word form.one_form tokens.old) result tokens.new }
 {
     match tokens.word() {
+        Some(word) => tokens.past(form::one_form(word)),
         None => Err(tokens.unexpected()),
-        Some(word) => match form::one_form(word) {
-            None => Err(tokens.unexpected()),
-            Some(found) => {
-                tokens.take();
-                Ok(found)
-            }
-        },
     }
 }
 
@@ -152,13 +146,7 @@ fn two_form(tokens: &mut Cursor<'_>) -> Result<TwoForm, SyntaxFault>
     ensures { Reads (read_word form.two_form tokens.old) result tokens.new }
 {
     match tokens.word() {
+        Some(word) => tokens.past(form::two_form(word)),
         None => Err(tokens.unexpected()),
-        Some(word) => match form::two_form(word) {
-            None => Err(tokens.unexpected()),
-            Some(found) => {
-                tokens.take();
-                Ok(found)
-            }
-        },
     }
 }

@@ -77,7 +77,8 @@ impl<F: Fn(Global, &mut Cursor<'_>, usize) -> Result<Boxed<Ast>, SyntaxFault>> E
         } else if tokens.sees_word(Word::Nil) {
             self.nil_of(tokens)
         } else {
-            word_expression(self.alloc, tokens, at)
+            let found = word_expression(tokens, at)?;
+            Ok(Boxed::new(self.alloc, found)?)
         }
     }
 
@@ -156,22 +157,11 @@ fn word_expression_of(at: u64, word: Word) -> Option<Ast>
 }
 
 #[tactic(auto, using(crate::proofs::WordValues::word_there, crate::proofs::WordValues::no_word), unfolding(ft_grammar::specs::Reading::read_word))]
-fn word_expression(
-    alloc: Global,
-    tokens: &mut Cursor<'_>,
-    at: u64,
-) -> Result<Boxed<Ast>, SyntaxFault>
+fn word_expression(tokens: &mut Cursor<'_>, at: u64) -> Result<Ast, SyntaxFault>
     ensures { Reads (read_word (form.word_expression at) tokens.old) result tokens.new }
 {
     match tokens.word() {
+        Some(word) => tokens.past(word_expression_of(at, word)),
         None => Err(tokens.unexpected()),
-        Some(word) => match word_expression_of(at, word) {
-            None => Err(tokens.unexpected()),
-            Some(found) => {
-                let found = Boxed::new(alloc, found)?;
-                tokens.take();
-                Ok(found)
-            }
-        },
     }
 }

@@ -224,6 +224,19 @@ impl<'a> Cursor<'a> {
         }
     }
 
+    /// Goes past the next token, where it has a value.
+    pub fn past<T: Drop>(&mut self, value: Option<T>) -> Result<T, SyntaxFault>
+        ensures { Reads (spec.value_or_refuse value self.old) result self.new }
+    {
+        match value {
+            Some(value) => {
+                self.take();
+                Ok(value)
+            }
+            None => Err(self.unexpected()),
+        }
+    }
+
     /// Goes past that word.
     #[tactic(auto, unfolding(ft_grammar::specs::Reading::read_word, ft_grammar::specs::Rules::exactly))]
     pub fn expect_word(&mut self, word: Word) -> Result<(), SyntaxFault>

@@ -4,7 +4,7 @@ ghost use Rattle.std.specs.Prelude.{◌≡◌, ℕ, List, Ok, Err};
 ghost use Rattle.ft_grammar.specs.declared.token.Token.{Token as AnyToken};
 ghost use Rattle.ft_grammar.specs.declared.syntax.Command.{Command as AnyCommand};
 ghost use Rattle.ft_grammar.specs.Grammar.{IsSource, nesting};
-ghost use Rattle.ft_grammar.specs.Sources.{IsClosed, IsFirstTooNested, IsFirstUnexpected};
+ghost use Rattle.ft_grammar.specs.Sources.{IsClosed, IsTooNested, IsFirstUnexpected};
 ghost use Rattle.ft_grammar.specs.Reading.{parse};
 ghost use Rattle.ft_grammar.specs.declared.fault.SyntaxFault.TheVariants.{TooNested, Unexpected};
 
@@ -28,8 +28,8 @@ pub fn unexpected_is_first()
     ensures { (at : ℕ) (ts : List AnyToken) → IsClosed ts → parse ts ≡ Err (Unexpected at) → IsFirstUnexpected at ts }
 {}
 
-/// `TooNested` names the first token that no continuation of the tokens before it allows at the nesting of sources, where some
-/// continuation goes deeper.
-pub fn too_nested_is_first()
-    ensures { (at : ℕ) (ts : List AnyToken) → IsClosed ts → parse ts ≡ Err (TooNested at) → IsFirstTooNested nesting at ts }
+/// `TooNested` names a token with which no source goes on at the nesting of sources, where one goes on with the tokens before it at
+/// some nesting.
+pub fn too_nested_cannot_go_on()
+    ensures { (at : ℕ) (ts : List AnyToken) → IsClosed ts → parse ts ≡ Err (TooNested at) → IsTooNested nesting at ts }
 {}

@@ -20,7 +20,7 @@ pub use ft_grammar::{
     SyntaxFault, ValCase,
 };
 pub use laws::{
-    accepted_is_in_grammar, in_grammar_is_accepted, one_tree, too_nested_is_first,
+    accepted_is_in_grammar, in_grammar_is_accepted, one_tree, too_nested_cannot_go_on,
     unexpected_is_first,
 };
 pub use source::parse;

@@ -167,14 +167,8 @@ fn word_pattern(tokens: &mut Cursor<'_>, at: u64) -> Result<Pattern, SyntaxFault
     ensures { Reads (read_word (form.word_pattern at) tokens.old) result tokens.new }
 {
     match tokens.word() {
+        Some(word) => tokens.past(word_pattern_of(at, word)),
         None => Err(tokens.unexpected()),
-        Some(word) => match word_pattern_of(at, word) {
-            None => Err(tokens.unexpected()),
-            Some(found) => {
-                tokens.take();
-                Ok(found)
-            }
-        },
     }
 }
 

@@ -5,7 +5,7 @@ ghost use Rattle.ft_grammar.specs.Made.{is_ended};
 ghost use Rattle.ft_grammar.specs.Grammar.{IsSource, nesting};
 ghost use Rattle.ft_grammar.specs.Reading as spec;
 ghost use Rattle.ft_grammar.specs.Reading.{ReadsAll};
-ghost use Rattle.ft_grammar.specs.Sources.{IsFirstTooNested, IsFirstUnexpected};
+ghost use Rattle.ft_grammar.specs.Sources.{IsTooNested, IsFirstUnexpected};
 ghost use Rattle.ft_grammar.specs.declared.fault.SyntaxFault.TheVariants.{Memory, TooNested, Unexpected};
 ghost use Rattle.ft_grammar.specs.declared.syntax.Command.{Command as AnyCommand};
 
@@ -14,15 +14,16 @@ use crate::cursor::Cursor;
 use ft_grammar::{Command, SyntaxFault, Token};
 use std::alloc::Global;
 
-/// The commands of a source, by its tokens. `Unexpected` names the first token with which no source goes on at any nesting, and
-/// `TooNested` the first with which none goes on at the nesting of sources.
+/// The commands of a source, by its tokens. `Unexpected` names the first token with which no source goes on at any nesting.
+/// `TooNested` names a token with which none goes on at the nesting of sources, where one goes on with the tokens before it at some
+/// nesting.
 pub fn parse(alloc: Global, tokens: &[Token]) -> Result<Vec<Command>, SyntaxFault>
     requires { IsTrue (is_ended tokens.now) }
     ensures reads { ReadsAll (spec.parse tokens.now) result (λ found. found.items) }
     ensures accepted { IfOk result (λ found. IsSource nesting found.items tokens.now) }
     ensures refused { IfErr result (λ e. e ≢ Memory → (c : List AnyCommand) → IsSource nesting c tokens.now → ⊥) }
     ensures unexpected { (at : ℕ) → IsErrOf result (Unexpected at) → IsFirstUnexpected at tokens.now }
-    ensures too_nested { (at : ℕ) → IsErrOf result (TooNested at) → IsFirstTooNested nesting at tokens.now }
+    ensures too_nested { (at : ℕ) → IsErrOf result (TooNested at) → IsTooNested nesting at tokens.now }
 {
     read_source(alloc, tokens)
 }

@@ -126,14 +126,8 @@ fn plain_type(tokens: &mut Cursor<'_>) -> Result<AmlType, SyntaxFault>
     ensures { Reads (read_word form.plain_type tokens.old) result tokens.new }
 {
     match tokens.word() {
+        Some(word) => tokens.past(plain_type_of(word)),
         None => Err(tokens.unexpected()),
-        Some(word) => match plain_type_of(word) {
-            None => Err(tokens.unexpected()),
-            Some(found) => {
-                tokens.take();
-                Ok(found)
-            }
-        },
     }
 }
 

@@ -1,7 +1,8 @@
 use Rattle.std.proofs.Common.{◌≡◌, ◌∙◌, sym, ap, Err, arith}
 use Rattle.ft_grammar.specs.Rules.{pattern}
 use Rattle.ft_grammar.specs.Reading.{level}
-use Rattle.ft_parser.proofs.Turns.{deeper, none_left}
+use Rattle.ft_common.proofs.Turns.{deeper}
+use Rattle.ft_parser.proofs.Turns.{none_left}
 use Rattle.ft_parser.proofs.patterns.+nested_pattern.Goals as goal
 
 pub returns-then-depth-eq0 : goal.returns-then-depth-eq0

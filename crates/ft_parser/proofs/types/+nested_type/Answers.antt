@@ -2,7 +2,7 @@ use Rattle.std.proofs.Common.{◌≡◌, ◌∙◌, sym, ap, refl, Bool, true, f
 use Rattle.ft_grammar.specs.declared.token.Token.{Token}
 use Rattle.ft_grammar.specs.declared.fault.SyntaxFault.TheVariants.{TooNested}
 use Rattle.ft_grammar.specs.Reading.{type_level, level, start_of}
-use Rattle.ft_parser.proofs.Turns.{deeper}
+use Rattle.ft_common.proofs.Turns.{deeper}
 use Rattle.ft_parser.proofs.types.+nested_type.Goals as goal
 
 none_left : (product : Bool) (ts : List Token) → type_level 0 product ts ≡ Err (TooNested (start_of ts), ts)

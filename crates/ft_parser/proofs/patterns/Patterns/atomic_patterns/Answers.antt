@@ -3,7 +3,7 @@ use Rattle.std.proofs.lemmas.Grind.{common_steps}
 use Rattle.ft_grammar.specs.Forms.{begins_pattern_atom}
 use Rattle.ft_grammar.specs.Grammar.{atomic_pattern}
 use Rattle.ft_grammar.specs.Reading.{level, read, more_from}
-use Rattle.ft_parser.proofs.Turns.{one_more}
+use Rattle.ft_common.proofs.Turns.{one_more}
 use Rattle.ft_parser.proofs.patterns.Patterns.atomic_patterns.Goals as goal
 
 pub loop-turn-preserved : goal.loop-turn-preserved

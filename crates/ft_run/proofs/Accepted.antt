@@ -20,7 +20,8 @@ use Rattle.ft_run.specs.Session.{Progress, numbered, boundaries_in, declaration,
 use Rattle.ft_run.specs.Claiming.{rule_in}
 use Rattle.ft_applications.specs.Histories.{declares, told_rule, told}
 use Rattle.ft_run.proofs.Telling.{told_last, steps_last}
-use Rattle.ft_run.proofs.Keeping.{declarations_length}
+use Rattle.std.proofs.lemmas.Option.{none-some}
+use Rattle.ft_run.proofs.Keeping.{declarations_length, theory_length}
 
 -- Metavariables that are made: what they declare, and why a rule may have them.
 record Made (W : Store) (m : ℕ) (gs : List Claim) (ms : List ℕ) : Type 0 where
@@ -61,10 +62,6 @@ goal_no_thesis type_goal h = refl
 goal_no_thesis (term_goal A) h = refl
 goal_no_thesis (type_equation_goal A B) h = absurd h
 goal_no_thesis (term_equation_goal s t A) h = absurd h
-
-theory_length : (ds : List Declaration) → length (theory ds) ≡ length ds
-theory_length [] = refl
-theory_length (d ∷ ds) = ap suc (theory_length ds)
 
 pub entry_there : (s : State) (b : ℕ) (c : Claim) → HasEntry s b c → entry_named (store_of s.items) b ≡ Some (record { statement = plain c; set = [] })
 entry_there s b c h = ap (λ es. nth es b) (entries_all empty_store s.items) ∙ h
@@ -162,19 +159,16 @@ told_rule_in s k ms b m e =
 
 -- Names that are new, and room.
 
-some_none : {A : Type 0} (a : A) → ◌≡◌ {A = Option A} (Some a) None → ⊥
-some_none a e = cc
-
 new_in : (ds : List Declaration) (n : List ℕ) (j : ℕ) → first_named j ds n ≡ None → is_new (names ds) n ≡ true
 new_in [] n j e = refl
 new_in (d ∷ ds) n j e = go (equal_names d.name n) (new_in ds n (suc j)) e
   where
     go : (b : Bool) → (first_named (suc j) ds n ≡ None → is_new (names ds) n ≡ true) → cond b (Some (j, d.rule)) (first_named (suc j) ds n) ≡ None → (not b && is_new (names ds) n) ≡ true
-    go true more e = absurd (some_none (j, d.rule) e)
+    go true more e = absurd (none-some (j, d.rule) (sym e))
     go false more e = more e
 
 old_in : (ds : List Declaration) (n : List ℕ) (j : ℕ) (x : ℕ × Rule) → first_named j ds n ≡ Some x → is_new (names ds) n ≡ false
-old_in [] n j x e = absurd (some_none x (sym e))
+old_in [] n j x e = absurd (none-some x e)
 old_in (d ∷ ds) n j x e = go (equal_names d.name n) (old_in ds n (suc j) x) e
   where
     go : (b : Bool) → (first_named (suc j) ds n ≡ Some x → is_new (names ds) n ≡ false) → cond b (Some (j, d.rule)) (first_named (suc j) ds n) ≡ Some x → (not b && is_new (names ds) n) ≡ false

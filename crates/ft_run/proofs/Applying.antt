@@ -19,6 +19,7 @@ use Rattle.ft_run.specs.Session.{Progress, IsSimple, AreSimple, IsSimpleClaim, I
 use Rattle.ft_run.specs.Claiming.{rule_in, at_place}
 use Rattle.ft_run.proofs.Keeping.{all_claimed_kept}
 use Rattle.ft_items.proofs.Smallness.{small_true, true_small}
+use Rattle.std.proofs.lemmas.Bool.{false_from_ne_true}
 
 argument_below : (n : ℕ) (f : Form) → FormBelow n f → ArgumentsBelow n (argument_of f ∷ [])
 argument_below n (Ty A) h = (h, tt)
@@ -58,10 +59,6 @@ false_none : (b c : Bool) (x : Claim) → c ≡ false → when (b && c) x ≡ No
 false_none true c x e = ap (λ c. when c x) e
 false_none false c x e = refl
 
-not_true : (b : Bool) → (b ≡ true → ⊥) → b ≡ false
-not_true true h = absurd (h refl)
-not_true false h = refl
-
 -- what is not small claims nothing
 pub big_none : (p : Progress) (i : ℕ) (xs : List Claimed) (as' : List Arg) → as' ≡ map (λ x. argument_of x.form) xs
     → (IsSmall (symbol i (arguments_in p.state.trees as')) → ⊥) → at_place p.rules i (claims_in p.state.trees xs) ≡ None
@@ -69,7 +66,7 @@ big_none p i xs as' e big =
     let cs = claims_in p.state.trees xs in
     let same = heads_are p.state.trees xs as' e in
     false_none (fit_all (λ b. b) (rule_in p.rules i).premises (plains cs)) (is_small (symbol i (heads (plains cs)))) (fill_goal (rule_in p.rules i).conclusion (symbol i (heads (plains cs))))
-    (not_true (is_small (symbol i (heads (plains cs)))) (λ small. big (subst (λ a. IsSmall (symbol i a)) (sym same) (true_small (symbol i (heads (plains cs))) small))))
+    (false_from_ne_true (is_small (symbol i (heads (plains cs)))) (λ small. big (subst (λ a. IsSmall (symbol i a)) (sym same) (true_small (symbol i (heads (plains cs))) small))))
 
 -- what fits and is small claims its conclusion
 pub fit_some : (p : Progress) (i : ℕ) (xs : List Claimed) (as' : List Arg) (b : Bool) (c : Claim) → as' ≡ map (λ x. argument_of x.form) xs

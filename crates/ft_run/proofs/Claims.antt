@@ -1,6 +1,7 @@
 -- The claims of arguments, one by one.
 use Rattle.std.proofs.Common.{◌≡◌, ◌∙◌, sym, ap, refl, subst, ℕ, zero, suc, ◌+◌, ◌<◌, ◌≤◌, List, [], ◌∷◌, ◌++◌, map, take, drop, length, get_or, Option, Some, None, option_map, option_and_then, arith}
 use Rattle.std.proofs.lemmas.List.{map-append, take-append-drop, take_all}
+use Rattle.std.proofs.lemmas.Option.{none-some, same_Some}
 use Rattle.std.proofs.Math.Seq.{take-suc, drop-cons}
 use Rattle.ft_theory.specs.Statements.{Claim}
 use Rattle.ft_theory.specs.Rules.{Rule}
@@ -37,21 +38,15 @@ argument_smaller b n as' i a e l f =
     let z = ap nodes e ∙ nodes_of_apply n as' in
     omega arith
 
-some_none : {A : Type 0} (a : A) → ◌≡◌ {A = Option A} None (Some a) → ⊥
-some_none a e = cc
-
-some_some : {A : Type 0} (a b : A) → ◌≡◌ {A = Option A} (Some a) (Some b) → a ≡ b
-some_some a b e = cc
-
 all_of_last : (os : List (Option Claim)) (cs : List Claim) (c : Claim) → all_of os ≡ Some cs → all_of (os ++ Some c ∷ []) ≡ Some (cs ++ c ∷ [])
-all_of_last [] cs c e = ap (λ cs. Some (cs ++ c ∷ [])) (some_some [] cs e)
-all_of_last (None ∷ os) cs c e = absurd (some_none cs e)
+all_of_last [] cs c e = ap (λ cs. Some (cs ++ c ∷ [])) (same_Some [] cs e)
+all_of_last (None ∷ os) cs c e = absurd (none-some cs e)
 all_of_last (Some d ∷ os) cs c e = go (all_of os) (λ ds. all_of_last os ds c) e
   where
     go : (r : Option (List Claim)) → ((ds : List Claim) → r ≡ Some ds → all_of (os ++ Some c ∷ []) ≡ Some (ds ++ c ∷ [])) → option_map (λ ds. d ∷ ds) r ≡ Some cs
         → option_map (λ ds. d ∷ ds) (all_of (os ++ Some c ∷ [])) ≡ Some (cs ++ c ∷ [])
-    go None h e = absurd (some_none cs e)
-    go (Some ds) h e = ap (option_map (λ ds. d ∷ ds)) (h ds refl) ∙ ap (λ cs. Some (cs ++ c ∷ [])) (some_some (d ∷ ds) cs e)
+    go None h e = absurd (none-some cs e)
+    go (Some ds) h e = ap (option_map (λ ds. d ∷ ds)) (h ds refl) ∙ ap (λ cs. Some (cs ++ c ∷ [])) (same_Some (d ∷ ds) cs e)
 
 all_of_none : (os ps : List (Option Claim)) → all_of (os ++ None ∷ ps) ≡ None
 all_of_none [] ps = refl

@@ -9,6 +9,7 @@ use Rattle.ft_items.specs.Store.{nth, each, entry_named, rules_in, empty_store, 
 use Rattle.ft_items.specs.Good.{Allowed, Good}
 use Rattle.ft_items.proofs.Lists.{entries_all, store_is}
 use Rattle.std.proofs.lemmas.Bool.{lt-ltb}
+use Rattle.std.proofs.lemmas.List.{length-map}
 use Rattle.ft_judge.specs.Meaning.{claim_in, goal_in, GoalBelow}
 use Rattle.ft_judge.specs.declared.judgement.Form.{Form}
 use Rattle.ft_judge.specs.declared.judgement.Goal.{Goal}
@@ -17,9 +18,9 @@ use Rattle.ft_applications.specs.Building.{Declaration, theory, plains}
 use Rattle.ft_run.specs.declared.session.Known.{Known}
 use Rattle.ft_run.specs.declared.session.Claimed.{Claimed}
 use Rattle.ft_run.specs.Given.{fits_goals}
-use Rattle.ft_run.specs.Session.{Progress, numbered, boundaries_in, declaration, declarations, IsSimpleGoal, AllFitGoals, FitsKnown, AreKnown, IsSession, AreClaimed, AllBelow, claims_in, IsSimpleRule, AreSimplePremises, AreSimpleClaims, assertions}
+use Rattle.ft_run.specs.Session.{Progress, numbered, boundaries_in, declaration, declarations, IsSimpleGoal, AllFitGoals, FitsKnown, AreKnown, IsSession, AreClaimed, AllClaimsBelow, claims_in, IsSimpleRule, AreSimplePremises, AreSimpleClaims, assertions}
 use Rattle.ft_run.specs.Claiming.{rule_in}
-use Rattle.ft_run.proofs.Keeping.{declarations_length, fits_declared}
+use Rattle.ft_run.proofs.Keeping.{declarations_length, theory_length, fits_declared}
 use Rattle.ft_run.proofs.Allowed.{rule_allowed}
 
 -- a place of the rules is one of the known
@@ -83,13 +84,13 @@ entries_claimed s (x ∷ xs) h =
     ap (λ es. nth es x.entry) (entries_all empty_store s.items) ∙ h.0.entry in
     ap₂ (λ o os. option_and_then (λ b. option_map (λ bs. b ∷ bs) os) o) here (entries_claimed s xs h.1)
 
-all_below : (s : State) (xs : List Claimed) → AreClaimed s xs → AllBelow (length s.trees) xs
+all_below : (s : State) (xs : List Claimed) → AreClaimed s xs → AllClaimsBelow (length s.trees) xs
 all_below s [] h = tt
 all_below s (x ∷ xs) h = (h.0.below, all_below s xs h.1)
 
 -- what is claimed is over the table
-pub claimed_below : (s : State) (ks : List Known) (p : Progress) (ts : List Expression) (xs : List Claimed) → record { state = s; rules = declarations s.trees ks } ≡ p → ts ≡ s.trees → AreClaimed p.state xs → AllBelow (length ts) xs
-claimed_below s ks p ts xs v t c = subst (λ ts. AllBelow (length ts) xs) (ap (λ p. p.state.trees) (sym v) ∙ sym t) (all_below p.state xs c)
+pub claimed_below : (s : State) (ks : List Known) (p : Progress) (ts : List Expression) (xs : List Claimed) → record { state = s; rules = declarations s.trees ks } ≡ p → ts ≡ s.trees → AreClaimed p.state xs → AllClaimsBelow (length ts) xs
+claimed_below s ks p ts xs v t c = subst (λ ts. AllClaimsBelow (length ts) xs) (ap (λ p. p.state.trees) (sym v) ∙ sym t) (all_below p.state xs c)
 
 concluded_in : (s : State) (ks : List Known) (i : ℕ) (xs : List Claimed) (js : List ℕ) (f : Form) → IsSession s ks → i < length ks → AreClaimed s xs → js ≡ map (λ x. x.entry) xs
     → fit_all (λ b. b) (rule_in (declarations s.trees ks) i).premises (plains (claims_in s.trees xs)) ≡ true
@@ -121,19 +122,8 @@ concluded_allowed s ks p i r xs js f h v l q c j fit claim =
 pub goal_simple_at : (s : State) (ks : List Known) (p : Progress) (i : ℕ) (k : Known) → IsSession s ks → record { state = s; rules = declarations s.trees ks } ≡ p → i < length ks → k ≡ get_or ks i k → IsSimpleGoal (goal_in p.state.trees k.conclusion)
 goal_simple_at s ks p i k h v l e = subst (λ p. IsSimpleGoal (goal_in p.state.trees k.conclusion)) v (rule_in_at s.trees ks i k h.known l e).1.1.1
 
-map_length : {A B : Type 0} (f : A → B) (xs : List A) → length (map f xs) ≡ length xs
-map_length f [] = refl
-map_length f (x ∷ xs) = ap suc (map_length f xs)
-
-pub none_some : {A : Type 0} (a : A) → ◌≡◌ {A = Option A} None (Some a) → ⊥
-none_some a e = cc
-
 rules_length : (items : List Item) → Good items → length (rules_in items) ≡ length (store_of items).rules
-rules_length items g = sym (ap length (store_is items g).rules ∙ map_length _ (rules_in items))
-
-theory_length : (ds : List Declaration) → length (theory ds) ≡ length ds
-theory_length [] = refl
-theory_length (d ∷ ds) = ap suc (theory_length ds)
+rules_length items g = sym (ap length (store_is items g).rules ∙ length-map (rules_in items) _)
 
 -- a place of the rules is the number of a rule of the kernel
 pub rule_found : (s : State) (ks : List Known) (p : Progress) (i : ℕ) (o : Option ℕ) → IsSession s ks → Good s.items → record { state = s; rules = declarations s.trees ks } ≡ p → i < length p.rules

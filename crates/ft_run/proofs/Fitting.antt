@@ -1,5 +1,6 @@
 -- Whether claims fit goals, one by one.
 use Rattle.std.proofs.Common.{◌≡◌, ◌↔◌, ◌∙◌, sym, ap, refl, subst, ℕ, zero, suc, ◌+◌, ◌<◌, ◌≤◌, ◌≢◌, Bool, true, false, ◌&&◌, List, [], ◌∷◌, length, drop, get_or, ap₂, IsTrue, arith}
+use Rattle.std.specs.Cmp.{both_ways}
 use Rattle.std.proofs.lemmas.List.{drop_more}
 use Rattle.std.proofs.Math.ListN.{drop_of_length-le}
 use Rattle.ft_theory.specs.Expressions.{Expression}
@@ -8,18 +9,12 @@ use Rattle.ft_sound.proofs.EqualLemmas.{expression_true, expression_self}
 use Rattle.ft_judge.specs.Meaning.{FormBelow}
 use Rattle.ft_judge.specs.declared.judgement.Goal.{Goal}
 use Rattle.ft_run.specs.declared.session.Claimed.{Claimed}
-use Rattle.ft_run.specs.Session.{AllFitGoals, FitsGoal, AllBelow}
+use Rattle.ft_run.specs.Session.{AllFitGoals, FitsGoal, AllClaimsBelow}
 use Rattle.ft_run.specs.Given.{fits_one, fits_goals}
-
-pub same_test : (b c : Bool) → (b ≡ true → c ≡ true) → (c ≡ true → b ≡ true) → b ≡ c
-same_test true true f g = refl
-same_test true false f g = sym (f refl)
-same_test false true f g = g refl
-same_test false false f g = refl
 
 -- a test that decides whether expressions are the same is the definition's
 pub by_equal : (e f : Expression) (b : Bool) → (IsTrue b ↔ (e ≡ f)) → b ≡ equal_expressions e f
-by_equal e f b h = same_test b (equal_expressions e f)
+by_equal e f b h = both_ways b (equal_expressions e f)
     (λ yes. subst (λ g. equal_expressions e g ≡ true) (h.0 yes) (expression_self e))
     (λ yes. h.1 (expression_true e f yes))
 
@@ -30,7 +25,7 @@ goal_at ts (k ∷ gs) zero g h l e = subst (FitsGoal ts) (sym e) h.0
 goal_at ts (k ∷ gs) (suc i) g h l e = let m : i < length gs = omega arith in goal_at ts gs i g h.1 m e
 
 -- the claim at a place is over the table
-pub form_at : (n : ℕ) (xs : List Claimed) (i : ℕ) (x : Claimed) → AllBelow n xs → i < length xs → x ≡ get_or xs i x → FormBelow n x.form
+pub form_at : (n : ℕ) (xs : List Claimed) (i : ℕ) (x : Claimed) → AllClaimsBelow n xs → i < length xs → x ≡ get_or xs i x → FormBelow n x.form
 form_at n [] i x h l e = absurd (omega arith)
 form_at n (y ∷ xs) zero x h l e = subst (λ z. FormBelow n z.form) (sym e) h.0
 form_at n (y ∷ xs) (suc i) x h l e = let m : i < length xs = omega arith in form_at n xs i x h.1 m e

@@ -2,30 +2,19 @@
 use Rattle.std.proofs.Common.{◌≡◌, ◌∙◌, sym, ap, refl, subst, ℕ, suc, List, [], ◌∷◌, ◌++◌, map, length, Option, Some, None, append_assoc, append-nil, Result, Ok, Err, IfOk, OnOk, OnErr}
 use Rattle.ft_base.specs.declared.memory.Memory.{Memory}
 use Rattle.ft_theory.specs.Statements.{Claim, plain}
-use Rattle.ft_items.specs.Item.{Name, Item, Entry, variable, metavariable, rule, entry, shown}
-use Rattle.ft_items.specs.Store.{Assertion, Declared, Store, nth, each, entry_named, metavariable_named, add_variable, add_metavariable, add_rule, add, add_all, empty_store, store_of, metavariables_in}
+use Rattle.ft_items.specs.Item.{Name, Item, Entry, metavariable, rule, entry, shown}
+use Rattle.ft_items.specs.Store.{Assertion, Declared, Store, nth, entry_named, add_metavariable, add, add_all, empty_store, store_of, metavariables_in}
 use Rattle.ft_items.specs.Good.{Allowed, Good}
-use Rattle.ft_items.proofs.Lists.{store_last, store_is}
+use Rattle.std.proofs.lemmas.List.{length-map}
+use Rattle.ft_items.proofs.Lists.{store_last, store_is, nth_end, before_all, metavariables_append}
 use Rattle.ft_kernel.specs.State.{State, with_item}
 use Rattle.ft_run.specs.declared.session.Known.{Known}
 use Rattle.ft_run.specs.Session.{Progress, declarations, IsSession, HasEntry, HasMet, AreMade, Keeps, GoesOn}
 use Rattle.ft_run.specs.Asking.{HasGoal}
 use Rattle.ft_applications.specs.Histories.{told}
 use Rattle.ft_run.proofs.Telling.{told_metavariable, steps_last}
-use Rattle.ft_run.proofs.Keeping.{nth_front, nth_after, keeps_tell}
+use Rattle.ft_run.proofs.Keeping.{keeps_tell}
 use Rattle.ft_run.proofs.Accepted.{entry_there, goal_no_thesis}
-
-map_length : {A B : Type 0} (f : A → B) (xs : List A) → length (map f xs) ≡ length xs
-map_length f [] = refl
-map_length f (x ∷ xs) = ap suc (map_length f xs)
-
-metavariables_append : (xs ys : List Item) → metavariables_in (xs ++ ys) ≡ metavariables_in xs ++ metavariables_in ys
-metavariables_append [] ys = refl
-metavariables_append (variable v n p ∷ xs) ys = metavariables_append xs ys
-metavariables_append (metavariable n p ∷ xs) ys = ap (λ ms. (n, p) ∷ ms) (metavariables_append xs ys)
-metavariables_append (rule n ms p ∷ xs) ys = metavariables_append xs ys
-metavariables_append (entry e ∷ xs) ys = metavariables_append xs ys
-metavariables_append (shown p ∷ xs) ys = metavariables_append xs ys
 
 no_metavariables : (es : List Entry) → metavariables_in (map entry es) ≡ []
 no_metavariables [] = refl
@@ -55,30 +44,6 @@ shown_no_more s j = metavariables_append s.items (shown j ∷ []) ∙ append-nil
 
 -- Metavariables stay.
 
-variable_stays : (W : Store) (v : ℕ) (n : Name) (o : Option Assertion) → (add_variable W v n o).metavariables ≡ W.metavariables
-variable_stays W v n None = refl
-variable_stays W v n (Some a) = refl
-
-rule_stays : (W : Store) (n : Name) (os : Option (List (ℕ × Declared))) (o : Option Assertion) → (add_rule W n os o).metavariables ≡ W.metavariables
-rule_stays W n None o = refl
-rule_stays W n (Some ds) None = refl
-rule_stays W n (Some ds) (Some a) = refl
-
-metavariable_stays : (W : Store) (n : Name) (o : Option Assertion) (m : ℕ) (d : Declared) → nth W.metavariables m ≡ Some d → nth (add_metavariable W n o).metavariables m ≡ Some d
-metavariable_stays W n None m d e = e
-metavariable_stays W n (Some a) m d e = nth_front W.metavariables (record { name = n; boundary = a.statement; set = a.set } ∷ []) m d e
-
-stays_after : (W : Store) (i : Item) (m : ℕ) (d : Declared) → nth W.metavariables m ≡ Some d → nth (add W i).metavariables m ≡ Some d
-stays_after W (variable v n p) m d e = ap (λ ds. nth ds m) (variable_stays W v n (entry_named W p)) ∙ e
-stays_after W (metavariable n p) m d e = metavariable_stays W n (entry_named W p) m d e
-stays_after W (rule n ms p) m d e = ap (λ ds. nth ds m) (rule_stays W n (each (metavariable_named W) ms) (entry_named W p)) ∙ e
-stays_after W (entry f) m d e = e
-stays_after W (shown p) m d e = e
-
-stays_after_all : (W : Store) (is : List Item) (m : ℕ) (d : Declared) → nth W.metavariables m ≡ Some d → nth (add_all W is).metavariables m ≡ Some d
-stays_after_all W [] m d e = e
-stays_after_all W (i ∷ is) m d e = stays_after_all (add W i) is m d (stays_after W i m d e)
-
 pub add_append : (W : Store) (is js : List Item) → add_all W (is ++ js) ≡ add_all (add_all W is) js
 add_append W [] js = refl
 add_append W (i ∷ is) js = add_append (add W i) is js
@@ -86,7 +51,7 @@ add_append W (i ∷ is) js = add_append (add W i) is js
 met_stays : (s t : State) (more : List Item) (m : ℕ) (g : Claim) → t.items ≡ s.items ++ more → HasMet s m g → HasMet t m g
 met_stays s t more m g e h =
     let there : store_of t.items ≡ add_all (store_of s.items) more = ap store_of e ∙ add_append empty_store s.items more in
-    (h.0, ap (λ (W : Store). nth W.metavariables m) there ∙ stays_after_all (store_of s.items) more m h.0 h.1, h.2, h.3)
+    (h.0, ap (λ (W : Store). nth W.metavariables m) there ∙ (before_all (store_of s.items) more).metavariables m h.0 h.1, h.2, h.3)
 
 -- what was made stays made
 pub made_stays : (s t : State) (more : List Item) (m : ℕ) (gs : List Claim) (ms : List ℕ) → t.items ≡ s.items ++ more → AreMade s m gs ms → AreMade t m gs ms
@@ -106,9 +71,9 @@ met_made s t n b m g good a e h =
     let d : Declared = record { name = n; boundary = plain g; set = [] } in
     let after : store_of (s.items ++ metavariable n b ∷ []) ≡ add_metavariable W n (Some (record { statement = plain g; set = [] })) =
     store_last empty_store s.items (metavariable n b) ∙ ap (add_metavariable W n) (entry_there s b g h) in
-    let long : length W.metavariables ≡ length (metavariables_in s.items) = ap length (store_is s.items good).metavariables ∙ map_length _ (metavariables_in s.items) in
+    let long : length W.metavariables ≡ length (metavariables_in s.items) = ap length (store_is s.items good).metavariables ∙ length-map (metavariables_in s.items) _ in
     subst (λ (t : State). HasMet t m g) (sym a)
-    (d, ap (λ (X : Store). nth X.metavariables m) after ∙ ap (nth (W.metavariables ++ d ∷ [])) (e ∙ sym long) ∙ nth_after W.metavariables d, refl, refl)
+    (d, ap (λ (X : Store). nth X.metavariables m) after ∙ ap (nth (W.metavariables ++ d ∷ [])) (e ∙ sym long) ∙ nth_end W.metavariables d, refl, refl)
 
 stays_metavariable_rules : (W : Store) (n : Name) (o : Option Assertion) → ((add_metavariable W n o).rules ≡ W.rules) × ((add_metavariable W n o).names ≡ W.names)
 stays_metavariable_rules W n None = (refl, refl)

@@ -1,19 +1,20 @@
 -- What stays as a session goes on.
-use Rattle.std.proofs.Common.{◌≡◌, ◌∙◌, sym, ap, ap₂, refl, subst, ℕ, zero, suc, List, [], ◌∷◌, ◌++◌, map, length, Some, append_assoc, append-nil, ◌&&◌, Result, Ok, Err, IfOk, OnOk, OnErr}
+use Rattle.std.proofs.Common.{◌≡◌, ◌∙◌, sym, ap, ap₂, refl, subst, ℕ, suc, List, [], ◌∷◌, ◌++◌, map, length, Some, append_assoc, append-nil, ◌&&◌, Result, Ok, Err, IfOk, OnOk, OnErr}
 use Rattle.ft_base.specs.declared.memory.Memory.{Memory}
 use Rattle.ft_theory.specs.Expressions.{Expression}
 use Rattle.ft_theory.specs.Statements.{Claim, plain}
-use Rattle.ft_items.specs.Item.{Item, Entry, variable, metavariable, rule, entry, shown}
+use Rattle.ft_items.specs.Sets.{Atom}
+use Rattle.ft_items.specs.Item.{Item, Entry, Stated, entry}
 use Rattle.ft_items.specs.Store.{nth, entries_in, empty_store, store_of}
-use Rattle.ft_items.proofs.Lists.{store_last}
-use Rattle.std.proofs.lemmas.List.{map-append}
+use Rattle.ft_items.proofs.Lists.{store_last, nth_before, nth_end, entries_append}
+use Rattle.std.proofs.lemmas.List.{map-append, length-map}
 use Rattle.ft_syntax.specs.Table.{Extends}
-use Rattle.ft_judge.specs.Meaning.{claim_in}
+use Rattle.ft_judge.specs.Meaning.{claim_in, under}
 use Rattle.ft_judge.specs.declared.judgement.Goal.{Goal}
 use Rattle.ft_kernel.specs.State.{State, with_item}
 use Rattle.ft_applications.specs.Histories.{told, IsOfApplications, AllOfApplications}
 use Rattle.ft_run.proofs.Telling.{told_entries, steps_last}
-use Rattle.ft_run.proofs.Forms.{form_kept, goal_kept, form_below, goal_below}
+use Rattle.ft_judge.specs.Laws.{claim_extends, goal_extends, form_below_extends, goal_below_extends}
 use Rattle.ft_applications.specs.Building.{Declaration, theory, names, plains}
 use Rattle.ft_run.specs.declared.session.Known.{Known}
 use Rattle.ft_run.specs.declared.session.Claimed.{Claimed}
@@ -24,17 +25,17 @@ use Rattle.ft_run.specs.Session.{Progress, numbered, boundaries_in, declarations
 module _ (ts us : List Expression) (x : Extends ts us) where
   pub boundaries_kept : (gs : List Goal) → AllFitGoals ts gs → boundaries_in us gs ≡ boundaries_in ts gs
   boundaries_kept [] h = refl
-  boundaries_kept (g ∷ gs) h = ap₂ (λ c bs. plain c ∷ bs) (goal_kept ts us x g h.0.0) (boundaries_kept gs h.1)
+  boundaries_kept (g ∷ gs) h = ap₂ (λ c bs. plain c ∷ bs) (goal_extends ts us g x h.0.0) (boundaries_kept gs h.1)
 
   pub declarations_kept : (ks : List Known) → AreKnown ts ks → declarations us ks ≡ declarations ts ks
   declarations_kept [] h = refl
   declarations_kept (k ∷ ks) h =
       ap₂ (λ d ds. d ∷ ds)
-      (ap₂ (λ bs c. record { name = k.name; rule = record { premises = numbered k.first bs; conclusion = c } }) (boundaries_kept k.premises.items h.0.0) (goal_kept ts us x k.conclusion h.0.1.0))
+      (ap₂ (λ bs c. record { name = k.name; rule = record { premises = numbered k.first bs; conclusion = c } }) (boundaries_kept k.premises.items h.0.0) (goal_extends ts us k.conclusion x h.0.1.0))
       (declarations_kept ks h.1)
 
   goal_fits : (g : Goal) → FitsGoal ts g → FitsGoal us g
-  goal_fits g h = (goal_below ts us x g h.0, subst IsSimpleGoal (sym (goal_kept ts us x g h.0)) h.1)
+  goal_fits g h = (goal_below_extends ts us g x h.0, subst IsSimpleGoal (sym (goal_extends ts us g x h.0)) h.1)
 
   pub goals_fit : (gs : List Goal) → AllFitGoals ts gs → AllFitGoals us gs
   goals_fit [] h = tt
@@ -81,34 +82,21 @@ keeps_then p q r f g = record {
 pub keeps_tell : (p q : Progress) → Keeps p q → told q.state.items ≡ told p.state.items
 keeps_tell p q k = ap told k.items.1 ∙ told_entries p.state.items k.items.0
 
-entries_append : (xs ys : List Item) → entries_in (xs ++ ys) ≡ entries_in xs ++ entries_in ys
-entries_append [] ys = refl
-entries_append (variable v n p ∷ xs) ys = entries_append xs ys
-entries_append (metavariable n p ∷ xs) ys = entries_append xs ys
-entries_append (rule n ms p ∷ xs) ys = entries_append xs ys
-entries_append (entry e ∷ xs) ys = ap (λ es. record { statement = e.statement; set = e.set } ∷ es) (entries_append xs ys)
-entries_append (shown p ∷ xs) ys = entries_append xs ys
-
-pub nth_front : {A : Type 0} (xs ys : List A) (k : ℕ) (a : A) → nth xs k ≡ Some a → nth (xs ++ ys) k ≡ Some a
-nth_front [] ys k a e = cc
-nth_front (x ∷ xs) ys zero a e = e
-nth_front (x ∷ xs) ys (suc k) a e = nth_front xs ys k a e
-
 -- an entry stays, whatever comes after
 pub entry_stays : (s t : State) (more : List Item) (j : ℕ) (c : Claim) → t.items ≡ s.items ++ more → HasEntry s j c → HasEntry t j c
 entry_stays s t more j c e h =
     ap (λ is. nth (entries_in is) j) e ∙ ap (λ es. nth es j) (entries_append s.items more)
-    ∙ nth_front (entries_in s.items) (entries_in more) j (record { statement = plain c; set = [] }) h
+    ∙ nth_before (entries_in s.items) (entries_in more) j (record { statement = plain c; set = [] }) h
 
 pub entry_kept : (p q : Progress) (j : ℕ) (c : Claim) → Keeps p q → HasEntry p.state j c → HasEntry q.state j c
 entry_kept p q j c k h = entry_stays p.state q.state (map entry k.items.0) j c k.items.1 h
 
 pub claimed_kept : (p q : Progress) (x : Claimed) → Keeps p q → IsClaimed p.state x → (claim_in q.state.trees x.form ≡ claim_in p.state.trees x.form) × IsClaimed q.state x
 claimed_kept p q x k h =
-    let same = form_kept p.state.trees q.state.trees k.trees x.form h.below in (
+    let same = claim_extends p.state.trees q.state.trees x.form k.trees h.below in (
       same,
       record {
-        below = form_below p.state.trees q.state.trees k.trees x.form h.below;
+        below = form_below_extends p.state.trees q.state.trees x.form k.trees h.below;
         simple = subst IsSimpleClaim (sym same) h.simple;
         entry = subst (HasEntry q.state x.entry) (sym same) (entry_kept p q x.entry (claim_in p.state.trees x.form) k h.entry);
       },
@@ -120,10 +108,6 @@ all_claimed_kept p q (x ∷ xs) k h =
     let one = claimed_kept p q x k h.0 in
     let more = all_claimed_kept p q xs k h.1 in
     (ap₂ (λ c cs. c ∷ cs) one.0 more.0, (one.1, more.1))
-
-pub nth_after : {A : Type 0} (xs : List A) (a : A) → nth (xs ++ a ∷ []) (length xs) ≡ Some a
-nth_after [] a = refl
-nth_after (x ∷ xs) a = nth_after xs a
 
 -- one more entry
 pub session_entry : (s : State) (e : Entry) (ks : List Known) → IsSession s ks → IsOfApplications (entry e) → IsSession (with_item s (entry e)) ks
@@ -144,11 +128,14 @@ keeps_entry s e ds = record {
 }
 
 pub has_entry : (s : State) (e : Entry) → nth (entries_in (with_item s (entry e)).items) (length (entries_in s.items)) ≡ Some (record { statement = e.statement; set = e.set })
-has_entry s e = ap (λ es. nth es (length (entries_in s.items))) (entries_append s.items (entry e ∷ [])) ∙ nth_after (entries_in s.items) (record { statement = e.statement; set = e.set })
+has_entry s e = ap (λ es. nth es (length (entries_in s.items))) (entries_append s.items (entry e ∷ [])) ∙ nth_end (entries_in s.items) (record { statement = e.statement; set = e.set })
 
 pub declarations_length : (ts : List Expression) (ks : List Known) → length (declarations ts ks) ≡ length ks
 declarations_length ts [] = refl
 declarations_length ts (k ∷ ks) = ap suc (declarations_length ts ks)
+
+pub theory_length : (ds : List Declaration) → length (theory ds) ≡ length ds
+theory_length ds = length-map ds (λ (d : Declaration). d.rule)
 
 -- the same, from the value that is seen
 pub keeps_from : (p : Progress) (s t : State) (ks : List Known) → record { state = s; rules = declarations s.trees ks } ≡ p → IsSession s ks → Extends s.trees t.trees → t.items ≡ s.items
@@ -172,13 +159,13 @@ keeps_after (Ok j) p s t e ks v a b = entry_keeps_from p s t e ks v a
 keeps_after (Err m) p s t e ks v a b =
     subst (λ q. Keeps p q) (sym v ∙ ap (λ t. record { state = t; rules = declarations t.trees ks }) (sym b)) (keeps_same p)
 
-abbrev pub HasEntryOf : State → ℕ → Entry → Type 0
-HasEntryOf t j e = nth (entries_in t.items) j ≡ Some (record { statement = e.statement; set = e.set })
-
-pub entry_after : (r : Result ℕ Memory) (s t : State) (e : Entry) → IfOk r (λ j. j ≡ length (entries_in s.items)) → OnOk r (t ≡ with_item s (entry e))
-    → IfOk r (λ j. HasEntryOf t j e)
-entry_after (Ok j) s t e n a = ap₂ (λ (t : State) j. nth (entries_in t.items) j) a n ∙ has_entry s e
-entry_after (Err m) s t e n a = tt
+-- after a push of a claim without domains that rests on nothing
+pub entry_pushed : (r : Result ℕ Memory) (s t : State) (c : Claim) (ds : List ℕ) (S : List Atom) (u : Stated) → ds ≡ [] → S ≡ [] → IfOk r (λ j. j ≡ length (entries_in s.items))
+    → OnOk r (t ≡ with_item s (entry (record { statement = under s.trees ds (plain c); set = S; step = u }))) → IfOk r (λ j. HasEntry t j c)
+entry_pushed (Ok j) s t c ds S u no_domains no_atoms n a =
+    ap₂ (λ (t : State) j. nth (entries_in t.items) j) a n ∙ has_entry s (record { statement = under s.trees ds (plain c); set = S; step = u })
+    ∙ ap₂ (λ ds S. Some (record { statement = under s.trees ds (plain c); set = S })) no_domains no_atoms
+entry_pushed (Err m) s t c ds S u no_domains no_atoms n a = tt
 
 -- claims fit the goals of a declared rule
 pub fits_declared : (ts : List Expression) (m : ℕ) (gs : List Goal) (xs : List Claimed) → fits_goals ts gs xs ≡ fit_all (λ b. b) (numbered m (boundaries_in ts gs)) (plains (claims_in ts xs))

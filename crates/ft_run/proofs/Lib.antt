@@ -1,6 +1,5 @@
 pub mod Fitting
 pub mod Allowed
-pub mod Forms
 pub mod Telling
 pub mod Keeping
 pub mod Concluding

@@ -1,6 +1,6 @@
 -- What commands do one by one, their lines, and what they tell and show.
-use Rattle.std.proofs.Common.{◌≡◌, ◌∙◌, sym, ap, ap₂, refl, subst, ℕ, suc, ◌+◌, ◌<◌, ◌≤◌, List, [], ◌∷◌, ◌++◌, length, drop, get_or, Option, Some, None, option_map, option_and_then, append_assoc, append-nil, arith, codes, true, false, cond, Result, Ok, Err, IfOk, OnOk, OnErr}
-use Rattle.std.proofs.lemmas.List.{drop_all}
+use Rattle.std.proofs.Common.{◌≡◌, ◌∙◌, sym, ap, ap₂, refl, subst, ℕ, suc, ◌+◌, ◌<◌, List, [], ◌∷◌, ◌++◌, length, drop, get_or, Option, Some, None, option_map, option_and_then, append_assoc, append-nil, arith, codes, true, false, cond, Result, Ok, Err, IfOk, OnOk, OnErr}
+use Rattle.std.proofs.lemmas.Option.{none-some, same_Some}
 use Rattle.std.proofs.Math.Seq.{drop-cons}
 use Rattle.ft_theory.specs.Expressions.{Expression}
 use Rattle.ft_theory.specs.Statements.{Claim, is_type, has_type, equal_types, equal_terms, type_goal, term_goal, type_equation_goal, term_equation_goal, plain}
@@ -38,12 +38,6 @@ use Rattle.ft_run.proofs.Naming.{names_declared}
 use Rattle.ft_run.proofs.Accepted.{entry_there}
 use Rattle.ft_run.proofs.Going.{same_metavariables, shown_no_more}
 
-none_some : {A : Type 0} (a : A) → ◌≡◌ {A = Option A} None (Some a) → ⊥
-none_some a e = cc
-
-some_some : {A : Type 0} (a b : A) → ◌≡◌ {A = Option A} (Some a) (Some b) → a ≡ b
-some_some a b e = cc
-
 -- What is left.
 
 here : (cs : List Command) (i : ℕ) (c : Command) → i < length cs → c ≡ get_or cs i c → drop i cs ≡ c ∷ drop (i + 1) cs
@@ -67,17 +61,6 @@ left_next ds fs gs cs i c es e l same d h =
     joined None = refl
     joined (Some more) = ap Some (sym (append_assoc es (e ∷ []) more))
 
--- a command that is not built
-pub left_none : (ds fs : List Declaration) (cs : List Command) (i : ℕ) (c : Command) (es : List Event) → i < length cs → c ≡ get_or cs i c → done fs c ≡ None
-    → AreLeft ds cs es fs (drop i cs) → events ds cs ≡ None
-left_none ds fs cs i c es l same d h =
-    left_here ds fs cs i c es l same h
-    ∙ ap (λ o. option_map (λ more. es ++ more) (option_and_then (λ s. option_map (λ more. s.1 ∷ more) (events s.0 (drop (i + 1) cs))) o)) d
-
--- no command is left
-pub left_all : (ds fs : List Declaration) (cs : List Command) (i : ℕ) (es : List Event) → length cs ≤ i → AreLeft ds cs es fs (drop i cs) → events ds cs ≡ Some es
-left_all ds fs cs i es l h = h ∙ ap (λ cs. option_map (λ more. es ++ more) (events fs cs)) (drop_all i cs l) ∙ ap Some (append-nil es)
-
 -- all are left
 pub left_first : (ds : List Declaration) (cs : List Command) → AreLeft ds cs [] ds cs
 left_first ds cs = same (events ds cs)
@@ -88,35 +71,29 @@ left_first ds cs = same (events ds cs)
 
 -- What is done, and more.
 
-not_both : (n : ℕ) → n ≡ 9 → n ≡ 0 → ⊥
-not_both n h k = omega (arith, h, k)
-
 status_on : (es fs : List Event) → status_of es ≡ 0 → status_of (es ++ fs) ≡ status_of fs
 status_on [] fs h = refl
 status_on (accepts d ∷ es) fs h = status_on es fs h
-status_on (repeats n ∷ es) fs h = absurd (not_both 9 refl h)
+status_on (repeats n ∷ es) fs h = absurd (omega (arith, h))
 status_on (shows ds c ∷ es) fs h = status_on es fs h
 
 text_on : (es fs : List Event) → status_of es ≡ 0 → text_of (es ++ fs) ≡ text_of es ++ text_of fs
 text_on [] fs h = refl
 text_on (accepts d ∷ es) fs h = ap (λ t. accepted_line d.name ++ t) (text_on es fs h) ∙ sym (append_assoc (accepted_line d.name) (text_of es) (text_of fs))
-text_on (repeats n ∷ es) fs h = absurd (not_both 9 refl h)
+text_on (repeats n ∷ es) fs h = absurd (omega (arith, h))
 text_on (shows ds c ∷ es) fs h = ap (λ t. shown_line (names ds) c ++ t) (text_on es fs h) ∙ sym (append_assoc (shown_line (names ds) c) (text_of es) (text_of fs))
 
 told_on : (es fs : List Event) → status_of es ≡ 0 → told_in_run (es ++ fs) ≡ told_in_run es ++ told_in_run fs
 told_on [] fs h = refl
 told_on (accepts d ∷ es) fs h = ap (λ ts. told_in (accepts d ∷ []) ++ ts) (told_on es fs h)
-told_on (repeats n ∷ es) fs h = absurd (not_both 9 refl h)
+told_on (repeats n ∷ es) fs h = absurd (omega (arith, h))
 told_on (shows ds c ∷ es) fs h = ap (λ ts. told_in (shows ds c ∷ []) ++ ts) (told_on es fs h)
 
 shown_on : (es fs : List Event) → status_of es ≡ 0 → AllDerivable (shown_in es) → AllDerivable (shown_in fs) → AllDerivable (shown_in (es ++ fs))
 shown_on [] fs h a b = b
 shown_on (accepts d ∷ es) fs h a b = shown_on es fs h a b
-shown_on (repeats n ∷ es) fs h a b = absurd (not_both 9 refl h)
+shown_on (repeats n ∷ es) fs h a b = absurd (omega (arith, h))
 shown_on (shows ds c ∷ es) fs h a b = (a.0, shown_on es fs h a.1 b)
-
-pub does_first : (p : Progress) (out : List ℕ) → IsCounted p → Does p p out out []
-does_first p out h = record { kept = refl; text = sym (append-nil out); tells = sym (append-nil (told p.state.items)); derivable = tt; counted = h }
 
 pub does_then : (p q r : Progress) (out mid new : List ℕ) (es fs : List Event) → Does p q out mid es → Does q r mid new fs → Does p r out new (es ++ fs)
 does_then p q r out mid new es fs f g = record {
@@ -129,24 +106,18 @@ does_then p q r out mid new es fs f g = record {
 
 -- How runs end.
 
--- all commands were run
-pub run_ended : (p q : Progress) (out new : List ℕ) (cs : List Command) (es : List Event) → events p.rules cs ≡ Some es → Does p q out new es → WereRun p q out new cs ending.Done
-run_ended p q out new cs es e d fs f =
-    let same : es ≡ fs = some_some es fs (sym e ∙ f) in
-    subst (λ es. (new ≡ out ++ text_of es) × (0 ≡ status_of es) × (told q.state.items ≡ told p.state.items ++ told_in_run es) × AllDerivable (shown_in es)) same (d.text, sym d.kept, d.tells, d.derivable)
-
 -- The events are those before a repeated rule, the rule, and others.
 abbrev EndsAt : List Event → Name → List Event → Type 0
 EndsAt es n fs = (more : List Event) × (fs ≡ es ++ repeats n ∷ more)
 
 ends_at : (es fs : List Event) (n : Name) (f : List Declaration → Option (List Event)) (o : Option (List Declaration × Event)) → ((s : List Declaration × Event) → o ≡ Some s → s.1 ≡ repeats n)
     → option_map (λ more. es ++ more) (option_and_then (λ s. option_map (λ more. s.1 ∷ more) (f s.0)) o) ≡ Some fs → EndsAt es n fs
-ends_at es fs n f None h e = absurd (none_some fs e)
+ends_at es fs n f None h e = absurd (none-some fs e)
 ends_at es fs n f (Some s) h e = go (f s.0) e
   where
     go : (o : Option (List Event)) → option_map (λ more. es ++ more) (option_map (λ more. s.1 ∷ more) o) ≡ Some fs → EndsAt es n fs
-    go None e = absurd (none_some fs e)
-    go (Some more) e = (more, sym (some_some (es ++ s.1 ∷ more) fs e) ∙ ap (λ x. es ++ x ∷ more) (h s refl))
+    go None e = absurd (none-some fs e)
+    go (Some more) e = (more, sym (same_Some (es ++ s.1 ∷ more) fs e) ∙ ap (λ x. es ++ x ∷ more) (h s refl))
 
 -- a rule of the name of an earlier one ended it
 pub run_cut : (p q r : Progress) (out mid new : List ℕ) (cs : List Command) (i : ℕ) (c : Command) (es : List Event) → i < length cs → c ≡ get_or cs i c → AreLeft p.rules cs es q.rules (drop i cs)
@@ -165,14 +136,6 @@ run_cut p q r out mid new cs i c es l same h d w fs f =
 
 -- One command.
 
-pub ok_then : {A E P Q : Type 0} (r : Result A E) → (P → Q) → OnOk r P → OnOk r Q
-ok_then (Ok a) f h = f h
-ok_then (Err e) f h = tt
-
-pub ok_any : {A E P : Type 0} (r : Result A E) → P → OnOk r P
-ok_any (Ok a) h = h
-ok_any (Err e) h = tt
-
 -- a rule of a new name
 rule_done : (ds es : List Declaration) (c : Command) (n : Name) (ps : List Premise) (k : Conclusion) (R : Rule) → c ≡ command.Rule n ps k → declared ds ps k ≡ Some R → is_new (names ds) n ≡ true
     → es ≡ ds ++ record { name = n; rule = R } ∷ [] → done ds c ≡ Some (es, accepts (record { name = n; rule = R }))
@@ -187,8 +150,8 @@ rule_repeats : (ds : List Declaration) (c : Command) (n : Name) (ps : List Premi
 rule_repeats ds c n ps k e taken s h = go (declared ds ps k) (ap (done ds) (sym e) ∙ h)
   where
     go : (o : Option Rule) → option_map (λ R. (with_rule ds n R, event_of_rule ds n R)) o ≡ Some s → s.1 ≡ repeats n
-    go None h = absurd (none_some s h)
-    go (Some R) h = ap (λ (s : List Declaration × Event). s.1) (sym (some_some (with_rule ds n R, event_of_rule ds n R) s h)) ∙ ap (λ b. cond b (accepts (record { name = n; rule = R })) (repeats n)) taken
+    go None h = absurd (none-some s h)
+    go (Some R) h = ap (λ (s : List Declaration × Event). s.1) (sym (same_Some (with_rule ds n R, event_of_rule ds n R) s h)) ∙ ap (λ b. cond b (accepts (record { name = n; rule = R })) (repeats n)) taken
 
 pub rule_was : (p q : Progress) (out new : List ℕ) (c : Command) (n : Name) (ps : List Premise) (k : Conclusion) → c ≡ command.Rule n ps k → (x : Ending) → WasRule p q out new n ps k x → WasRun p q out new c x
 rule_was p q out new c n ps k e ending.Done h = (
@@ -302,11 +265,6 @@ session_marked s j ks h =
 pub session_after_mark : {A : Type 0} (r : Result A Memory) (s t : State) (j : ℕ) (ks : List Known) → IsSession s ks → OnOk r (t ≡ with_item s (shown j)) → OnErr r (t ≡ s) → IsSession t ks
 session_after_mark (Ok x) s t j ks h a e = subst (λ t. IsSession t ks) (sym a) (session_marked s j ks h)
 session_after_mark (Err m) s t j ks h a e = subst (λ t. IsSession t ks) (sym e) h
-
-pub rules_after_mark : {A : Type 0} (r : Result A Memory) (s t : State) (j : ℕ) (ks : List Known) (p : Progress) → record { state = s; rules = declarations s.trees ks } ≡ p → OnOk r (t ≡ with_item s (shown j)) → OnErr r (t ≡ s)
-    → declarations t.trees ks ≡ p.rules
-rules_after_mark (Ok x) s t j ks p v a e = ap (λ (t : State). declarations t.trees ks) a ∙ ap (λ (p : Progress). p.rules) v
-rules_after_mark (Err m) s t j ks p v a e = ap (λ (t : State). declarations t.trees ks) e ∙ ap (λ (p : Progress). p.rules) v
 
 pub counted_after_mark : {A : Type 0} (r : Result A Memory) (s t : State) (j : ℕ) (ks : List Known) (p : Progress) → record { state = s; rules = declarations s.trees ks } ≡ p → OnOk r (t ≡ with_item s (shown j)) → OnErr r (t ≡ s)
     → IsCounted p → IsCounted (record { state = t; rules = declarations t.trees ks })

@@ -1,5 +1,6 @@
 -- The place of the first rule of a name.
 use Rattle.std.proofs.Common.{◌≡◌, ◌∙◌, sym, ap, refl, subst, ℕ, zero, suc, ◌+◌, ◌<◌, List, [], ◌∷◌, length, Option, Some, None, option_map, Bool, true, false, cond, if◌then◌else◌, arith, IfSome, IfNone}
+use Rattle.std.proofs.lemmas.Option.{none-some, same_Some}
 use Rattle.ft_items.specs.Good.{Good, equal_names}
 use Rattle.ft_items.proofs.Lists.{store_is}
 use Rattle.ft_kernel.specs.State.{State, place_of_name, rule_names}
@@ -23,20 +24,14 @@ first_by_place (d ∷ ds) n j = go (equal_names d.name n) (place_of_name (names 
     go false None h = h
     go false (Some k) h = let z : suc j + k ≡ j + suc k = omega arith in h ∙ ap (λ i. Some (i, rule_in ds k)) z
 
-none_some : (k : ℕ) → ◌≡◌ {A = Option ℕ} None (Some k) → ⊥
-none_some k e = cc
-
-some_some : (j k : ℕ) → ◌≡◌ {A = Option ℕ} (Some j) (Some k) → j ≡ k
-some_some j k e = cc
-
 place_less : (ns : List (List ℕ)) (n : List ℕ) (k : ℕ) → place_of_name ns n ≡ Some k → k < length ns
-place_less [] n k e = absurd (none_some k e)
+place_less [] n k e = absurd (none-some k e)
 place_less (m ∷ ns) n k e = go (equal_names m n) (place_of_name ns n) (place_less ns n) e
   where
     go : (b : Bool) (r : Option ℕ) → ((j : ℕ) → r ≡ Some j → j < length ns) → (if b then Some 0 else option_map suc r) ≡ Some k → k < length (m ∷ ns)
-    go true r h e = let z = some_some 0 k e in omega arith
-    go false None h e = absurd (none_some k e)
-    go false (Some j) h e = let z = some_some (suc j) k e in let l = h j refl in omega arith
+    go true r h e = let z = same_Some 0 k e in omega arith
+    go false None h e = absurd (none-some k e)
+    go false (Some j) h e = let z = same_Some (suc j) k e in let l = h j refl in omega arith
 
 length_names : (ds : List Declaration) → length (names ds) ≡ length ds
 length_names [] = refl

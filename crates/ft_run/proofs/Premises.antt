@@ -21,19 +21,12 @@ use Rattle.ft_run.specs.Running.{IsDeclared}
 use Rattle.ft_run.specs.Asking.{goal_of_new}
 use Rattle.ft_run.specs.Declaring.{first_number}
 use Rattle.ft_run.proofs.Keeping.{boundaries_kept, goals_fit, keeps_then, keeps_tell}
-use Rattle.ft_run.proofs.Forms.{goal_kept}
+use Rattle.ft_judge.specs.Laws.{goal_extends}
 use Rattle.ft_run.proofs.Going.{length_last, made_stays, none_more, same_metavariables}
-
--- what premises give, after others
-pub after_goals : Option (List (ℕ × Statement)) → List (ℕ × Statement) → Option (List (ℕ × Statement))
-after_goals o qs = option_map (λ ps. qs ++ ps) o
 
 -- the premises of a rule, by those that were asked for and those that are left
 abbrev pub IsAskedFor : List Declaration → ℕ → List Premise → ℕ → List Statement → Type 0
 IsAskedFor ds m ps i bs = premises_of ds m [] ps ≡ option_map (λ qs. numbered m bs ++ qs) (premises_of ds (m + i) (premise_names (take i ps)) (drop i ps))
-
-none_before : (m : ℕ) (o : Option (List (ℕ × Statement))) → before_premises m o None ≡ None
-none_before m o = refl
 
 -- the premises from one on, by its goal
 premises_from : (ds : List Declaration) (m : ℕ) (ns : List (List ℕ)) (p : Premise) (ps : List Premise)
@@ -91,14 +84,6 @@ asked_none ds m ps i p bs l e none h =
     let rest = premises_of ds (m + suc i) (premise_names (take (suc i) ps)) (drop (suc i) ps) in
     h ∙ ap (option_map (λ qs. numbered m bs ++ qs)) (left_next ds m ps i p l e ∙ ap (before_premises (m + i) rest) none)
 
--- no premise was asked for yet
-pub asked_first : (ds : List Declaration) (m : ℕ) (ps : List Premise) → IsAskedFor ds m ps 0 []
-asked_first ds m ps = let z : m ≡ m + 0 = omega arith in ap (λ k. premises_of ds k [] ps) z ∙ same (premises_of ds (m + 0) [] ps)
-  where
-    same : (o : Option (List (ℕ × Statement))) → o ≡ option_map (λ qs. [] ++ qs) o
-    same None = refl
-    same (Some qs) = refl
-
 -- no premise is left
 pub asked_all : (ds : List Declaration) (m : ℕ) (ps : List Premise) (i : ℕ) (bs : List Statement) → length ps ≤ i → IsAskedFor ds m ps i bs → premises_of ds m [] ps ≡ Some (numbered m bs)
 asked_all ds m ps i bs l h =
@@ -108,7 +93,7 @@ asked_all ds m ps i bs l h =
 
 pub goals_kept : (ts us : List Expression) → Extends ts us → (gs : List Goal) → AllFitGoals ts gs → goals_in us gs ≡ goals_in ts gs
 goals_kept ts us x [] h = refl
-goals_kept ts us x (g ∷ gs) h = ap₂ (λ c cs. c ∷ cs) (goal_kept ts us x g h.0.0) (goals_kept ts us x gs h.1)
+goals_kept ts us x (g ∷ gs) h = ap₂ (λ c cs. c ∷ cs) (goal_extends ts us g x h.0.0) (goals_kept ts us x gs h.1)
 
 fits_last : (ts : List Expression) (gs : List Goal) (g : Goal) → AllFitGoals ts gs → FitsGoal ts g → AllFitGoals ts (gs ++ g ∷ [])
 fits_last ts [] g h f = (f, tt)
@@ -148,11 +133,6 @@ premises_next p q ds m ps i r gs hs g goes f same l e long new a h =
     subst (IsAskedFor ds m ps (suc i)) all
     (asked_next ds m ps i r (boundaries_in p.state.trees gs) (goal_in q.state.trees g) l e (boundaries_length p.state.trees gs ∙ long) (ap (λ ds. goal_of_new ds (premise_names (take i ps)) r) (sym same) ∙ new) h)
 
-pub premises_none : (p : Progress) (ds : List Declaration) (m : ℕ) (ps : List Premise) (i : ℕ) (r : Premise) (gs : List Goal) → p.rules ≡ ds → i < length ps → r ≡ get_or ps i r
-    → goal_of_new p.rules (premise_names (take i ps)) r ≡ None → IsAskedFor ds m ps i (boundaries_in p.state.trees gs) → premises_of ds m [] ps ≡ None
-premises_none p ds m ps i r gs same l e new h =
-    asked_none ds m ps i r (boundaries_in p.state.trees gs) l e (ap (λ ds. goal_of_new ds (premise_names (take i ps)) r) (sym same) ∙ new) h
-
 -- The rule that is declared.
 
 pub first_made : (s : State) (m : ℕ) (gs : List Claim) (ms : List ℕ) → AreMade s m gs ms → AreMade s (first_number ms) gs ms
@@ -173,26 +153,6 @@ rule_is ds ps c m qs g e f h = ap₂ rule_by (ap (λ m. premises_of ds m [] ps) 
 pub rule_declared : (ds : List Declaration) (ps : List Premise) (c : Conclusion) (m : ℕ) (qs : List (ℕ × Statement)) (g : Claim) → m ≡ metavariable_count ds → premises_of ds m [] ps ≡ Some qs
     → goal_of_conclusion ds (premise_names ps) c ≡ Some g → nat_lt (length ds) 65536 ≡ true → declared ds ps c ≡ Some (record { premises = qs; conclusion = g })
 rule_declared ds ps c m qs g e f h b = ap₂ (λ b R. cond b R None) b (rule_is ds ps c m qs g e f h)
-
-nothing_declared : (ds : List Declaration) (ps : List Premise) (c : Conclusion) → rule_of ds ps c ≡ None → declared ds ps c ≡ None
-nothing_declared ds ps c e = ap (λ R. cond (nat_lt (length ds) 65536) R None) e ∙ go (nat_lt (length ds) 65536)
-  where
-    go : (b : Bool) → cond {A = Option Rule} b None None ≡ None
-    go true = refl
-    go false = refl
-
-no_conclusion : (o : Option (List (ℕ × Statement))) → rule_by o None ≡ None
-no_conclusion None = refl
-no_conclusion (Some qs) = refl
-
-pub premises_undeclared : (ds : List Declaration) (ps : List Premise) (c : Conclusion) (m : ℕ) → m ≡ metavariable_count ds → premises_of ds m [] ps ≡ None → declared ds ps c ≡ None
-premises_undeclared ds ps c m e f = nothing_declared ds ps c (ap (λ o. rule_by o (goal_of_conclusion ds (premise_names ps) c)) (ap (λ m. premises_of ds m [] ps) (sym e) ∙ f))
-
-pub conclusion_undeclared : (ds : List Declaration) (ps : List Premise) (c : Conclusion) → goal_of_conclusion ds (premise_names ps) c ≡ None → declared ds ps c ≡ None
-conclusion_undeclared ds ps c f = nothing_declared ds ps c (ap (rule_by (premises_of ds (metavariable_count ds) [] ps)) f ∙ no_conclusion (premises_of ds (metavariable_count ds) [] ps))
-
-pub full_undeclared : (ds : List Declaration) (ps : List Premise) (c : Conclusion) → nat_lt (length ds) 65536 ≡ false → declared ds ps c ≡ None
-full_undeclared ds ps c e = ap (λ b. cond b (rule_of ds ps c) None) e
 
 count_last : (ds : List Declaration) (d : Declaration) → metavariable_count (ds ++ d ∷ []) ≡ metavariable_count ds + length d.rule.premises
 count_last [] d = omega arith
@@ -261,9 +221,6 @@ counted_after (Ok x) o p q s t a n ms b m k l gs g count same kp kq more long st
 -- whatever the number of the first metavariable, the first i premises ask for so many boundaries
 abbrev pub AreWanted : List Declaration → List Premise → ℕ → Type 0
 AreWanted ds ps i = (m : ℕ) → (bs : List Statement) × (length bs ≡ i) × IsAskedFor ds m ps i bs
-
-pub wanted_first : (ds : List Declaration) (ps : List Premise) → AreWanted ds ps 0
-wanted_first ds ps m = ([], refl, asked_first ds m ps)
 
 pub wanted_next : (ds es : List Declaration) (ps : List Premise) (i : ℕ) (p : Premise) (g : Claim) → es ≡ ds → i < length ps → p ≡ get_or ps i p
     → goal_of_new es (premise_names (take i ps)) p ≡ Some g → AreWanted ds ps i → AreWanted ds ps (i + 1)

@@ -2,6 +2,7 @@
 use Rattle.std.proofs.Common.{◌≡◌, ◌≢◌, ◌∙◌, sym, ap, ap₂, refl, subst, ℕ, zero, suc, ◌≤◌, List, [], ◌∷◌, ◌++◌, length, drop, slice_get, Some, None, option_map, append_assoc, append-nil, arith, codes, encode_utf8_all, Result, Ok, Err, OnOk, OnErr}
 use Rattle.ft_theory.specs.Expressions.{Expression, bound, free, symbol, meta, Arguments, no_arguments, with_body, dummy}
 use Rattle.ft_syntax.specs.Arguments.{Argument, node_of, arguments_of, list_of_arguments, as_arguments}
+use Rattle.ft_syntax.specs.Laws.{arguments_listed}
 use Rattle.ft_syntax.specs.Table.{tree, argument_in}
 use Rattle.ft_syntax.specs.declared.syntax.Arg.{Arg}
 use Rattle.ft_syntax.specs.declared.syntax.Node.TheVariants.{Sym}
@@ -70,18 +71,13 @@ pub record IsWritten (ns : List (List ℕ)) (t : Expression) (i : ℕ) (old out 
   pub is : out ≡ old ++ part
   pub whole : part ++ left_text ns i (arguments_of t) ≡ expression_text ns t
 
-list_back : (a : Arguments) → as_arguments (list_of_arguments a) ≡ a
-list_back no_arguments = refl
-list_back (with_body n e a) = ap (with_body n e) (list_back a)
-list_back (dummy n a) = ap (dummy n) (list_back a)
-
 symbol_left : (ns : List (List ℕ)) (s : ℕ) (a : Arguments) → symbol_text ns s ++ left_text ns 0 (list_of_arguments a) ≡ expression_text ns (symbol s a)
 symbol_left ns s no_arguments = append-nil (symbol_text ns s)
 symbol_left ns s (with_body n e a) =
     let b = symbol_text ns s in
     let x = expression_text ns e in
     let r = rest_text ns a in
-    ap (λ a. b ++ (codes "(" ++ (x ++ (rest_text ns a ++ codes ")")))) (list_back a)
+    ap (λ a. b ++ (codes "(" ++ (x ++ (rest_text ns a ++ codes ")")))) (arguments_listed a)
     ∙ sym (append_assoc (b ++ codes "(" ++ x) r (codes ")") ∙ append_assoc (b ++ codes "(") x (r ++ codes ")") ∙ append_assoc b (codes "(") (x ++ (r ++ codes ")")))
 symbol_left ns s (dummy n a) = append-nil (symbol_text ns s)
 
@@ -214,7 +210,3 @@ later_err (Err f) old text more mid new e h = begins_later old text more mid new
 pub same_err : {A E : Type 0} (x : Result A E) (mid more new : List ℕ) → OnErr x (new ≡ mid) → OnErr x (HasBeginning mid more new)
 same_err (Ok a) mid more new e = tt
 same_err (Err f) mid more new e = begins_same mid more new e
-
--- a symbol without arguments is simple
-pub symbol_simple : (ts us : List Expression) (e s : ℕ) → tree us e ≡ symbol s no_arguments → ts ≡ us → IsSimple (tree ts e)
-symbol_simple ts us e s h x = subst IsSimple (sym h ∙ ap (λ ts. tree ts e) (sym x)) tt

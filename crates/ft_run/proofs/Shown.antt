@@ -1,5 +1,6 @@
 -- What has an entry that rests on nothing is derivable over the declared rules.
 use Rattle.std.proofs.Common.{◌≡◌, ◌∙◌, sym, ap, refl, subst, ℕ, zero, suc, List, [], ◌∷◌, ◌++◌, Option, Some, None, append_assoc, append-nil}
+use Rattle.std.proofs.lemmas.Option.{none-some, same_Some}
 use Rattle.ft_theory.specs.Statements.{Claim, plain}
 use Rattle.ft_theory.specs.Rules.{Rule}
 use Rattle.ft_theory.specs.Steps.{Prim}
@@ -22,21 +23,15 @@ record Placed (items : List Item) (a : Assertion) : Type 0 where
   pub split : items ≡ before ++ (entry this ∷ after)
   pub is : record { statement = this.statement; set = this.set } ≡ a
 
-none_some : {A : Type 0} (a : A) → ◌≡◌ {A = Option A} None (Some a) → ⊥
-none_some a e = cc
-
-some_some : {A : Type 0} (a b : A) → ◌≡◌ {A = Option A} (Some a) (Some b) → a ≡ b
-some_some a b e = cc
-
 later : (i : Item) (items : List Item) (a : Assertion) → Placed items a → Placed (i ∷ items) a
 later i items a x = record { before = i ∷ x.before; after = x.after; this = x.this; split = ap (λ js. i ∷ js) x.split; is = x.is }
 
 placed : (items : List Item) (j : ℕ) (a : Assertion) → nth (entries_in items) j ≡ Some a → Placed items a
-placed [] j a h = absurd (none_some a h)
+placed [] j a h = absurd (none-some a h)
 placed (variable v n p ∷ items) j a h = later (variable v n p) items a (placed items j a h)
 placed (metavariable n p ∷ items) j a h = later (metavariable n p) items a (placed items j a h)
 placed (rule n ms p ∷ items) j a h = later (rule n ms p) items a (placed items j a h)
-placed (entry e ∷ items) zero a h = record { before = []; after = items; this = e; split = refl; is = some_some (record { statement = e.statement; set = e.set }) a h }
+placed (entry e ∷ items) zero a h = record { before = []; after = items; this = e; split = refl; is = same_Some (record { statement = e.statement; set = e.set }) a h }
 placed (entry e ∷ items) (suc j) a h = later (entry e) items a (placed items j a h)
 placed (shown p ∷ items) j a h = later (shown p) items a (placed items j a h)
 

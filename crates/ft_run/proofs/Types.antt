@@ -1,5 +1,5 @@
 -- What premises and conclusions ask for, part by part.
-use Rattle.std.proofs.Common.{◌≡◌, ◌∙◌, sym, ap, ap₂, refl, subst, ℕ, suc, ◌<◌, List, [], ◌∷◌, map, length, Option, Some, None, option_map, option_and_then, Bool, true, false, cond, ◌&&◌, not, nat_eq, ◌+◌, drop, get_or, arith}
+use Rattle.std.proofs.Common.{◌≡◌, ◌∙◌, sym, ap, refl, subst, ℕ, suc, ◌<◌, List, [], ◌∷◌, length, Option, Some, None, option_map, option_and_then, Bool, true, false, cond, ◌&&◌, not, nat_eq, ◌+◌, drop, get_or, arith}
 use Rattle.std.specs.Str.{bytes_eq}
 use Rattle.std.proofs.Math.Seq.{drop-cons}
 use Rattle.ft_theory.specs.Statements.{Claim, is_type, has_type, equal_types, equal_terms, type_goal, term_goal, type_equation_goal, term_equation_goal, plain}
@@ -12,19 +12,10 @@ use Rattle.ft_judge.specs.declared.judgement.Goal.{Goal}
 use Rattle.ft_kernel.specs.State.{State}
 use Rattle.ft_applications.specs.declared.syntax.Application.{Application}
 use Rattle.ft_applications.specs.declared.syntax.Premise.{Premise}
-use Rattle.ft_applications.specs.declared.syntax.Application.TheOpen.{Application-F}
-use Rattle.ft_applications.specs.declared.syntax.Application.TheFolds.{fold-roll-Application}
-use Rattle.ft_applications.specs.declared.syntax.Application as opened
-use Rattle.ft_applications.specs.declared.syntax.Application.TheVariants as application
-use Rattle.ft_applications.specs.Building.{Declaration, claim_of, avoids, avoids_in_layer, all_true, type_claimed, name_of_premise, premise_names}
+use Rattle.ft_applications.specs.Building.{Declaration, claim_of, avoids, type_claimed, name_of_premise, premise_names}
 use Rattle.ft_run.specs.Session.{IsSimpleClaim, HasEntry, IsClaimed}
-use Rattle.ft_run.specs.Asking.{HasType, IsAsked, IsTypeOf, goal_of_type}
+use Rattle.ft_run.specs.Asking.{HasType, IsGoalAsked, IsTypeOf, goal_of_type}
 use Rattle.ft_run.proofs.Accepted.{entry_there}
-
--- an application avoids names where its name does and its arguments do
-pub avoids_apply : (ns : List (List ℕ)) (n : List ℕ) (as' : List Application) → avoids ns (application.Apply n as') ≡ (is_new ns n && all_true (map (avoids ns) as'))
-unfolding opened.roll-Application denote.Hole.Carrier.roll
-avoids_apply ns n as' = fold-roll-Application Bool (avoids_in_layer ns) (Application-F.Apply n as')
 
 -- the boundary of a type
 type_allowed : (s : State) (g : Claim) → HasType s g None → Allowed s.items (entry (record { statement = plain g; set = []; step = by_btype }))
@@ -48,16 +39,16 @@ term_allowed s j (term_goal A) h = ap (λ o. option_and_then (given (store_of s.
 term_allowed s j (type_equation_goal A B) h = absurd h
 term_allowed s j (term_equation_goal t u A) h = absurd h
 
-pub asks_type : (s : State) (g : Goal) (o : Option ℕ) → IsAsked s g o → o ≡ None → Allowed s.items (entry (record { statement = plain (goal_in s.trees g); set = []; step = by_btype }))
+pub asks_type : (s : State) (g : Goal) (o : Option ℕ) → IsGoalAsked s g o → o ≡ None → Allowed s.items (entry (record { statement = plain (goal_in s.trees g); set = []; step = by_btype }))
 asks_type s g o h e = type_allowed s (goal_in s.trees g) (subst (HasType s (goal_in s.trees g)) e h.1)
 
-pub asks_term : (s : State) (g : Goal) (o : Option ℕ) (j : ℕ) → IsAsked s g o → o ≡ Some j → Allowed s.items (entry (record { statement = plain (goal_in s.trees g); set = []; step = by_bterm j }))
+pub asks_term : (s : State) (g : Goal) (o : Option ℕ) (j : ℕ) → IsGoalAsked s g o → o ≡ Some j → Allowed s.items (entry (record { statement = plain (goal_in s.trees g); set = []; step = by_bterm j }))
 asks_term s g o j h e = term_allowed s j (goal_in s.trees g) (subst (HasType s (goal_in s.trees g)) e h.1)
 
 -- a type that is claimed is that of a term that is asked for
-pub is_asked : (s : State) (j : ℕ) (f : Form) (g : Goal) → IsClaimed s (record { entry = j; form = f }) → IsTypeOf f g → IsAsked s g (Some j)
-is_asked s j f g h t =
-    subst (λ g. IsAsked s g (Some j)) (sym t.2) (
+pub goal_asked : (s : State) (j : ℕ) (f : Form) (g : Goal) → IsClaimed s (record { entry = j; form = f }) → IsTypeOf f g → IsGoalAsked s g (Some j)
+goal_asked s j f g h t =
+    subst (λ g. IsGoalAsked s g (Some j)) (sym t.2) (
       (subst (FormBelow (length s.trees)) t.1 h.below, subst (λ f. IsSimpleClaim (claim_in s.trees f)) t.1 h.simple),
       subst (λ f. HasEntry s j (claim_in s.trees f)) t.1 h.entry,
     )
@@ -73,11 +64,6 @@ taken_unasked ds ns a b e f = ap (λ b. option_map term_goal (cond b (type_claim
 -- nothing is claimed
 pub none_unasked : (ds : List Declaration) (ns : List (List ℕ)) (a : Application) → claim_of ds a ≡ None → goal_of_type ds ns a ≡ None
 none_unasked ds ns a h = ap (λ o. option_map term_goal (cond (avoids ns a) (type_claimed o) None)) h ∙ nothing_asked (avoids ns a)
-
--- a claim of a type, or of none
-pub claim_asked : (ds : List Declaration) (ns : List (List ℕ)) (a : Application) (c : Claim) (g : Option Claim) (b : Bool) → b ≡ avoids ns a → b ≡ true → claim_of ds a ≡ Some c
-    → option_map term_goal (type_claimed (Some c)) ≡ g → goal_of_type ds ns a ≡ g
-claim_asked ds ns a c g b e t h f = ap₂ (λ b o. option_map term_goal (cond b (type_claimed o) None)) (sym e ∙ t) h ∙ f
 
 -- Names that are taken, or not.
 

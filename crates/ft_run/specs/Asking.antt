@@ -20,8 +20,8 @@ HasType s (term_goal A) (Some j) = HasEntry s j (is_type A)
 HasType s g o = ⊥
 
 -- what is asked for fits the table, and its type has its entry
-abbrev pub IsAsked : State → Goal → Option ℕ → Type 0
-IsAsked s g o = FitsGoal s.trees g × HasType s (goal_in s.trees g) o
+abbrev pub IsGoalAsked : State → Goal → Option ℕ → Type 0
+IsGoalAsked s g o = FitsGoal s.trees g × HasType s (goal_in s.trees g) o
 
 -- the goal of a term of the type that the form claims
 abbrev pub IsTypeOf : Form → Goal → Type 0

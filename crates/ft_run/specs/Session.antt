@@ -107,9 +107,9 @@ AreClaimed s [] = Unit {0}
 AreClaimed s (x ∷ xs) = IsClaimed s x × AreClaimed s xs
 
 -- what is claimed is over the first n trees
-abbrev pub AllBelow : ℕ → List Claimed → Type 0
-AllBelow n [] = Unit {0}
-AllBelow n (x ∷ xs) = FormBelow n x.form × AllBelow n xs
+abbrev pub AllClaimsBelow : ℕ → List Claimed → Type 0
+AllClaimsBelow n [] = Unit {0}
+AllClaimsBelow n (x ∷ xs) = FormBelow n x.form × AllClaimsBelow n xs
 
 -- the claims of a list
 abbrev pub claims_in : List Expression → List Claimed → List Claim

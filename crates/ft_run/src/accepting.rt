@@ -12,6 +12,7 @@ ghost use Rattle.ft_run.specs.Session.{FitsGoal, AllFitGoals, FitsKnown, AreMade
 
 use crate::session::{Known, Session};
 use ft_applications::Fault;
+use ft_base::limits::MAX_RULES;
 use ft_base::{Memory, Name};
 use ft_judge::Goal;
 use ft_kernel::{B, Metavariables, RuleItem};
@@ -35,11 +36,11 @@ impl Session {
         ensures rules { OnOk result (self.new.rules ≡ self.old.rules ++ (record { name = name; rule = record { premises = numbered first (boundaries_in self.old.state.trees goals.items); conclusion = goal_in self.old.state.trees conclusion } }) ∷ []) }
         ensures state { OnOk result (self.new.state ≡ with_item self.old.state (rule name premises b)) }
         ensures told { OnOk result (told self.new.state.items ≡ told self.old.state.items ++ declares name (record { premises = numbered first (boundaries_in self.old.state.trees goals.items); conclusion = goal_in self.old.state.trees conclusion }) ∷ []) }
-        ensures room { OnOk result (nat_lt (length self.old.rules) 65536 ≡ true) }
-        ensures none { IsErrOf result fault.NotYet → nat_lt (length self.old.rules) 65536 ≡ false }
+        ensures room { OnOk result (nat_lt (length self.old.rules) MAX_RULES ≡ true) }
+        ensures none { IsErrOf result fault.NotYet → nat_lt (length self.old.rules) MAX_RULES ≡ false }
         ensures err { OnErr result (self.new ≡ self.old) }
     {
-        if self.known.len() >= 65536 {
+        if self.known.len() as u64 >= MAX_RULES {
             return Err(Fault::NotYet);
         }
         let known = Known {
@@ -55,7 +56,7 @@ impl Session {
     // One more rule, of a new name.
     fn add(&mut self, known: Known, premises: Metavariables, b: B) -> Result<(), Memory>
         requires new { is_new (names self.old.rules) known.name ≡ true }
-        requires room { length self.old.rules < 65536 }
+        requires room { length self.old.rules < MAX_RULES }
         requires fits { FitsKnown self.old.state.trees known }
         requires made { AreMade self.old.state known.first (goals_in self.old.state.trees known.premises.items) premises }
         requires entry { HasEntry self.old.state b (goal_in self.old.state.trees known.conclusion) }

@@ -14,7 +14,7 @@ ghost use Rattle.ft_applications.specs.Histories.{IsStepOfApplications};
 ghost use Rattle.ft_applications.specs.Building.{type_claimed, avoids, name_of_premise, premise_names, goal_of_premise, goal_of_conclusion};
 ghost use Rattle.ft_applications.specs.declared.fault.Fault.TheVariants as fault;
 ghost use Rattle.ft_run.specs.Session.{Keeps, GoesOn, FitsGoal, HasEntry, HasMet};
-ghost use Rattle.ft_run.specs.Asking.{IsAsked, IsTypeOf, HasGoal, goal_of_type, goal_of_new};
+ghost use Rattle.ft_run.specs.Asking.{IsGoalAsked, IsTypeOf, HasGoal, goal_of_type, goal_of_new};
 
 use crate::claiming::parts;
 use crate::session::{Claimed, Session};
@@ -119,7 +119,7 @@ impl Session {
     // The boundary of what is asked for.
     #[tactic(auto, using(crate::proofs::Types::asks_type, crate::proofs::Types::asks_term))]
     pub(crate) fn boundary(&mut self, goal: &Goal, ty: Option<J>) -> Result<B, Memory>
-        requires { IsAsked self.old.state goal.now ty }
+        requires { IsGoalAsked self.old.state goal.now ty }
         ensures entry { IfOk result (λ b. HasEntry self.new.state b (goal_in self.old.state.trees goal.now)) }
         ensures trees { self.new.state.trees ≡ self.old.state.trees }
         ensures keeps { Keeps self.old self.new }
@@ -149,9 +149,9 @@ impl Session {
     }
 
     // A term of the type that an expression is, whose names are none of the premises'.
-    #[tactic(auto, using(crate::proofs::Types::taken_unasked, crate::proofs::Types::none_unasked, crate::proofs::Types::is_asked))]
+    #[tactic(auto, using(crate::proofs::Types::taken_unasked, crate::proofs::Types::none_unasked, crate::proofs::Types::goal_asked))]
     fn typed(&mut self, taken: &[Premise], a: &Application) -> Result<Asked, Fault>
-        ensures asked { IfOk result (λ x. IsAsked self.new.state x.goal x.ty) }
+        ensures asked { IfOk result (λ x. IsGoalAsked self.new.state x.goal x.ty) }
         ensures goal { IfOk result (λ x. goal_of_type self.old.rules (premise_names taken.now) a.now ≡ Some (goal_in self.new.state.trees x.goal)) }
         ensures none { IsErrOf result fault.NotYet → goal_of_type self.old.rules (premise_names taken.now) a.now ≡ None }
         ensures keeps { Keeps self.old self.new }
@@ -169,7 +169,7 @@ impl Session {
 
     // What a premise asks for.
     fn asked(&mut self, taken: &[Premise], premise: &Premise) -> Result<Asked, Fault>
-        ensures asked { IfOk result (λ x. IsAsked self.new.state x.goal x.ty) }
+        ensures asked { IfOk result (λ x. IsGoalAsked self.new.state x.goal x.ty) }
         ensures goal { IfOk result (λ x. goal_of_premise self.old.rules (premise_names taken.now) premise.now ≡ Some (goal_in self.new.state.trees x.goal)) }
         ensures none { IsErrOf result fault.NotYet → goal_of_premise self.old.rules (premise_names taken.now) premise.now ≡ None }
         ensures keeps { Keeps self.old self.new }
@@ -186,7 +186,7 @@ impl Session {
         premises: &[Premise],
         conclusion: &Conclusion,
     ) -> Result<Asked, Fault>
-        ensures asked { IfOk result (λ x. IsAsked self.new.state x.goal x.ty) }
+        ensures asked { IfOk result (λ x. IsGoalAsked self.new.state x.goal x.ty) }
         ensures goal { IfOk result (λ x. goal_of_conclusion self.old.rules (premise_names premises.now) conclusion.now ≡ Some (goal_in self.new.state.trees x.goal)) }
         ensures none { IsErrOf result fault.NotYet → goal_of_conclusion self.old.rules (premise_names premises.now) conclusion.now ≡ None }
         ensures keeps { Keeps self.old self.new }
@@ -199,7 +199,7 @@ impl Session {
 
     // What a premise asks for, where its name is none of those before it.
     pub(crate) fn wanted(&mut self, taken: &[Premise], premise: &Premise) -> Result<Asked, Fault>
-        ensures asked { IfOk result (λ x. IsAsked self.new.state x.goal x.ty) }
+        ensures asked { IfOk result (λ x. IsGoalAsked self.new.state x.goal x.ty) }
         ensures goal { IfOk result (λ x. goal_of_new self.old.rules (premise_names taken.now) premise.now ≡ Some (goal_in self.new.state.trees x.goal)) }
         ensures none { IsErrOf result fault.NotYet → goal_of_new self.old.rules (premise_names taken.now) premise.now ≡ None }
         ensures keeps { Keeps self.old self.new }

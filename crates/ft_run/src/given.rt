@@ -6,7 +6,7 @@ ghost use Rattle.ft_theory.specs.Statements.{fill_goal, type_goal, term_goal};
 ghost use Rattle.ft_items.specs.Equal.{fits_goal};
 ghost use Rattle.ft_syntax.specs.Table.{tree};
 ghost use Rattle.ft_judge.specs.Meaning.{claim_in, goal_in, FormBelow, GoalBelow};
-ghost use Rattle.ft_run.specs.Session.{AllFitGoals, FitsGoal, AllBelow};
+ghost use Rattle.ft_run.specs.Session.{AllFitGoals, FitsGoal, AllClaimsBelow};
 ghost use Rattle.ft_run.specs.Given.{argument_of, fits_goals, fits_one};
 
 use crate::session::Claimed;
@@ -94,7 +94,7 @@ fn fits(terms: &Terms, goal: Goal, form: Form) -> bool
 #[tactic(auto, using(crate::proofs::Fitting::goal_at, crate::proofs::Fitting::form_at, crate::proofs::Fitting::other_length, crate::proofs::Fitting::fits_next, crate::proofs::Fitting::fits_not, crate::proofs::Fitting::fits_end))]
 pub(crate) fn all_fit(terms: &Terms, goals: &[Goal], given: &[Claimed]) -> bool
     requires goals { AllFitGoals terms.now goals.now }
-    requires given { AllBelow (length terms.now) given.now }
+    requires given { AllClaimsBelow (length terms.now) given.now }
     ensures { result ≡ fits_goals terms.now goals.now given.now }
 {
     if goals.len() != given.len() {

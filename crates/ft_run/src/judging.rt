@@ -13,13 +13,14 @@ use crate::asking::Asked;
 use crate::session::{Claimed, Session};
 use ft_applications::{Command, Conclusion, Fault, Premise};
 use ft_base::Name;
+use ft_base::limits::MAX_RULES;
 
 impl Session {
     // Whether there is room for one more rule.
     fn has_room(&self) -> bool
-        ensures { result ≡ nat_lt (length self.now.rules) 65536 }
+        ensures { result ≡ nat_lt (length self.now.rules) MAX_RULES }
     {
-        self.known.len() < 65536
+        (self.known.len() as u64) < MAX_RULES
     }
 
     // Whether premises ask for something; no metavariables are made for them.

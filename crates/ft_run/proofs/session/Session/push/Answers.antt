@@ -1,12 +1,8 @@
-use Rattle.std.proofs.Common.{◌≡◌, ap₂, subst, IfOk, [], ℕ, List}
-use Rattle.ft_theory.specs.Statements.{plain}
-use Rattle.ft_items.specs.Item.{Entry}
-use Rattle.ft_items.specs.Sets.{Atom}
-use Rattle.ft_judge.specs.Meaning.{claim_in, under}
+use Rattle.std.proofs.Common.{subst, IfOk}
+use Rattle.ft_judge.specs.Meaning.{claim_in}
 use Rattle.ft_kernel.specs.Steps.{step_of}
-use Rattle.ft_kernel.specs.State.{State}
 use Rattle.ft_run.specs.Session.{HasEntry}
-use Rattle.ft_run.proofs.Keeping.{HasEntryOf, session_after, keeps_after, entry_after}
+use Rattle.ft_run.proofs.Keeping.{session_after, keeps_after, entry_pushed}
 use Rattle.ft_run.proofs.session.Session.push.Goals as goal
 
 pub invariant_of-self : goal.invariant_of-self
@@ -15,13 +11,9 @@ invariant_of-self c =
 
 pub returns-clause-entry : goal.returns-clause-entry
 returns-clause-entry c =
-    let s : State = c.self.inside.kernel in
-    let pushed : Entry = record { statement = plain (claim_in s.trees c.args.form.now); set = []; step = step_of c.args.step } in
-    let same : record { statement = under s.trees c.new.result (plain (claim_in s.trees c.args.form.now)); set = c.new-2.result; step = step_of c.args.step } ≡ pushed =
-    ap₂ (λ (As : List ℕ) (S : List Atom). record { statement = under s.trees As (plain (claim_in s.trees c.args.form.now)); set = S; step = step_of c.args.step }) c.new.ensures c.new-2.ensures in
     subst (λ p. IfOk c.push_judgement.result (λ j. HasEntry c.push_judgement.new.self j (claim_in p.state.trees c.args.form.now))) c.self.view_is
-    (subst (λ (e : Entry). IfOk c.push_judgement.result (λ j. HasEntryOf c.push_judgement.new.self j e)) same
-    (entry_after c.push_judgement.result s c.push_judgement.new.self _ c.push_judgement.ensures.number c.push_judgement.ensures.list))
+    (entry_pushed c.push_judgement.result c.self.inside.kernel c.push_judgement.new.self (claim_in c.self.inside.kernel.trees c.args.form.now) c.new.result c.new-2.result (step_of c.args.step) c.new.ensures c.new-2.ensures
+    c.push_judgement.ensures.number c.push_judgement.ensures.list)
 
 pub returns-clause-keeps : goal.returns-clause-keeps
 returns-clause-keeps c =

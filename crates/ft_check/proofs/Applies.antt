@@ -23,8 +23,8 @@ use Rattle.ft_check.proofs.Fits.{each_at, each_length}
 use Rattle.ft_common.proofs.Options.{none_some}
 use Rattle.ft_check.proofs.GoalsTaken.{KnownRule, rule_gone, rule_known}
 
-pub rule_named : (W : Store) (r : ℕ) (R : ℕ × Rule) → rule_named W r ≡ Some R → (r ≡ R.0) × (rule_at W.rules r ≡ Some R.1)
-rule_named W r R h = go (rule_at W.rules r) refl h
+pub named_rule_stands : (W : Store) (r : ℕ) (R : ℕ × Rule) → rule_named W r ≡ Some R → (r ≡ R.0) × (rule_at W.rules r ≡ Some R.1)
+named_rule_stands W r R h = go (rule_at W.rules r) refl h
   where
     go : (o : Option Rule) → rule_at W.rules r ≡ o → option_map (λ Q. (r, Q)) o ≡ Some R → (r ≡ R.0) × (rule_at W.rules r ≡ Some R.1)
     go None e h = none_some h
@@ -34,10 +34,10 @@ rule_named W r R h = go (rule_at W.rules r) refl h
 
 -- A rule of a good list is read by its line, and its goal by the entry of the conclusion.
 pub no_rule : {P : Type 0} (items : List Item) (r : ℕ) (R : ℕ × Rule) → Good items → rule_named (store_of items) r ≡ Some R → None ≡ option_map line_of (nth (rules_in items) r) → P
-no_rule items r R g e h = rule_gone items r R.1 g (rule_named (store_of items) r R e).1 h
+no_rule items r R g e h = rule_gone items r R.1 g (named_rule_stands (store_of items) r R e).1 h
 
 known : (items : List Item) (r : ℕ) (ms : List ℕ) (p : ℕ) (R : ℕ × Rule) → Good items → rule_named (store_of items) r ≡ Some R → Some (ms, p) ≡ option_map line_of (nth (rules_in items) r) → KnownRule (store_of items) ms p R.1
-known items r ms p R g e h = rule_known items r ms p R.1 g (rule_named (store_of items) r R e).1 h
+known items r ms p R g e h = rule_known items r ms p R.1 g (named_rule_stands (store_of items) r R e).1 h
 
 pub no_goal_found : {P : Type 0} (items : List Item) (r : ℕ) (ms : List ℕ) (p : ℕ) (R : ℕ × Rule) → Good items → rule_named (store_of items) r ≡ Some R → Some (ms, p) ≡ option_map line_of (nth (rules_in items) r) → None ≡ entry_named (store_of items) p → P
 no_goal_found items r ms p R g e h q = let k = known items r ms p R g e h in none_some (q ∙ k.line.is)
@@ -60,7 +60,7 @@ pub rule_read : (ts : List Expression) (items : List Item) (r : ℕ) (x : RuleAt
 rule_read ts items r x ms p R a g e h q f s m =
     let k = known items r ms p R g e h in
     record {
-      number = s ∙ (rule_named (store_of items) r R e).0;
+      number = s ∙ (named_rule_stands (store_of items) r R e).0;
       declared = k.line.premises;
       are = ap (each (metavariable_named (store_of items))) m ∙ k.line.are;
       premises = k.premises;

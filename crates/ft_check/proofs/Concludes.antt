@@ -1,6 +1,5 @@
 -- The conclusion of a rule at arguments, filled with its symbol.
-use Rattle.std.proofs.Common.{◌≡◌, ℕ, Bool, true, false, ◌&&◌, cond, Option, Some, None, List, [], ◌∷◌, refl, sym, ap, ap₂, ◌∙◌, subst}
-use Rattle.std.specs.Cmp.{both_ways}
+use Rattle.std.proofs.Common.{◌≡◌, ℕ, Bool, true, false, ◌&&◌, cond, Option, Some, None, List, [], ◌∷◌, refl, sym, ap, ap₂, ◌∙◌}
 use Rattle.std.proofs.Math.Bool.{and_comm, and-true}
 use Rattle.std.proofs.lemmas.Option.{same_Some}
 use Rattle.ft_theory.specs.Expressions.{Expression}
@@ -10,7 +9,7 @@ use Rattle.ft_items.specs.Sets.{Atom, same_set}
 use Rattle.ft_items.specs.Equal.{equal_expressions, equal_claims, equal_statements, fits_goal}
 use Rattle.ft_items.specs.Rows.{when}
 use Rattle.ft_items.specs.Good.{Reject as Reason, Premise as premise, Conclusion as conclusion, Set as set, reason_of_result, unless}
-use Rattle.ft_sound.proofs.EqualLemmas.{expression_true, expression_self}
+use Rattle.ft_sound.proofs.EqualLemmas.{equal_back}
 use Rattle.ft_syntax.specs.Table.{tree}
 use Rattle.ft_judge.specs.Meaning.{under, claim_in, goal_in, thesis_in, boundary_in, head_of_form}
 use Rattle.ft_judge.specs.declared.judgement.Form.{Form}
@@ -21,12 +20,6 @@ use Rattle.ft_judge.specs.declared.judgement.Thesis.{Thesis as ThesisValue}
 use Rattle.ft_judge.specs.declared.judgement.Boundary.{Boundary as BoundaryValue}
 use Rattle.ft_check.specs.Comparing.{head_same}
 use Rattle.ft_check.specs.Entries.{is_nil}
-
-equal_back : (e f : Expression) → equal_expressions e f ≡ equal_expressions f e
-equal_back e f = both_ways (equal_expressions e f) (equal_expressions f e) (go e f) (go f e)
-  where
-    go : (e f : Expression) → equal_expressions e f ≡ true → equal_expressions f e ≡ true
-    go e f h = subst (λ x. equal_expressions x e ≡ true) (expression_true e f h) (expression_self e)
 
 -- where a form has no head, or its head is not the same
 pub no_head : (ts : List Expression) (h : Expression) (f : Form) → head_of_form f ≡ None → true ≡ head_same ts h f

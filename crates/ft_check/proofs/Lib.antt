@@ -1,7 +1,7 @@
 mod Standing
 mod Basics
 mod OfKind
-mod SetTests
+mod OfSets
 mod Reasons
 mod Naming
 mod Premises

@@ -13,7 +13,7 @@ use Rattle.ft_syntax.specs.Instances.{body_for, instance_in, PairsBelow}
 use Rattle.ft_syntax.specs.Table.{tree, Extends, arguments_in}
 use Rattle.ft_syntax.specs.declared.syntax.Arg.{Arg}
 use Rattle.ft_check.specs.Comparing.{paired}
-use Rattle.ft_check.proofs.Results.{by_equal}
+use Rattle.ft_sound.proofs.EqualLemmas.{by_equal}
 
 -- What is found is small, and so no instance that is not.
 pub too_big_differs : (e f : Expression) → IsSmall e → (IsSmall f → ⊥) → false ≡ equal_expressions e f

@@ -8,7 +8,6 @@ use Rattle.ft_items.specs.Sets.{Atom, same_set, has, is_within, Has, Ascending}
 use Rattle.ft_items.specs.Equal.{equal_expressions, equal_statements}
 use Rattle.ft_items.specs.Rows.{term_boundary}
 use Rattle.ft_items.proofs.SetLemmas.{both, both_true, by_bool, same_set_true, same_set_self, has_false, within_true, ascending_equal}
-use Rattle.ft_sound.proofs.EqualLemmas.{expression_true, expression_self}
 use Rattle.ft_assume.specs.Atoms.{atom_of, atoms_of}
 use Rattle.ft_assume.specs.declared.atom.Atom.{Atom as AtomValue}
 use Rattle.ft_syntax.specs.Table.{tree}
@@ -20,12 +19,6 @@ use Rattle.ft_judge.specs.declared.judgement.Goal.TheVariants as goal
 use Rattle.ft_judge.specs.declared.judgement.Thesis.{Thesis as ThesisValue}
 use Rattle.ft_judge.specs.declared.judgement.Boundary.{Boundary as BoundaryValue}
 use Rattle.ft_check.specs.Entries.{is_nil}
-
--- a test that decides whether expressions are the same is the definition's
-pub by_equal : (e f : Expression) (b : Bool) → (IsTrue b ↔ (e ≡ f)) → b ≡ equal_expressions e f
-by_equal e f b h = both_ways b (equal_expressions e f)
-    (λ yes. subst (λ g. equal_expressions e g ≡ true) (h.0 yes) (expression_self e))
-    (λ yes. h.1 (expression_true e f yes))
 
 -- sets with the same atoms
 has_each : (S R : List Atom) → ((a : Atom) → Has a S → Has a R) → is_within S R ≡ true

@@ -33,7 +33,7 @@ fn is_type_goal(b: &Boundary) -> bool
 }
 
 // Whether the boundary is that of a term of the type.
-#[tactic(auto, using(crate::proofs::Results::by_equal, crate::proofs::Results::term_goal_is, crate::proofs::Results::no_term_goal))]
+#[tactic(auto, using(ft_sound::proofs::EqualLemmas::by_equal, crate::proofs::Results::term_goal_is, crate::proofs::Results::no_term_goal))]
 fn is_term_goal(terms: &Terms, b: &Boundary, ty: E) -> bool
     requires boundary { BoundaryBelow (length terms.now) b.now }
     requires ty { ty < length terms.now }

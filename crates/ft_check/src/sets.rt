@@ -15,7 +15,7 @@ fn is_listed(m: u64, ms: &[u64]) -> bool
 }
 
 // Whether the atom is one of the metavariables.
-#[tactic(auto, using(crate::proofs::SetTests::no_variable))]
+#[tactic(auto, using(crate::proofs::OfSets::no_variable))]
 fn is_one_of(a: Atom, ms: &[u64]) -> bool
     ensures { result ≡ list_any (λ n. same_atom (atom_of a) (met n)) ms.now }
 {
@@ -32,7 +32,7 @@ fn are_among(atoms: &[Atom], ms: &[u64]) -> bool
 }
 
 /// Whether each atom of the set is one of the metavariables.
-#[tactic(auto, using(crate::proofs::SetTests::within_all))]
+#[tactic(auto, using(crate::proofs::OfSets::within_all))]
 pub fn is_within(set: &Assume, ms: &[u64]) -> bool
     ensures { result ≡ within set.now (map met ms.now) }
 {
@@ -55,7 +55,7 @@ fn are_metavariables(atoms: &[Atom]) -> bool
 }
 
 /// Whether no variable is in the set.
-#[tactic(auto, using(crate::proofs::SetTests::metavariables_all))]
+#[tactic(auto, using(crate::proofs::OfSets::metavariables_all))]
 pub fn has_no_variable(set: &Assume) -> bool
     ensures { result ≡ metavariables_only set.now }
 {
@@ -63,7 +63,7 @@ pub fn has_no_variable(set: &Assume) -> bool
 }
 
 /// Whether no metavariable stands twice.
-#[tactic(auto, using(crate::proofs::SetTests::differ_next, crate::proofs::SetTests::differ_not, crate::proofs::SetTests::differ_end))]
+#[tactic(auto, using(crate::proofs::OfSets::differ_next, crate::proofs::OfSets::differ_not, crate::proofs::OfSets::differ_end))]
 pub fn differ(ms: &[u64]) -> bool
     ensures { result ≡ all_differ (map met ms.now) }
 {

@@ -1,5 +1,6 @@
 use Rattle.ft_syntax.specs.Table.{tree}
-use Rattle.ft_check.proofs.Results.{by_equal, term_goal_test}
+use Rattle.ft_sound.proofs.EqualLemmas.{by_equal}
+use Rattle.ft_check.proofs.Results.{term_goal_test}
 use Rattle.std.proofs.Common.{◌∙◌, sym}
 use Rattle.ft_check.proofs.boundaries.is_term_goal.Goals as goal
 

@@ -1,7 +1,7 @@
 use Rattle.std.proofs.Common.{◌∙◌, ◌+◌, ap, refl, get_or, nat_eq}
 use Rattle.std.specs.List.{list_any}
 use Rattle.std.proofs.lemmas.List.{take_rest}
-use Rattle.ft_check.proofs.SetTests.{differ_next, differ_not}
+use Rattle.ft_check.proofs.OfSets.{differ_next, differ_not}
 use Rattle.ft_check.proofs.sets.differ.Goals as goal
 
 pub returns-then-is_listed : goal.returns-then-is_listed

@@ -1,5 +1,5 @@
 use Rattle.std.proofs.Common.{◌∙◌}
-use Rattle.ft_check.proofs.SetTests.{metavariables_all}
+use Rattle.ft_check.proofs.OfSets.{metavariables_all}
 use Rattle.ft_check.proofs.sets.has_no_variable.Goals as goal
 
 pub returns : goal.returns

@@ -1,4 +1,4 @@
-use Rattle.ft_check.proofs.SetTests.{no_variable}
+use Rattle.ft_check.proofs.OfSets.{no_variable}
 use Rattle.ft_check.proofs.sets.is_one_of.Goals as goal
 
 pub returns-in-Var : goal.returns-in-Var

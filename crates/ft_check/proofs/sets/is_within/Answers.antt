@@ -1,5 +1,5 @@
 use Rattle.std.proofs.Common.{◌∙◌}
-use Rattle.ft_check.proofs.SetTests.{within_all}
+use Rattle.ft_check.proofs.OfSets.{within_all}
 use Rattle.ft_check.proofs.sets.is_within.Goals as goal
 
 pub returns : goal.returns

@@ -8,23 +8,23 @@ use std::marker::{Model, PhantomData};
 
 /// What a thesis is named by.
 #[derive(Clone, Copy, Debug, PartialEq, Eq)]
-pub enum OfThesis {}
+pub struct OfThesis;
 
 /// What a boundary is named by.
 #[derive(Clone, Copy, Debug, PartialEq, Eq)]
-pub enum OfBoundary {}
+pub struct OfBoundary;
 
 /// What a variable is named by.
 #[derive(Clone, Copy, Debug, PartialEq, Eq)]
-pub enum OfVariable {}
+pub struct OfVariable;
 
 /// What a metavariable is named by.
 #[derive(Clone, Copy, Debug, PartialEq, Eq)]
-pub enum OfMetavariable {}
+pub struct OfMetavariable;
 
 /// What a rule is named by.
 #[derive(Clone, Copy, Debug, PartialEq, Eq)]
-pub enum OfRule {}
+pub struct OfRule;
 
 /// What names an item of a list, by its number. Contracts see it as this number.
 #[derive(Clone, Copy, Debug, PartialEq, Eq)]

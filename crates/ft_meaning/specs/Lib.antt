@@ -1,0 +1,15 @@
+pub mod Names
+pub mod Trees
+pub mod Values
+pub mod Matching
+pub mod Forms
+pub mod Commands
+pub mod Typing
+pub mod CommandTyping
+pub mod Texts
+pub mod Faults
+pub mod Lines
+pub mod Events
+pub mod Stages
+pub mod Sources
+pub mod Transcript

@@ -1,0 +1,25 @@
+-- What stands under a name in a list, where the first entry of a name counts; and the rule of a name.
+use Rattle.std.specs.Prelude.{ℕ, zero, suc, Bool, cond, Option, Some, None, option_map, option_and_then, List, [], ◌∷◌}
+use Rattle.std.specs.List.{list_any}
+use Rattle.ft_theory.specs.Rules.{Rule}
+use Rattle.ft_items.specs.Item.{Name}
+use Rattle.ft_items.specs.Store.{Store, rule_named}
+use Rattle.ft_items.specs.Good.{equal_names}
+
+-- what stands under the name
+abbrev pub named : {A : Type 0} → List (Name × A) → Name → Option A
+named [] n = None
+named (p ∷ ps) n = cond (equal_names p.0 n) (Some p.1) (named ps n)
+
+-- the test that the name is in the list
+abbrev pub is_among : List Name → Name → Bool
+is_among ns n = list_any (equal_names n) ns
+
+-- the place of the name, counted from 0
+abbrev pub place_of : List Name → Name → Option ℕ
+place_of [] n = None
+place_of (m ∷ ms) n = cond (equal_names m n) (Some zero) (option_map suc (place_of ms n))
+
+-- the rule of the name, with its number
+abbrev pub rule_of_name : Store → Name → Option (ℕ × Rule)
+rule_of_name W n = option_and_then (rule_named W) (place_of W.names n)

@@ -1,0 +1,134 @@
+-- Values, the state of a run, how an evaluation ends, and evaluations in a row.
+use Rattle.std.specs.Prelude.{ℕ, zero, suc, Bool, Option, Some, None, List, [], ◌∷◌, Result, Ok, Err}
+use Rattle.ft_theory.specs.Rules.{Rule}
+use Rattle.ft_items.specs.Item.{Name}
+use Rattle.ft_items.specs.Store.{Assertion, Store}
+use Rattle.ft_reference.specs.Refusals.{Refusal}
+use Rattle.ft_reference.specs.Declare.{Outcome as Declaration, RuleFault}
+use Rattle.ft_equality.specs.Shapes.{ShapeFault, EqualityRules}
+use Rattle.ft_equality.specs.Programs.{Units}
+use Rattle.ft_meaning.specs.Names.{rule_of_name}
+
+-- A value: a judgement or a boundary with the set that it rests on, the unit, a truth value, a pair, a list, an option.
+pub data Value : Type 0 where
+  judgement : Assertion → Value
+  boundary : Assertion → Value
+  unit : Value
+  truth : Bool → Value
+  pair : Value → Value → Value
+  nil : Value
+  cons : Value → Value → Value
+  none : Value
+  some : Value → Value
+
+-- the named values, the innermost first
+abbrev pub Environment : Type 0
+Environment = List (Name × Value)
+
+-- the state of a run: the store of the nucleus, the equality rules declared, and the units
+pub record State : Type 0 where
+  pub store : Store
+  pub rules : EqualityRules
+  pub units : Units
+
+-- Why a run ends: an operation has no case; the nucleus refuses; no case matches; a rule or an equality rule is not declared.
+pub data Fault : Type 0 where
+  Unhandled : Name → Fault
+  Refused : Refusal → Fault
+  NoMatch : Fault
+  OfRule : RuleFault → Fault
+  OfShape : ShapeFault → Fault
+
+-- How a run halts: it fails at a place, or a unit is needed at a place and none is left. Where a value is not of the kind that its
+-- form needs it is stuck, which typing excludes.
+pub data Halt : Type 0 where
+  fails : Fault → ℕ → Halt
+  spent : ℕ → Halt
+  stuck : Halt
+
+-- How an evaluation ends without a value: it performs an operation with an argument, at a place; or the run halts.
+pub data End : Type 0 where
+  performs : Name → Value → ℕ → End
+  halts : Halt → End
+
+-- a value or an end, and the state after it
+abbrev pub Outcome : Type 0 → Type 0
+Outcome A = Result A End × State
+
+-- an evaluation goes from a state to an outcome
+abbrev pub Run : Type 0 → Type 0
+Run A = State → Outcome A
+
+-- what follows a value
+abbrev pub after : {A B : Type 0} → Outcome A → (A → Run B) → Outcome B
+after (Ok a, s) next = next a s
+after (Err e, s) next = (Err e, s)
+
+infixl 10 ◌>>=◌
+-- an evaluation, and what follows its value
+abbrev pub ◌>>=◌ : {A B : Type 0} → Run A → (A → Run B) → Run B
+◌>>=◌ m next = λ s. after (m s) next
+
+infixl 10 ◌>>◌
+-- the same without the value
+abbrev pub ◌>>◌ : {A B : Type 0} → Run A → Run B → Run B
+◌>>◌ m n = λ s. after (m s) (λ a. n)
+
+-- a value at once
+abbrev pub pure : {A : Type 0} → A → Run A
+pure a = λ s. (Ok a, s)
+
+-- an end at once
+abbrev pub end : {A : Type 0} → End → Run A
+end e = λ s. (Err e, s)
+
+-- the run halts at once
+abbrev pub halt : {A : Type 0} → Halt → Run A
+halt h = end (halts h)
+
+-- what there is; else the evaluation is stuck
+abbrev pub the : {A : Type 0} → Option A → Run A
+the (Some a) = pure a
+the None = halt stuck
+
+-- one more unit of so many used and left
+abbrev pub spend_from : ℕ → ℕ → ℕ → Run (Unit {0})
+spend_from at used zero = halt (spent at)
+spend_from at used (suc left) = λ s. (Ok tt, record s { units = record { used = suc used; left = left } })
+
+-- a unit is spent at a place
+abbrev pub spend : ℕ → Run (Unit {0})
+spend at = λ s. spend_from at s.units.used s.units.left s
+
+-- an answer of the nucleus; a refusal is a fault at the place
+abbrev pub answered : {A : Type 0} → ℕ → Result A Refusal → Run A
+answered at (Ok a) = pure a
+answered at (Err r) = halt (fails (Refused r) at)
+
+-- a call of the nucleus over the store, made at a place
+abbrev pub nucleus : {A : Type 0} → ℕ → (Store → Result A Refusal) → Run A
+nucleus at ask = λ s. answered at (ask s.store) s
+
+-- what a declaration leaves and answers; a refusal becomes a fault at the place
+abbrev pub declared : {A E : Type 0} → (E → Fault) → ℕ → Store → Result A E → Run A
+declared fault at W (Ok a) = λ s. (Ok a, record s { store = W })
+declared fault at W (Err e) = halt (fails (fault e) at)
+
+-- a declaration over the store, made at a place
+abbrev pub declare : {A E : Type 0} → (E → Fault) → ℕ → (Store → Declaration Store A E) → Run A
+declare fault at d = λ s. declared fault at (d s.store).after (d s.store).answer s
+
+-- the rule of a name
+abbrev pub the_rule : Name → Run (ℕ × Rule)
+the_rule n = λ s. the (rule_of_name s.store n) s
+
+-- the value is a judgement
+abbrev pub as_judgement : Value → Run Assertion
+as_judgement (judgement j) = pure j
+as_judgement v = halt stuck
+
+-- the value is a list of judgements
+abbrev pub as_judgements : Value → Run (List Assertion)
+as_judgements nil = pure []
+as_judgements (cons v w) = as_judgement v >>= λ j. as_judgements w >>= λ js. pure (j ∷ js)
+as_judgements v = halt stuck

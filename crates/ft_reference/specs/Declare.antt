@@ -1,8 +1,9 @@
 -- Calls that declare: a variable, a metavariable, and a rule, which is drafted premise by premise.
 use Rattle.std.specs.Prelude.{ℕ, suc, Bool, cond, nat_lt, Option, Some, None, option_map, Result, Ok, Err, List, [], ◌∷◌, ◌++◌, length}
+use Rattle.ft_theory.specs.Rules.{Rule}
 use Rattle.ft_items.specs.Sets.{Atom, met, var, has}
 use Rattle.ft_items.specs.Item.{Name}
-use Rattle.ft_items.specs.Store.{Assertion, Declared, Store, add_variable, add_metavariable, add_rule}
+use Rattle.ft_items.specs.Store.{Assertion, Annotation, Declared, Store, type_in, claim_in, premises_of, add_variable, add_metavariable, add_rule}
 use Rattle.ft_items.specs.Rows.{atoms}
 use Rattle.ft_items.specs.Good.{is_plain_type, is_new}
 use Rattle.ft_reference.specs.Refusals.{Refusal, WrongForm, OpenBoundary}
@@ -26,9 +27,23 @@ abbrev pub first_of : {E : Type 0} → Option E → Option E → Option E
 first_of None o = o
 first_of (Some e) o = Some e
 
+-- Variables and metavariables. What is answered is the number with what is declared under it.
+
+-- what is declared of a variable with this name and this type: both, and the set on which the type rests
+abbrev pub declared_variable : Name → Assertion → Annotation
+declared_variable n p = record { name = n; annotation = type_in p.statement; set = p.set }
+
 -- A variable of number v at a type, which is to be plain. The number is greater than those of the earlier variables.
-abbrev pub new_variable : Store → ℕ → Name → Assertion → Outcome Store ℕ Refusal
-new_variable W v n p = outcome (refused_unless (is_plain_type p.statement) WrongForm) W (add_variable W v n (Some p)) v
+abbrev pub new_variable : Store → ℕ → Name → Assertion → Outcome Store (ℕ × Annotation) Refusal
+new_variable W v n p = outcome (refused_unless (is_plain_type p.statement) WrongForm) W (add_variable W v n (Some p)) (v, declared_variable n p)
+
+-- what is declared of a metavariable with this name and this boundary: both, and the set on which the boundary rests
+abbrev pub declared_metavariable : Name → Assertion → Declared
+declared_metavariable n b = record { name = n; boundary = b.statement; set = b.set }
+
+-- the metavariable that is declared next with them, with its number
+abbrev pub next_metavariable : Store → Name → Assertion → ℕ × Declared
+next_metavariable W n b = (length W.metavariables, declared_metavariable n b)
 
 -- the first variable of a set, which is the least
 abbrev pub first_variable : List Atom → Option ℕ
@@ -37,8 +52,8 @@ first_variable (met m ∷ S) = first_variable S
 first_variable (var v ∷ S) = Some v
 
 -- A metavariable with a boundary, which rests on no variable. Its number is the next one.
-abbrev pub new_metavariable : Store → Name → Assertion → Outcome Store ℕ Refusal
-new_metavariable W n b = outcome (option_map OpenBoundary (first_variable b.set)) W (add_metavariable W n (Some b)) (length W.metavariables)
+abbrev pub new_metavariable : Store → Name → Assertion → Outcome Store (ℕ × Declared) Refusal
+new_metavariable W n b = outcome (option_map OpenBoundary (first_variable b.set)) W (add_metavariable W n (Some b)) (next_metavariable W n b)
 
 -- Rules.
 
@@ -70,13 +85,21 @@ begin W n = outcome (name_fault W n) W W (record { name = n; premises = [] })
 
 -- A further premise with this boundary, which rests on the draft's metavariables alone: a metavariable, whose number is the
 -- next one. Store and draft stay as they are after a refusal.
-abbrev pub premise : Store → Draft → Name → Assertion → Outcome (Store × Draft) ℕ RuleFault
+abbrev pub premise : Store → Draft → Name → Assertion → Outcome (Store × Draft) (ℕ × Declared) RuleFault
 premise W d n b = outcome (option_map (OpenPremise (suc (length d.premises))) (first_outside (atoms d.premises) b.set)) (W, d)
-    (add_metavariable W n (Some b), record d { premises = d.premises ++ ((length W.metavariables, record { name = n; boundary = b.statement; set = b.set }) ∷ []) })
-    (length W.metavariables)
+    (add_metavariable W n (Some b), record d { premises = d.premises ++ (next_metavariable W n b ∷ []) })
+    (next_metavariable W n b)
+
+-- the rule with these premises and this boundary as its conclusion
+abbrev pub declared_rule : List (ℕ × Declared) → Assertion → Rule
+declared_rule ds c = record { premises = premises_of ds; conclusion = claim_in c.statement }
+
+-- the rule that is declared next with them, with its number
+abbrev pub next_rule : Store → List (ℕ × Declared) → Assertion → ℕ × Rule
+next_rule W ds c = (length W.rules, declared_rule ds c)
 
 -- The rule of the draft with a plain boundary as its conclusion, which rests on the draft's metavariables alone. Its number is
 -- the next one.
-abbrev pub finish : Store → Draft → Assertion → Outcome Store ℕ RuleFault
+abbrev pub finish : Store → Draft → Assertion → Outcome Store (ℕ × Rule) RuleFault
 finish W d c = outcome (first_of (name_fault W d.name) (option_map OpenConclusion (first_outside (atoms d.premises) c.set))) W
-    (add_rule W d.name (Some d.premises) (Some c)) (length W.rules)
+    (add_rule W d.name (Some d.premises) (Some c)) (next_rule W d.premises c)

@@ -3,3 +3,4 @@ pub mod Compare
 pub mod Checks
 pub mod Calls
 pub mod Declare
+pub mod Nucleus

@@ -1,0 +1,9 @@
+mod Bare
+mod Grows
+mod Lists
+mod Made
+mod Calls
+mod Equal
+mod Words
+mod Built
+mod Evaluations

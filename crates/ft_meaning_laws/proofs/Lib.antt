@@ -7,3 +7,7 @@ mod Equal
 mod Words
 mod Built
 mod Evaluations
+mod Rules
+mod Contexts
+mod Runs
+mod Whole

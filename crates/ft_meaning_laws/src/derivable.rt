@@ -1,8 +1,23 @@
 // What is shown is derivable, and what is done has a derivation.
 
-ghost use Rattle.ft_meaning_laws.specs.Derivability.{ShownDerivable};
+ghost use Rattle.ft_meaning_laws.specs.Derivability.{ShownDerivable, ContextsHold, AcceptedIsFinitary, DerivationExists};
 
-/// Each judgement that a transcript shows is derivable, in the context of its set, over the rules accepted before its line.
+/// Each judgement that a transcript shows is derivable by primitive steps, in the context of its set, over the rules accepted before its line.
 pub fn shown_derivable()
     ensures law { ShownDerivable }
+{}
+
+/// The context of each judgement that a transcript shows is well formed.
+pub fn contexts_hold()
+    ensures law { ContextsHold }
+{}
+
+/// The rules that a transcript accepts are, in their order, a finitary theory.
+pub fn accepted_is_finitary()
+    ensures law { AcceptedIsFinitary }
+{}
+
+/// Where the equality checker is not built, what a transcript does has a derivation.
+pub fn derivation_exists()
+    ensures law { DerivationExists }
 {}

@@ -3,4 +3,4 @@
 
 mod derivable;
 
-pub use derivable::shown_derivable;
+pub use derivable::{accepted_is_finitary, contexts_hold, derivation_exists, shown_derivable};

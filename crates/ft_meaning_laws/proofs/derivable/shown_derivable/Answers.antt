@@ -1,5 +1,5 @@
-use Rattle.ft_meaning_laws.proofs.Evaluations as proved
+use Rattle.ft_meaning_laws.proofs.Whole as proved
 use Rattle.ft_meaning_laws.proofs.derivable.shown_derivable.Goals as goal
 
 pub returns : goal.returns
-returns c = record { law = ? }
+returns c = record { law = proved.shown_derivable }

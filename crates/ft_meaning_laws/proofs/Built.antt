@@ -1,5 +1,5 @@
 -- Parts of a source that are all built.
-use Rattle.std.proofs.Common.{◌≡◌, ℕ, Bool, true, false, cond, Option, Some, None, List, [], ◌∷◌, ◌++◌, refl, ap, ◌∙◌}
+use Rattle.std.proofs.Common.{◌≡◌, ℕ, Bool, true, false, cond, Some, None, List, [], ◌∷◌, ◌++◌, refl, ap, ◌∙◌}
 use Rattle.ft_common.proofs.Options.{some_none}
 use Rattle.ft_meaning.specs.Stages.{Stage, Feature, SourcePart, first_not_built}
 

@@ -1,5 +1,5 @@
 -- The context of a set over a well formed store.
-use Rattle.std.proofs.Common.{◌≡◌, ℕ, true, Some, List, [], ◌∷◌, ◌++◌, inl, inr, refl, sym, subst, append_assoc}
+use Rattle.std.proofs.Common.{◌≡◌, true, Some, List, [], ◌∷◌, ◌++◌, inl, inr, refl, sym, subst, append_assoc}
 use Rattle.std.proofs.lemmas.Bool.{lt-ltb}
 use Rattle.ft_theory.specs.Statements.{is_type, plain}
 use Rattle.ft_theory.specs.Rules.{look_up}

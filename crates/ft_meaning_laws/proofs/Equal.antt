@@ -1,13 +1,12 @@
 -- The words of the equality checker: what they answer is valid.
-use Rattle.std.proofs.Common.{◌≡◌, ◌≤◌, ℕ, Bool, true, false, Some, Ok, Err, List, [], ◌∷◌, ◌++◌, length, refl, sym, ap, ◌∙◌, subst}
+use Rattle.std.proofs.Common.{◌≡◌, ◌≤◌, ℕ, Bool, true, false, Ok, Err, List, [], ◌∷◌, ◌++◌, refl, sym, subst}
 use Rattle.ft_theory.specs.Expressions.{Expression}
 use Rattle.ft_theory.specs.Statements.{Claim, is_type, has_type, equal_types, equal_terms, type_goal, term_goal, Statement, plain, fill_goal, equate_goal, IsObjectGoal}
 use Rattle.ft_theory.specs.Steps.{Prim}
 use Rattle.ft_items.specs.Equal.{is_thesis}
 use Rattle.ft_items.specs.Sets.{Atom, Has, union}
 use Rattle.ft_items.specs.Item.{Item, by_btype}
-use Rattle.ft_items.specs.Store.{Assertion, Store, nth, boundaries_in, annotations_in, Derivable, add, empty_store, store_of}
-use Rattle.ft_items.specs.Good.{is_next}
+use Rattle.ft_items.specs.Store.{Assertion, Store, boundaries_in, annotations_in, Derivable, store_of}
 use Rattle.ft_items.proofs.SetLemmas.{union_left, union_right}
 use Rattle.ft_sound.proofs.Valid.{Valid, proper_union, up, sound_rules, scoped_rules}
 use Rattle.ft_equality.specs.Programs.{Spent, NotSmall, Units, Answer}

@@ -1,5 +1,5 @@
 -- Forms keep to entries of the list.
-use Rattle.std.proofs.Common.{◌≡◌, ℕ, Bool, true, false, Option, Some, None, Ok, Err, List, [], ◌∷◌, ◌++◌, refl, ap, ap₂, ◌∙◌}
+use Rattle.std.proofs.Common.{◌≡◌, ℕ, true, false, Option, Some, None, Ok, Err, List, [], ◌∷◌, ◌++◌, refl, ap, ap₂, ◌∙◌}
 use Rattle.ft_items.specs.Item.{Name, Item, by_var, by_rule, by_inst, by_cong, by_arg}
 use Rattle.ft_items.specs.Store.{Assertion, Annotation, with_one, with_two, with_three, entry_named, each, store_of}
 use Rattle.ft_items.specs.Good.{equal_names}

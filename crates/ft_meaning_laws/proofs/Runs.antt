@@ -1,12 +1,11 @@
 -- Commands: the longer list tells what a command does.
-use Rattle.std.proofs.Common.{◌≡◌, ℕ, true, Option, Some, None, Result, Ok, Err, List, [], ◌∷◌, ◌++◌, length, refl, sym, ap, ap₂, ◌∙◌, subst, append_assoc, append-nil}
+use Rattle.std.proofs.Common.{◌≡◌, ℕ, true, Option, Some, None, Result, Ok, Err, List, [], ◌∷◌, ◌++◌, refl, sym, ap, ap₂, ◌∙◌, subst, append_assoc, append-nil}
 use Rattle.std.specs.Prelude.{map, option_map}
 use Rattle.ft_theory.specs.Rules.{Rule, rule_at}
 use Rattle.ft_items.specs.Item.{Name, Item, shown}
 use Rattle.ft_items.specs.Store.{Assertion, Store, sequent_in, Derivable, add_rule, add, empty_store, store_of}
 use Rattle.ft_items.specs.Rows.{atoms}
 use Rattle.ft_items.specs.Good.{is_next}
-use Rattle.ft_items.proofs.Lists.{store_last}
 use Rattle.ft_sound.specs.Soundness.{MembersHold}
 use Rattle.ft_reference.specs.Declare.{Outcome as Declaration, outcome, first_of, RuleFault, OpenConclusion, Draft, name_fault, first_outside, begin, declared_rule, next_rule, finish}
 use Rattle.ft_nucleus_laws.specs.Laws.{drafted}

@@ -1,12 +1,12 @@
 -- Whole transcripts: there is a list that tells what a transcript does, and all that it shows is derivable in its context.
-use Rattle.std.proofs.Common.{◌≡◌, ℕ, false, Option, Some, None, Result, Ok, Err, List, [], ◌∷◌, ◌++◌, refl, sym, ap, ◌∙◌, subst, append_assoc, append-nil}
+use Rattle.std.proofs.Common.{◌≡◌, ℕ, Option, Some, None, Result, Ok, Err, List, [], ◌∷◌, ◌++◌, refl, sym, ap, ◌∙◌, subst, append_assoc, append-nil}
 use Rattle.std.specs.Prelude.{map}
 use Rattle.ft_theory.specs.Derivability.{FinitaryUpTo}
 use Rattle.ft_theory.specs.Rules.{Rule}
 use Rattle.ft_items.specs.Item.{Name, Item, variable, metavariable, rule, entry, shown}
-use Rattle.ft_items.specs.Store.{Assertion, Declared, Store, each, entry_named, metavariable_named, add_variable, add_metavariable, add_rule, add, add_all, empty_store, store_of}
+use Rattle.ft_items.specs.Store.{Assertion, Declared, Store, each, entry_named, metavariable_named, add_variable, add_metavariable, add_rule, add, add_all, empty_store}
 use Rattle.ft_meaning.specs.Trees.{Command}
-use Rattle.ft_meaning.specs.Stages.{Stage, equality, source_parts, first_not_built, command_parts}
+use Rattle.ft_meaning.specs.Stages.{Stage, source_parts, first_not_built}
 use Rattle.ft_meaning.specs.Values.{Environment, State, Halt, fails, spent, stuck}
 use Rattle.ft_meaning.specs.Commands.{Done, run_command}
 use Rattle.ft_meaning.specs.Typing.{TypeFault, Scope, first_scope}

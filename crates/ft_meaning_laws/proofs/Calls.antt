@@ -25,7 +25,7 @@ use Rattle.ft_meaning.specs.Values as values
 use Rattle.ft_meaning.specs.Forms.{judged, bounded, make_variable}
 use Rattle.ft_meaning_laws.proofs.Bare.{bare, answer_bare}
 use Rattle.ft_meaning_laws.proofs.Grows.{quiet_self, quiet_last, next_later, next_last, look_new}
-use Rattle.ft_meaning_laws.proofs.Lists.{sound_last, Equality}
+use Rattle.ft_meaning_laws.proofs.Lists.{sound_last, AreAccepted}
 use Rattle.ft_meaning_laws.proofs.Made.{IsEntry, AllTheses, IsMade, holds_last, Kept, Keeps, keeps_bind, keeps_pure, keeps_halt, keeps_weaken}
 
 -- what a call names is in the list
@@ -192,7 +192,7 @@ module _ (B : Stage) where
         quiet = quiet_self items;
         holds = record {
           list = h.list;
-          equality = subst (Equality W.rules) (sym r) h.equality;
+          equality = subst (AreAccepted W.rules) (sym r) h.equality;
           store = e ∙ h.store;
           next = subst (λ w. is_next W.variables w ≡ true) (sym u) (next_later W.variables v h.next);
         };

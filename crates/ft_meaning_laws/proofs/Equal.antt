@@ -1,51 +1,91 @@
 -- The words of the equality checker: what they answer is valid.
-use Rattle.std.proofs.Common.{◌≡◌, ◌≤◌, ℕ, Bool, true, false, Ok, Err, List, [], ◌∷◌, ◌++◌, refl, sym, subst}
+use Rattle.std.proofs.Common.{◌≡◌, ◌≤◌, ℕ, Bool, true, false, Some, Ok, Err, List, [], ◌∷◌, ◌++◌, refl, sym, subst}
 use Rattle.ft_theory.specs.Expressions.{Expression}
 use Rattle.ft_theory.specs.Statements.{Claim, is_type, has_type, equal_types, equal_terms, type_goal, term_goal, Statement, plain, fill_goal, equate_goal, IsObjectGoal}
+use Rattle.ft_theory.specs.Rules.{Rule, rule_at}
 use Rattle.ft_theory.specs.Steps.{Prim}
+use Rattle.ft_laws.proofs.Finitary.{Sound}
 use Rattle.ft_items.specs.Equal.{is_thesis}
-use Rattle.ft_items.specs.Sets.{Atom, Has, union}
+use Rattle.ft_items.specs.Sets.{Atom, union, Within}
 use Rattle.ft_items.specs.Item.{Item, by_btype}
 use Rattle.ft_items.specs.Store.{Assertion, Store, boundaries_in, annotations_in, Derivable, store_of}
+use Rattle.ft_items.specs.Good.{is_next}
 use Rattle.ft_items.proofs.SetLemmas.{union_left, union_right}
-use Rattle.ft_sound.proofs.Valid.{Valid, proper_union, up, sound_rules, scoped_rules}
+use Rattle.ft_sound.proofs.Valid.{Valid, WellFormed, proper_union, up, sound_rules, scoped_rules}
+use Rattle.ft_equality.specs.Shapes.{EqualityRules}
 use Rattle.ft_equality.specs.Programs.{Spent, NotSmall, Units, Answer}
 use Rattle.ft_equality.specs.Equality.{types_are_equal, terms_are_equal, normal_form}
 use Rattle.ft_equality_laws.proofs.Means.{Below, If, EqualAt, NormalFact, Came}
 use Rattle.ft_equality_laws.proofs.Opening.{if_map}
+use Rattle.ft_equality_laws.proofs.Parts.{Flat}
 use Rattle.ft_equality_laws.proofs.Answers.{types_answer, terms_answer, normal_answer}
 use Rattle.ft_equality_laws.proofs.Accepted.{flat_of}
+use Rattle.ft_equality_laws.proofs.Stores.{next_more, below_next, declared_in}
 use Rattle.ft_reference.specs.Refusals.{WrongForm}
-use Rattle.ft_meaning.specs.Values.{Value, judgement, none, some, State, Refused, fails, pure}
 use Rattle.ft_meaning.specs.Stages.{Stage, equality}
+use Rattle.ft_meaning.specs.Values.{Value, judgement, none, some, State, Run, ◌>>=◌, Refused, fails, pure}
 use Rattle.ft_meaning.specs.Forms.{settled, equation_if, compare, normalise}
 use Rattle.ft_meaning_laws.proofs.Bare.{bare}
 use Rattle.ft_meaning_laws.proofs.Grows.{quiet_self, quiet_last}
-use Rattle.ft_meaning_laws.proofs.Lists.{told_entry, sound_valid}
-use Rattle.ft_equality_laws.proofs.Stores.{next_more, below_next, declared_in}
-use Rattle.ft_meaning_laws.proofs.Made.{IsEntry, IsThesis, IsMade, Holds, holds_last, Kept, Keeps, keeps_bind, keeps_pure, keeps_halt}
+use Rattle.ft_meaning_laws.proofs.Lists.{told_entry, sound_valid, AreAccepted}
+use Rattle.ft_meaning_laws.proofs.Made.{IsThesis, IsMade, Holds, holds_last, Kept, Keeps, keeps_bind, keeps_pure, keeps_halt}
 use Rattle.ft_meaning_laws.proofs.Calls.{entry_end}
-
-abbrev ValidIn : List Item → Assertion → Type 0
-ValidIn items a = Valid (store_of items) a.statement a.set
 
 came_map : {A : Type 0} (m : ℕ) (P Q : A → Type 0) (o : Answer A) → ((a : A) → P a → Q a) → Came m P o → Came m Q o
 came_map m P Q (Ok a, u) f c = (f a c.0, c.1)
 came_map m P Q (Err e, u) f c = c
 
-module _ (B : Stage) where
-  -- what is valid may be an entry
-  keeps_valid : B equality ≡ true → (items : List Item) (a : Assertion) (v : Value) → ValidIn items a → is_thesis a.statement ≡ true → ((later : List Item) → IsThesis later a → IsMade later v) → Keeps B Value IsMade items (pure v)
-  keeps_valid built items a v p t f s h = record {
-    later = items ++ (told_entry a ∷ []);
-    quiet = quiet_last items (told_entry a) refl;
-    holds = holds_last B items (told_entry a) s s h (sound_valid B items a built h.list p) refl h.store h.next;
-    gives = f (items ++ (told_entry a ∷ [])) (entry_end items a by_btype, t);
-  }
+-- Answers over a store without entries.
+module _ (W : Store) (F : WellFormed W) (E : EqualityRules) (h : AreAccepted W.rules E) (u : Units) (next : is_next W.variables u.used ≡ true) where
+  flat : (s : ℕ) (R : Rule) → rule_at W.rules s ≡ Some R → Flat E s 1 R.premises
+  flat = flat_of W.rules (sound_rules W F) E h.computations
 
-  -- an answer of the equality checker
-  keeps_settled : (A : Type 0) (P : List Item → A → Type 0) (items : List Item) (at : ℕ) (f : State → Answer A) → ((s : State) → Holds B items s → Came s.units.used (P items) (f s)) → Keeps B A P items (λ s. settled at s (f s))
-  keeps_settled A P items at f c s h = go (f s) (c s h)
+  over : (x : Statement) (S R : List Atom) → Within S R → Valid W x S → Derivable W x R
+  over x S R w v = up W (scoped_rules W F) x S R w v.derivable
+
+  types_valid : (S R : List Atom) (A C : Expression) → Valid W (plain (is_type A)) S → Valid W (plain (is_type C)) R → Came u.used (λ b. If b (Valid W (plain (equal_types A C)) (union S R))) (types_are_equal (bare W) E A C u)
+  types_valid S R A C v w =
+      came_map u.used (λ b. If b Alike) (λ b. If b (Valid W (plain (equal_types A C)) (union S R))) (types_are_equal (bare W) E A C u)
+      (λ b. if_map Alike (Valid W (plain (equal_types A C)) (union S R)) b (λ y. record {
+        proper = proper_union W S R v.proper w.proper;
+        derivable = y (annotations_in W (union S R)) (below_next W F u.used (union S R) next)
+            (over (plain (is_type A)) S (union S R) (λ a m. union_left a S R m) v) (over (plain (is_type C)) R (union S R) (λ a m. union_right a S R m) w);
+      }))
+      (types_answer (bare W) E (sound_rules W F) (boundaries_in W (union S R)) h.computations h.extensionalities flat (declared_in W (union S R)) A C u)
+    where
+      Alike : Type 0
+      Alike = EqualAt W.rules (boundaries_in W (union S R)) u.used type_goal A C
+
+  terms_valid : (S R : List Atom) (s A t C : Expression) → Valid W (plain (has_type s A)) S → Valid W (plain (has_type t C)) R → Came u.used (λ b. If b (Valid W (plain (equal_terms s t A)) (union S R))) (terms_are_equal (bare W) E s A t C u)
+  terms_valid S R s A t C v w =
+      came_map u.used (λ b. If b Alike) (λ b. If b (Valid W (plain (equal_terms s t A)) (union S R))) (terms_are_equal (bare W) E s A t C u)
+      (λ b. if_map Alike (Valid W (plain (equal_terms s t A)) (union S R)) b (λ y. record {
+        proper = proper_union W S R v.proper w.proper;
+        derivable = y (annotations_in W (union S R)) (below_next W F u.used (union S R) next)
+            (over (plain (has_type s A)) S (union S R) (λ a m. union_left a S R m) v) (over (plain (has_type t C)) R (union S R) (λ a m. union_right a S R m) w);
+      }))
+      (terms_answer (bare W) E (sound_rules W F) (boundaries_in W (union S R)) h.computations h.extensionalities flat (declared_in W (union S R)) s A t C u)
+    where
+      At : List (ℕ × Expression) → Claim → Type 0
+      At G c = Prim W.rules (boundaries_in W (union S R)) G (plain c)
+
+      Alike : Type 0
+      Alike = (G : List (ℕ × Expression)) → Below u.used G → At G (has_type s A) → At G (has_type t C) → At G (equal_terms s t A)
+
+  normal_valid : (S : List Atom) (c : Claim) (e : Expression) → IsObjectGoal c → Valid W (plain (fill_goal c e)) S → Came u.used (λ f. Valid W (plain (equate_goal c e f)) S) (normal_form (bare W) E e u)
+  normal_valid S c e o v =
+      came_map u.used (NormalFact W.rules (boundaries_in W S) u.used e) (λ f. Valid W (plain (equate_goal c e f)) S) (normal_form (bare W) E e u)
+      (λ f y. record { proper = v.proper; derivable = y c o (annotations_in W S) (below_next W F u.used S next) v.derivable })
+      (normal_answer (bare W) E (sound_rules W F) (boundaries_in W S) h.computations h.extensionalities flat (declared_in W S) e u)
+
+-- Answers in a run.
+module _ (B : Stage) (built : B equality ≡ true) (items : List Item) (at : ℕ) where
+  -- what a thesis of this form says
+  says : (j : Assertion) (x : Statement) → IsThesis items j → j.statement ≡ x → (s : State) → Holds B items s → Valid (store_of items) x j.set
+  says j x p e s h = subst (λ z. Valid (store_of items) z j.set) e (h.list.well.entries p.0.0 j p.0.1)
+
+  keeps_settled : (A : Type 0) (P : List Item → A → Type 0) (f : State → Answer A) → ((s : State) → Holds B items s → Came s.units.used (P items) (f s)) → Keeps B A P items (λ s. settled at s (f s))
+  keeps_settled A P f c s h = go (f s) (c s h)
     where
       after : (u : Units) → s.units.used ≤ u.used → Holds B items (record s { units = u })
       after u le = record { list = h.list; equality = h.equality; store = h.store; next = next_more (store_of items).variables s.units.used u.used le h.next }
@@ -55,99 +95,46 @@ module _ (B : Stage) where
       go (Err Spent, u) k = record { later = items; quiet = quiet_self items; holds = after u k; gives = tt }
       go (Err NotSmall, u) k = record { later = items; quiet = quiet_self items; holds = after u k; gives = tt }
 
+  -- what is valid may be an entry
+  keeps_valid : (xs : List Item) (a : Assertion) (v : Value) → Valid (store_of xs) a.statement a.set → is_thesis a.statement ≡ true → ((later : List Item) → IsThesis later a → IsMade later v) → Keeps B Value IsMade xs (pure v)
+  keeps_valid xs a v p t f s h = record {
+    later = xs ++ (told_entry a ∷ []);
+    quiet = quiet_last xs (told_entry a) refl;
+    holds = holds_last B xs (told_entry a) s s h (sound_valid B xs a built h.list p) refl h.store h.next;
+    gives = f (xs ++ (told_entry a ∷ [])) (entry_end xs a by_btype, t);
+  }
+
   -- the equation, or none
-  keeps_equation : B equality ≡ true → (items : List Item) (b : Bool) (x : Statement) (j k : Assertion) → If b (ValidIn items (record { statement = x; set = union j.set k.set })) → is_thesis x ≡ true → Keeps B Value IsMade items (pure (equation_if b x j k))
-  keeps_equation built items true x j k v t = keeps_valid built items (record { statement = x; set = union j.set k.set }) (some (judgement (record { statement = x; set = union j.set k.set }))) v t (λ later m. m)
-  keeps_equation built items false x j k v t = keeps_pure B Value IsMade items none tt
-
-  module _ (items : List Item) (s : State) (h : Holds B items s) where
-    module _ (S : List Atom) where
-      types_came : (A C : Expression) → Came s.units.used (λ b. If b (EqualAt (store_of items).rules (boundaries_in (store_of items) S) s.units.used type_goal A C)) (types_are_equal s.store s.rules A C s.units)
-      types_came A C = subst (λ z. Came s.units.used (λ b. If b (EqualAt (store_of items).rules (boundaries_in (store_of items) S) s.units.used type_goal A C)) (types_are_equal z s.rules A C s.units)) (sym h.store)
-          (types_answer (bare (store_of items)) s.rules (sound_rules (store_of items) h.list.well) (boundaries_in (store_of items) S) h.equality.computations h.equality.extensionalities
-          (flat_of (store_of items).rules (sound_rules (store_of items) h.list.well) s.rules h.equality.computations) (declared_in (store_of items) S) A C s.units)
-
-      terms_came : (t A u C : Expression) → Came s.units.used (λ b. If b ((G : List (ℕ × Expression)) → Below s.units.used G → Prim (store_of items).rules (boundaries_in (store_of items) S) G (plain (has_type t A)) → Prim (store_of items).rules (boundaries_in (store_of items) S) G (plain (has_type u C)) → Prim (store_of items).rules (boundaries_in (store_of items) S) G (plain (equal_terms t u A))))
-          (terms_are_equal s.store s.rules t A u C s.units)
-      terms_came t A u C = subst (λ z. Came s.units.used (λ b. If b ((G : List (ℕ × Expression)) → Below s.units.used G → Prim (store_of items).rules (boundaries_in (store_of items) S) G (plain (has_type t A)) → Prim (store_of items).rules (boundaries_in (store_of items) S) G (plain (has_type u C)) → Prim (store_of items).rules (boundaries_in (store_of items) S) G (plain (equal_terms t u A)))) (terms_are_equal z s.rules t A u C s.units)) (sym h.store)
-          (terms_answer (bare (store_of items)) s.rules (sound_rules (store_of items) h.list.well) (boundaries_in (store_of items) S) h.equality.computations h.equality.extensionalities
-          (flat_of (store_of items).rules (sound_rules (store_of items) h.list.well) s.rules h.equality.computations) (declared_in (store_of items) S) t A u C s.units)
-
-      normal_came : (e : Expression) → Came s.units.used (NormalFact (store_of items).rules (boundaries_in (store_of items) S) s.units.used e) (normal_form s.store s.rules e s.units)
-      normal_came e = subst (λ z. Came s.units.used (NormalFact (store_of items).rules (boundaries_in (store_of items) S) s.units.used e) (normal_form z s.rules e s.units)) (sym h.store)
-          (normal_answer (bare (store_of items)) s.rules (sound_rules (store_of items) h.list.well) (boundaries_in (store_of items) S) h.equality.computations h.equality.extensionalities
-          (flat_of (store_of items).rules (sound_rules (store_of items) h.list.well) s.rules h.equality.computations) (declared_in (store_of items) S) e s.units)
-
-      below_set : Below s.units.used (annotations_in (store_of items) S)
-      below_set = below_next (store_of items) h.list.well s.units.used S h.next
-
-  -- an entry of the list is valid
-  entry_in : (items : List Item) (s : State) → Holds B items s → (j : Assertion) → IsEntry items j → Valid (store_of items) j.statement j.set
-  entry_in items s h j k = h.list.well.entries k.0 j k.1
-
-  module _ (items : List Item) (s : State) (h : Holds B items s) (j : Assertion) (p : IsEntry items j) where
-    -- it holds over a larger set
-    over : (x : Statement) (S : List Atom) → j.statement ≡ x → ((a : Atom) → Has a j.set → Has a S) → Derivable (store_of items) x S
-    over x S e w = up (store_of items) (scoped_rules (store_of items) h.list.well) x j.set S w (subst (λ z. Derivable (store_of items) z j.set) e (h.list.well.entries p.0 j p.1).derivable)
-
-  types_valid : (items : List Item) (j k : Assertion) (A C : Expression) → IsThesis items j → IsThesis items k → j.statement ≡ plain (is_type A) → k.statement ≡ plain (is_type C) → (s : State) → Holds B items s
-      → Came s.units.used (λ b. If b (ValidIn items (record { statement = plain (equal_types A C); set = union j.set k.set }))) (types_are_equal s.store s.rules A C s.units)
-  types_valid items j k A C p q e f s h =
-      let S : List Atom = union j.set k.set in
-      let W : Store = store_of items in
-      came_map s.units.used (λ b. If b (EqualAt W.rules (boundaries_in W S) s.units.used type_goal A C)) (λ b. If b (ValidIn items (record { statement = plain (equal_types A C); set = S }))) (types_are_equal s.store s.rules A C s.units)
-      (λ b x. if_map (EqualAt W.rules (boundaries_in W S) s.units.used type_goal A C) (ValidIn items (record { statement = plain (equal_types A C); set = S })) b
-      (λ y. record {
-        proper = proper_union W j.set k.set (h.list.well.entries p.0.0 j p.0.1).proper (h.list.well.entries q.0.0 k q.0.1).proper;
-        derivable = y (annotations_in W S) (below_set items s h S) (over items s h j p.0 (plain (is_type A)) S e (λ a m. union_left a j.set k.set m)) (over items s h k q.0 (plain (is_type C)) S f (λ a m. union_right a j.set k.set m));
-      }) x)
-      (types_came items s h S A C)
-
-  terms_valid : (items : List Item) (j k : Assertion) (t A u C : Expression) → IsThesis items j → IsThesis items k → j.statement ≡ plain (has_type t A) → k.statement ≡ plain (has_type u C) → (s : State) → Holds B items s
-      → Came s.units.used (λ b. If b (ValidIn items (record { statement = plain (equal_terms t u A); set = union j.set k.set }))) (terms_are_equal s.store s.rules t A u C s.units)
-  terms_valid items j k t A u C p q e f s h =
-      let S : List Atom = union j.set k.set in
-      let W : Store = store_of items in
-      came_map s.units.used (λ b. If b (Alike W S s.units.used)) (λ b. If b (ValidIn items (record { statement = plain (equal_terms t u A); set = S }))) (terms_are_equal s.store s.rules t A u C s.units)
-      (λ b x. if_map (Alike W S s.units.used) (ValidIn items (record { statement = plain (equal_terms t u A); set = S })) b
-      (λ y. record {
-        proper = proper_union W j.set k.set (h.list.well.entries p.0.0 j p.0.1).proper (h.list.well.entries q.0.0 k q.0.1).proper;
-        derivable = y (annotations_in W S) (below_set items s h S) (over items s h j p.0 (plain (has_type t A)) S e (λ a m. union_left a j.set k.set m)) (over items s h k q.0 (plain (has_type u C)) S f (λ a m. union_right a j.set k.set m));
-      }) x)
-      (terms_came items s h S t A u C)
+  keeps_answer : (f : State → Answer Bool) (x : Statement) (j k : Assertion) → is_thesis x ≡ true → ((s : State) → Holds B items s → Came s.units.used (λ b. If b (Valid (store_of items) x (union j.set k.set))) (f s))
+      → Keeps B Value IsMade items ((λ s. settled at s (f s)) >>= λ b. pure (equation_if b x j k))
+  keeps_answer f x j k t c = keeps_bind B Bool Value (λ later b. If b (Valid (store_of later) x (union j.set k.set))) IsMade items (λ s. settled at s (f s)) (λ b. pure (equation_if b x j k))
+      (keeps_settled Bool (λ later b. If b (Valid (store_of later) x (union j.set k.set))) f c) (λ xs q b. go xs b)
     where
-      Alike : Store → List Atom → ℕ → Type 0
-      Alike W S n = (G : List (ℕ × Expression)) → Below n G → Prim W.rules (boundaries_in W S) G (plain (has_type t A)) → Prim W.rules (boundaries_in W S) G (plain (has_type u C)) → Prim W.rules (boundaries_in W S) G (plain (equal_terms t u A))
+      go : (xs : List Item) (b : Bool) → If b (Valid (store_of xs) x (union j.set k.set)) → Keeps B Value IsMade xs (pure (equation_if b x j k))
+      go xs true v = keeps_valid xs (record { statement = x; set = union j.set k.set }) (some (judgement (record { statement = x; set = union j.set k.set }))) v t (λ later m. m)
+      go xs false v = keeps_pure B Value IsMade xs none tt
 
-  normal_valid : (items : List Item) (j : Assertion) (c : Claim) (e : Expression) → IsObjectGoal c → IsThesis items j → j.statement ≡ plain (fill_goal c e) → (s : State) → Holds B items s
-      → Came s.units.used (λ f. ValidIn items (record { statement = plain (equate_goal c e f); set = j.set })) (normal_form s.store s.rules e s.units)
-  normal_valid items j c e o p q s h =
-      let W : Store = store_of items in
-      came_map s.units.used (NormalFact W.rules (boundaries_in W j.set) s.units.used e) (λ f. ValidIn items (record { statement = plain (equate_goal c e f); set = j.set })) (normal_form s.store s.rules e s.units)
-      (λ f y. record {
-        proper = (h.list.well.entries p.0.0 j p.0.1).proper;
-        derivable = y c o (annotations_in W j.set) (below_set items s h j.set) (over items s h j p.0 (plain (fill_goal c e)) j.set q (λ a m. m));
-      })
-      (normal_came items s h j.set e)
+  -- the equation with the normal form
+  keeps_form : (f : State → Answer Expression) (x : Expression → Statement) (S : List Atom) → ((N : Expression) → is_thesis (x N) ≡ true) → ((s : State) → Holds B items s → Came s.units.used (λ N. Valid (store_of items) (x N) S) (f s))
+      → Keeps B Value IsMade items ((λ s. settled at s (f s)) >>= λ N. pure (judgement (record { statement = x N; set = S })))
+  keeps_form f x S t c = keeps_bind B Expression Value (λ later N. Valid (store_of later) (x N) S) IsMade items (λ s. settled at s (f s)) (λ N. pure (judgement (record { statement = x N; set = S })))
+      (keeps_settled Expression (λ later N. Valid (store_of later) (x N) S) f c)
+      (λ xs q N v. keeps_valid xs (record { statement = x N; set = S }) (judgement (record { statement = x N; set = S })) v (t N) (λ later m. m))
 
-  pub keeps_compare : B equality ≡ true → (items : List Item) (at : ℕ) (j k : Assertion) (x y : Statement) → IsThesis items j → IsThesis items k → j.statement ≡ x → k.statement ≡ y → Keeps B Value IsMade items (compare at j k x y)
-  keeps_compare built items at j k (plain (is_type A)) (plain (is_type C)) p q e f =
-      keeps_bind B Bool Value (λ later b. If b (ValidIn later (record { statement = plain (equal_types A C); set = union j.set k.set }))) IsMade items (λ s. settled at s (types_are_equal s.store s.rules A C s.units)) (λ b. pure (equation_if b (plain (equal_types A C)) j k))
-      (keeps_settled Bool (λ later b. If b (ValidIn later (record { statement = plain (equal_types A C); set = union j.set k.set }))) items at (λ s. types_are_equal s.store s.rules A C s.units) (types_valid items j k A C p q e f))
-      (λ xs r b v. keeps_equation built xs b (plain (equal_types A C)) j k v refl)
-  keeps_compare built items at j k (plain (has_type t A)) (plain (has_type u C)) p q e f =
-      keeps_bind B Bool Value (λ later b. If b (ValidIn later (record { statement = plain (equal_terms t u A); set = union j.set k.set }))) IsMade items (λ s. settled at s (terms_are_equal s.store s.rules t A u C s.units)) (λ b. pure (equation_if b (plain (equal_terms t u A)) j k))
-      (keeps_settled Bool (λ later b. If b (ValidIn later (record { statement = plain (equal_terms t u A); set = union j.set k.set }))) items at (λ s. terms_are_equal s.store s.rules t A u C s.units) (terms_valid items j k t A u C p q e f))
-      (λ xs r b v. keeps_equation built xs b (plain (equal_terms t u A)) j k v refl)
-  keeps_compare built items at j k x y p q e f = keeps_halt B Value IsMade items (fails (Refused WrongForm) at)
+  pub keeps_compare : (j k : Assertion) (x y : Statement) → IsThesis items j → IsThesis items k → j.statement ≡ x → k.statement ≡ y → Keeps B Value IsMade items (compare at j k x y)
+  keeps_compare j k (plain (is_type A)) (plain (is_type C)) p q e f = keeps_answer (λ s. types_are_equal s.store s.rules A C s.units) (plain (equal_types A C)) j k refl
+      (λ s h. subst (λ z. Came s.units.used (λ b. If b (Valid (store_of items) (plain (equal_types A C)) (union j.set k.set))) (types_are_equal z s.rules A C s.units)) (sym h.store)
+      (types_valid (store_of items) h.list.well s.rules h.equality s.units h.next j.set k.set A C (says j (plain (is_type A)) p e s h) (says k (plain (is_type C)) q f s h)))
+  keeps_compare j k (plain (has_type t A)) (plain (has_type u C)) p q e f = keeps_answer (λ s. terms_are_equal s.store s.rules t A u C s.units) (plain (equal_terms t u A)) j k refl
+      (λ s h. subst (λ z. Came s.units.used (λ b. If b (Valid (store_of items) (plain (equal_terms t u A)) (union j.set k.set))) (terms_are_equal z s.rules t A u C s.units)) (sym h.store)
+      (terms_valid (store_of items) h.list.well s.rules h.equality s.units h.next j.set k.set t A u C (says j (plain (has_type t A)) p e s h) (says k (plain (has_type u C)) q f s h)))
+  keeps_compare j k x y p q e f = keeps_halt B Value IsMade items (fails (Refused WrongForm) at)
 
-  pub keeps_normalise : B equality ≡ true → (items : List Item) (at : ℕ) (j : Assertion) (x : Statement) → IsThesis items j → j.statement ≡ x → Keeps B Value IsMade items (normalise at j x)
-  keeps_normalise built items at j (plain (is_type A)) p e =
-      keeps_bind B Expression Value (λ later N. ValidIn later (record { statement = plain (equal_types A N); set = j.set })) IsMade items (λ s. settled at s (normal_form s.store s.rules A s.units)) (λ N. pure (judgement (record { statement = plain (equal_types A N); set = j.set })))
-      (keeps_settled Expression (λ later N. ValidIn later (record { statement = plain (equal_types A N); set = j.set })) items at (λ s. normal_form s.store s.rules A s.units) (normal_valid items j type_goal A tt p e))
-      (λ xs r N v. keeps_valid built xs (record { statement = plain (equal_types A N); set = j.set }) (judgement (record { statement = plain (equal_types A N); set = j.set })) v refl (λ later m. m))
-  keeps_normalise built items at j (plain (has_type t A)) p e =
-      keeps_bind B Expression Value (λ later u. ValidIn later (record { statement = plain (equal_terms t u A); set = j.set })) IsMade items (λ s. settled at s (normal_form s.store s.rules t s.units)) (λ u. pure (judgement (record { statement = plain (equal_terms t u A); set = j.set })))
-      (keeps_settled Expression (λ later u. ValidIn later (record { statement = plain (equal_terms t u A); set = j.set })) items at (λ s. normal_form s.store s.rules t s.units) (normal_valid items j (term_goal A) t tt p e))
-      (λ xs r u v. keeps_valid built xs (record { statement = plain (equal_terms t u A); set = j.set }) (judgement (record { statement = plain (equal_terms t u A); set = j.set })) v refl (λ later m. m))
-  keeps_normalise built items at j x p e = keeps_halt B Value IsMade items (fails (Refused WrongForm) at)
+  pub keeps_normalise : (j : Assertion) (x : Statement) → IsThesis items j → j.statement ≡ x → Keeps B Value IsMade items (normalise at j x)
+  keeps_normalise j (plain (is_type A)) p e = keeps_form (λ s. normal_form s.store s.rules A s.units) (λ N. plain (equal_types A N)) j.set (λ N. refl)
+      (λ s h. subst (λ z. Came s.units.used (λ N. Valid (store_of items) (plain (equal_types A N)) j.set) (normal_form z s.rules A s.units)) (sym h.store)
+      (normal_valid (store_of items) h.list.well s.rules h.equality s.units h.next j.set type_goal A tt (says j (plain (is_type A)) p e s h)))
+  keeps_normalise j (plain (has_type t A)) p e = keeps_form (λ s. normal_form s.store s.rules t s.units) (λ u. plain (equal_terms t u A)) j.set (λ u. refl)
+      (λ s h. subst (λ z. Came s.units.used (λ u. Valid (store_of items) (plain (equal_terms t u A)) j.set) (normal_form z s.rules t s.units)) (sym h.store)
+      (normal_valid (store_of items) h.list.well s.rules h.equality s.units h.next j.set (term_goal A) t tt (says j (plain (has_type t A)) p e s h)))
+  keeps_normalise j x p e = keeps_halt B Value IsMade items (fails (Refused WrongForm) at)

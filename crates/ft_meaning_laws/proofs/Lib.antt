@@ -10,4 +10,5 @@ mod Evaluations
 mod Rules
 mod Contexts
 mod Runs
+mod Told
 mod Whole

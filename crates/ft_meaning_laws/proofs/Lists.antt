@@ -18,14 +18,14 @@ use Rattle.ft_meaning.specs.Stages.{Stage, equality}
 
 -- The store of the list is well formed. Where the equality checker is not built, the list is good; else it may have entries of what
 -- the checker answered, which have no step.
-pub record Sound (B : Stage) (items : List Item) : Type 0 where
+pub record IsSound (B : Stage) (items : List Item) : Type 0 where
   pub well : WellFormed (store_of items)
   pub good : B equality ≡ false → Good items
 
-pub sound_empty : (B : Stage) → Sound B []
+pub sound_empty : (B : Stage) → IsSound B []
 sound_empty B = record { well = well_formed_empty; good = λ no. tt }
 
-pub sound_last : (B : Stage) (items : List Item) (i : Item) → Sound B items → AllowedIn (store_of items) i → Sound B (items ++ (i ∷ []))
+pub sound_last : (B : Stage) (items : List Item) (i : Item) → IsSound B items → AllowedIn (store_of items) i → IsSound B (items ++ (i ∷ []))
 sound_last B items i l a = record {
   well = subst WellFormed (sym (store_last empty_store items i)) (well_formed_add (store_of items) l.well i a);
   good = λ no. good_last empty_store items i (l.good no) a;
@@ -53,14 +53,14 @@ with_entry W F a v = record {
     entries p b (inl q) = later_valid W X b.statement b.set (scoped_rules W F) l (F.entries p b q)
     entries p b (inr q) = subst (λ (z : Assertion). Valid (add W (told_entry a)) z.statement z.set) q.1 (later_valid W X a.statement a.set (scoped_rules W F) l v)
 
-pub sound_valid : (B : Stage) (items : List Item) (a : Assertion) → B equality ≡ true → Sound B items → Valid (store_of items) a.statement a.set → Sound B (items ++ (told_entry a ∷ []))
+pub sound_valid : (B : Stage) (items : List Item) (a : Assertion) → B equality ≡ true → IsSound B items → Valid (store_of items) a.statement a.set → IsSound B (items ++ (told_entry a ∷ []))
 sound_valid B items a built l v = record {
   well = subst WellFormed (sym (store_last empty_store items (told_entry a))) (with_entry (store_of items) l.well a v);
   good = λ no. false_true (sym no ∙ built);
 }
 
--- Equality rules that were accepted, over the rules.
-pub record Equality (T : List Rule) (E : EqualityRules) : Type 0 where
+-- The equality rules were accepted, over the rules.
+pub record AreAccepted (T : List Rule) (E : EqualityRules) : Type 0 where
   pub computations : AllCompute T E.computations
   pub extensionalities : AllCompare T E.extensionalities
 
@@ -90,11 +90,11 @@ all_compare_later : (T U : List Rule) → ((r : ℕ) (R : Rule) → rule_at T r 
 all_compare_later T U w [] h = tt
 all_compare_later T U w (c ∷ cs) h = (compares_later T U w c h.0, all_compare_later T U w cs h.1)
 
-pub equality_later : (T U : List Rule) (E : EqualityRules) → ((r : ℕ) (R : Rule) → rule_at T r ≡ Some R → rule_at U r ≡ Some R) → Equality T E → Equality U E
-equality_later T U E w h = record { computations = all_compute_later T U w E.computations h.computations; extensionalities = all_compare_later T U w E.extensionalities h.extensionalities }
+pub accepted_later : (T U : List Rule) (E : EqualityRules) → ((r : ℕ) (R : Rule) → rule_at T r ≡ Some R → rule_at U r ≡ Some R) → AreAccepted T E → AreAccepted U E
+accepted_later T U E w h = record { computations = all_compute_later T U w E.computations h.computations; extensionalities = all_compare_later T U w E.extensionalities h.extensionalities }
 
-pub no_equality : (T : List Rule) → Equality T no_rules
-no_equality T = record { computations = tt; extensionalities = tt }
+pub none_accepted : (T : List Rule) → AreAccepted T no_rules
+none_accepted T = record { computations = tt; extensionalities = tt }
 
 compute_last : (T : List Rule) (cs : List Computation) (c : Computation) → AllCompute T cs → Computes T c → AllCompute T (cs ++ (c ∷ []))
 compute_last T [] c h k = (k, tt)
@@ -104,14 +104,14 @@ compare_last : (T : List Rule) (cs : List Extensionality) (c : Extensionality) �
 compare_last T [] c h k = (k, tt)
 compare_last T (d ∷ cs) c h k = (h.0, compare_last T cs c h.1 k)
 
-pub computation_added : (W : Store) → WellFormed W → (E D : EqualityRules) (r : ℕ) (R : Rule) → rule_at W.rules r ≡ Some R → add_computation E r R ≡ Ok D → Equality W.rules E → Equality W.rules D
+pub computation_added : (W : Store) → WellFormed W → (E D : EqualityRules) (r : ℕ) (R : Rule) → rule_at W.rules r ≡ Some R → add_computation E r R ≡ Ok D → AreAccepted W.rules E → AreAccepted W.rules D
 computation_added W F E D r R q h e =
     let b : (c : Computation) × (computation_of r R ≡ Ok c) × (Ok (record E { computations = E.computations ++ c ∷ [] }) ≡ Ok D) = bind_ok (computation_of r R) (λ c. Ok (record E { computations = E.computations ++ c ∷ [] })) D h in
-    subst (Equality W.rules) (ok_is (Ok (record E { computations = E.computations ++ b.0 ∷ [] })) (record E { computations = E.computations ++ b.0 ∷ [] }) D refl b.2)
+    subst (AreAccepted W.rules) (ok_is (Ok (record E { computations = E.computations ++ b.0 ∷ [] })) (record E { computations = E.computations ++ b.0 ∷ [] }) D refl b.2)
     (record { computations = compute_last W.rules E.computations b.0 e.computations (computes W.rules r R b.0 q b.1); extensionalities = e.extensionalities })
 
-pub extensionality_added : (W : Store) → WellFormed W → (E D : EqualityRules) (r : ℕ) (R : Rule) → rule_at W.rules r ≡ Some R → add_extensionality E r R ≡ Ok D → Equality W.rules E → Equality W.rules D
+pub extensionality_added : (W : Store) → WellFormed W → (E D : EqualityRules) (r : ℕ) (R : Rule) → rule_at W.rules r ≡ Some R → add_extensionality E r R ≡ Ok D → AreAccepted W.rules E → AreAccepted W.rules D
 extensionality_added W F E D r R q h e =
     let b : (c : Extensionality) × (extensionality_of r R ≡ Ok c) × (Ok (record E { extensionalities = E.extensionalities ++ c ∷ [] }) ≡ Ok D) = bind_ok (extensionality_of r R) (λ c. Ok (record E { extensionalities = E.extensionalities ++ c ∷ [] })) D h in
-    subst (Equality W.rules) (ok_is (Ok (record E { extensionalities = E.extensionalities ++ b.0 ∷ [] })) (record E { extensionalities = E.extensionalities ++ b.0 ∷ [] }) D refl b.2)
+    subst (AreAccepted W.rules) (ok_is (Ok (record E { extensionalities = E.extensionalities ++ b.0 ∷ [] })) (record E { extensionalities = E.extensionalities ++ b.0 ∷ [] }) D refl b.2)
     (record { computations = e.computations; extensionalities = compare_last W.rules E.extensionalities b.0 e.extensionalities (compares W.rules (sound_rules W F) r R b.0 q b.1) })

@@ -12,7 +12,7 @@ use Rattle.ft_meaning.specs.Names.{named}
 use Rattle.ft_items.specs.Good.{equal_names}
 use Rattle.ft_meaning_laws.proofs.Bare.{bare}
 use Rattle.ft_meaning_laws.proofs.Grows.{GrowsStore, grows_last, Quiet, quiet_self, quiet_then, next_later}
-use Rattle.ft_meaning_laws.proofs.Lists.{Sound, Equality, equality_later}
+use Rattle.ft_meaning_laws.proofs.Lists.{IsSound, AreAccepted, accepted_later}
 
 -- the assertion is an entry of the list, and a thesis or a boundary
 abbrev pub IsEntry : List Item → Assertion → Type 0
@@ -54,38 +54,16 @@ EndIsMade items (performs op v at) = IsMade items v
 EndIsMade items (halts h) = Unit {0}
 
 -- they stay as the list grows
-pub entry_later : (xs ys : List Item) → Quiet xs ys → (a : Assertion) → IsEntry xs a → IsEntry ys a
-entry_later xs ys q a h = (h.0, q.grows.entries h.0 a h.1)
+entry_grown : (xs ys : List Item) → GrowsStore (store_of xs) (store_of ys) → (a : Assertion) → IsEntry xs a → IsEntry ys a
+entry_grown xs ys q a h = (h.0, q.entries h.0 a h.1)
 
-pub thesis_later : (xs ys : List Item) → Quiet xs ys → (a : Assertion) → IsThesis xs a → IsThesis ys a
-thesis_later xs ys q a h = (entry_later xs ys q a h.0, h.1)
+pub theses_grown : (xs ys : List Item) → GrowsStore (store_of xs) (store_of ys) → (js : List Assertion) → AllTheses xs js → AllTheses ys js
+theses_grown xs ys q [] h = tt
+theses_grown xs ys q (j ∷ js) h = ((entry_grown xs ys q j h.0.0, h.0.1), theses_grown xs ys q js h.1)
 
-pub boundary_later : (xs ys : List Item) → Quiet xs ys → (a : Assertion) → IsBoundary xs a → IsBoundary ys a
-boundary_later xs ys q a h = (entry_later xs ys q a h.0, h.1)
-
-pub theses_later : (xs ys : List Item) → Quiet xs ys → (js : List Assertion) → AllTheses xs js → AllTheses ys js
-theses_later xs ys q [] h = tt
-theses_later xs ys q (j ∷ js) h = (thesis_later xs ys q j h.0, theses_later xs ys q js h.1)
-
-pub made_later : (xs ys : List Item) → Quiet xs ys → (v : Value) → IsMade xs v → IsMade ys v
-made_later xs ys q (judgement a) h = thesis_later xs ys q a h
-made_later xs ys q (boundary a) h = boundary_later xs ys q a h
-made_later xs ys q unit h = tt
-made_later xs ys q (truth b) h = tt
-made_later xs ys q (pair v w) h = (made_later xs ys q v h.0, made_later xs ys q w h.1)
-made_later xs ys q nil h = tt
-made_later xs ys q (cons v w) h = (made_later xs ys q v h.0, made_later xs ys q w h.1)
-made_later xs ys q none h = tt
-made_later xs ys q (some v) h = made_later xs ys q v h
-
-pub are_made_later : (xs ys : List Item) → Quiet xs ys → (G : Environment) → AreMade xs G → AreMade ys G
-are_made_later xs ys q [] h = tt
-are_made_later xs ys q (p ∷ G) h = (made_later xs ys q p.1 h.0, are_made_later xs ys q G h.1)
-
--- the same for a list that grows and tells more
 made_grown : (xs ys : List Item) → GrowsStore (store_of xs) (store_of ys) → (v : Value) → IsMade xs v → IsMade ys v
-made_grown xs ys q (judgement a) h = ((h.0.0, q.entries h.0.0 a h.0.1), h.1)
-made_grown xs ys q (boundary a) h = ((h.0.0, q.entries h.0.0 a h.0.1), h.1)
+made_grown xs ys q (judgement a) h = (entry_grown xs ys q a h.0, h.1)
+made_grown xs ys q (boundary a) h = (entry_grown xs ys q a h.0, h.1)
 made_grown xs ys q unit h = tt
 made_grown xs ys q (truth b) h = tt
 made_grown xs ys q (pair v w) h = (made_grown xs ys q v h.0, made_grown xs ys q w h.1)
@@ -97,6 +75,19 @@ made_grown xs ys q (some v) h = made_grown xs ys q v h
 pub are_made_grown : (xs ys : List Item) → GrowsStore (store_of xs) (store_of ys) → (G : Environment) → AreMade xs G → AreMade ys G
 are_made_grown xs ys q [] h = tt
 are_made_grown xs ys q (p ∷ G) h = (made_grown xs ys q p.1 h.0, are_made_grown xs ys q G h.1)
+
+-- the same where it tells nothing more
+pub thesis_later : (xs ys : List Item) → Quiet xs ys → (a : Assertion) → IsThesis xs a → IsThesis ys a
+thesis_later xs ys q a h = (entry_grown xs ys q.grows a h.0, h.1)
+
+pub theses_later : (xs ys : List Item) → Quiet xs ys → (js : List Assertion) → AllTheses xs js → AllTheses ys js
+theses_later xs ys q js h = theses_grown xs ys q.grows js h
+
+pub made_later : (xs ys : List Item) → Quiet xs ys → (v : Value) → IsMade xs v → IsMade ys v
+made_later xs ys q v h = made_grown xs ys q.grows v h
+
+pub are_made_later : (xs ys : List Item) → Quiet xs ys → (G : Environment) → AreMade xs G → AreMade ys G
+are_made_later xs ys q G h = are_made_grown xs ys q.grows G h
 
 -- the value of a name
 abbrev pub ValueIsMade : List Item → Option Value → Type 0
@@ -124,17 +115,17 @@ module _ (B : Stage) where
   -- The list goes along with the state: the store is the list's without entries, the equality rules were accepted, and units count past the
   -- numbers of its variables.
   pub record Holds (items : List Item) (s : State) : Type 0 where
-    pub list : Sound B items
-    pub equality : Equality (store_of items).rules s.rules
+    pub list : IsSound B items
+    pub equality : AreAccepted (store_of items).rules s.rules
     pub store : s.store ≡ bare (store_of items)
     pub next : is_next (store_of items).variables s.units.used ≡ true
 
   -- one more item, and the state with it
-  pub holds_last : (items : List Item) (i : Item) (s t : State) → Holds items s → Sound B (items ++ (i ∷ [])) → t.rules ≡ s.rules → t.store ≡ bare (add (store_of items) i)
+  pub holds_last : (items : List Item) (i : Item) (s t : State) → Holds items s → IsSound B (items ++ (i ∷ [])) → t.rules ≡ s.rules → t.store ≡ bare (add (store_of items) i)
       → is_next (add (store_of items) i).variables t.units.used ≡ true → Holds (items ++ (i ∷ [])) t
   holds_last items i s t h l r e n = record {
     list = l;
-    equality = subst (Equality (store_of (items ++ (i ∷ []))).rules) (sym r) (equality_later (store_of items).rules (store_of (items ++ (i ∷ []))).rules s.rules (grows_last items i).rules h.equality);
+    equality = subst (AreAccepted (store_of (items ++ (i ∷ []))).rules) (sym r) (accepted_later (store_of items).rules (store_of (items ++ (i ∷ []))).rules s.rules (grows_last items i).rules h.equality);
     store = e ∙ ap bare (sym (store_last empty_store items i));
     next = subst (λ (z : Store). is_next z.variables t.units.used ≡ true) (sym (store_last empty_store items i)) n;
   }

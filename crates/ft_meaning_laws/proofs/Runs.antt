@@ -26,9 +26,9 @@ use Rattle.ft_meaning_laws.specs.Derivability.{HasContext}
 use Rattle.ft_meaning_laws.proofs.Bare.{bare, sequent_bare, derivable_bare, members_bare}
 use Rattle.ft_meaning_laws.proofs.Grows as grows
 use Rattle.ft_meaning_laws.proofs.Grows.{GrowsStore, grows_self, grows_then, grows_last, told_last, quiet_self}
-use Rattle.ft_meaning_laws.proofs.Lists.{sound_last, Equality, computation_added, extensionality_added}
+use Rattle.ft_meaning_laws.proofs.Lists.{sound_last, AreAccepted, computation_added, extensionality_added}
 use Rattle.ft_meaning_laws.proofs.Contexts.{members_hold}
-use Rattle.ft_meaning_laws.proofs.Made.{IsEntry, IsThesis, AllTheses, IsMade, AreMade, are_made_later, are_made_grown, Holds, holds_last, Kept, Keeps, keeps_bind, keeps_then, keeps_pure, keeps_halt, Any, keeps_judgement, keeps_judgements}
+use Rattle.ft_meaning_laws.proofs.Made.{IsEntry, IsThesis, AllTheses, IsMade, AreMade, theses_grown, are_made_later, are_made_grown, Holds, holds_last, Kept, Keeps, keeps_bind, keeps_then, keeps_pure, keeps_halt, Any, keeps_judgement, keeps_judgements}
 use Rattle.ft_meaning_laws.proofs.Built.{AllBuilt, rest_built, right_built}
 use Rattle.ft_meaning_laws.proofs.Evaluations.{keeps_meaning}
 use Rattle.ft_meaning_laws.proofs.Rules.{IsPlainBoundary, HasDraft, draft_later, keeps_begin, DraftMade, keeps_boundary, keeps_premises}
@@ -65,10 +65,6 @@ DoneMade items Quiet = Unit {0}
 
 abbrev CommandMade : List Item → Done × Environment → Type 0
 CommandMade items d = DoneMade items d.0 × AreMade items d.1
-
-theses_grown : (xs ys : List Item) → GrowsStore (store_of xs) (store_of ys) → (js : List Assertion) → AllTheses xs js → AllTheses ys js
-theses_grown xs ys q [] h = tt
-theses_grown xs ys q (j ∷ js) h = (((h.0.0.0, q.entries h.0.0.0 j h.0.0.1), h.0.1), theses_grown xs ys q js h.1)
 
 module _ (B : Stage) where
   record RuleRan (n : Name) (items : List Item) (o : Outcome Rule) : Type 0 where
@@ -190,7 +186,7 @@ module _ (B : Stage) where
 
   -- an equality rule
   keeps_equality : (items : List Item) (add : EqualityRules → ℕ → Rule → Result EqualityRules ShapeFault) (n : Named)
-      → ((W : Store) → WellFormed W → (E D : EqualityRules) (r : ℕ) (R : Rule) → rule_at W.rules r ≡ Some R → add E r R ≡ Ok D → Equality W.rules E → Equality W.rules D) → Keeps B (Unit {0}) Any items (declare_equality add n)
+      → ((W : Store) → WellFormed W → (E D : EqualityRules) (r : ℕ) (R : Rule) → rule_at W.rules r ≡ Some R → add E r R ≡ Ok D → AreAccepted W.rules E → AreAccepted W.rules D) → Keeps B (Unit {0}) Any items (declare_equality add n)
   keeps_equality items add n f = keeps_bind B (ℕ × Rule) (Unit {0}) IsRule Any items (the_rule n.name) (λ r s. shaped n.at (add s.rules r.0 r.1) s) (keeps_rule B items n.name)
       (λ xs q r k s h. go xs r k s h (add s.rules r.0 r.1) refl)
     where

@@ -1,12 +1,12 @@
 -- Whole transcripts: there is a list that tells what a transcript does, and all that it shows is derivable in its context.
-use Rattle.std.proofs.Common.{◌≡◌, ℕ, Option, Some, None, Result, Ok, Err, List, [], ◌∷◌, ◌++◌, refl, sym, ap, ◌∙◌, subst, append_assoc, append-nil}
+use Rattle.std.proofs.Common.{◌≡◌, ℕ, false, Option, Some, None, Result, Ok, Err, List, [], ◌∷◌, ◌++◌, refl, sym, ap, ◌∙◌, subst, append_assoc, append-nil}
 use Rattle.std.specs.Prelude.{map}
 use Rattle.ft_theory.specs.Derivability.{FinitaryUpTo}
 use Rattle.ft_theory.specs.Rules.{Rule}
 use Rattle.ft_items.specs.Item.{Name, Item, variable, metavariable, rule, entry, shown}
 use Rattle.ft_items.specs.Store.{Assertion, Declared, Store, each, entry_named, metavariable_named, add_variable, add_metavariable, add_rule, add, add_all, empty_store}
 use Rattle.ft_meaning.specs.Trees.{Command}
-use Rattle.ft_meaning.specs.Stages.{Stage, source_parts, first_not_built}
+use Rattle.ft_meaning.specs.Stages.{Stage, equality, no_equality, source_parts, first_not_built}
 use Rattle.ft_meaning.specs.Values.{Environment, State, Halt, fails, spent, stuck}
 use Rattle.ft_meaning.specs.Commands.{Done, run_command}
 use Rattle.ft_meaning.specs.Typing.{TypeFault, Scope, first_scope}
@@ -15,8 +15,9 @@ use Rattle.ft_meaning.specs.Texts.{Text}
 use Rattle.ft_meaning.specs.Events.{Shown, Event, accepts, shows, events_of, shown_in, EachShown, IsDerivable, Told, declares, states, told_by_event, told_rule, told_shown, told_by_item, told_from}
 use Rattle.ft_meaning.specs.Sources.{Content, too_long, no_text, unexpected, too_nested, commands}
 use Rattle.ft_meaning.specs.Transcript.{Transcript, after_command, after_typing, transcript_from, start, unless_unbuilt, transcript_of, IsTranscriptAt}
-use Rattle.ft_meaning_laws.specs.Derivability.{ShownDerivable, HasContext, ContextsHold, accepted_in, AcceptedIsFinitary, DerivationExists}
-use Rattle.ft_meaning_laws.proofs.Lists.{Sound, sound_empty, no_equality}
+use Rattle.ft_meaning_laws.specs.Derivability.{ShownDerivable, AreOver, ShownOverAccepted, HasContext, ContextsHold, AcceptedIsFinitary, HasDerivation, StageHasDerivation, IsWithoutEquality, SourceHasDerivation}
+use Rattle.ft_meaning_laws.proofs.Lists.{IsSound, sound_empty, none_accepted}
+use Rattle.ft_meaning_laws.proofs.Told.{rules_told, rules_are_told, accepted_are_told, AreStatedOver, told_over, events_over}
 use Rattle.ft_meaning_laws.proofs.Made.{AreMade, Holds}
 use Rattle.ft_meaning_laws.proofs.Built.{AllBuilt, left_built, right_built}
 use Rattle.ft_meaning_laws.proofs.Runs.{IsWell, CommandRan, command_ran}
@@ -34,65 +35,15 @@ each_map : (P Q : Shown → Type 0) → ((s : Shown) → P s → Q s) → (ss : 
 each_map P Q f [] h = tt
 each_map P Q f (s ∷ ss) h = (f s h.0, each_map P Q f ss h.1)
 
--- the rules that are told
-abbrev rules_told : List Told → List Rule
-rules_told [] = []
-rules_told (declares n R ∷ ts) = R ∷ rules_told ts
-rules_told (states T x ∷ ts) = rules_told ts
-
-told_append : (xs ys : List Told) → rules_told (xs ++ ys) ≡ rules_told xs ++ rules_told ys
-told_append [] ys = refl
-told_append (declares n R ∷ xs) ys = ap (λ z. R ∷ z) (told_append xs ys)
-told_append (states T x ∷ xs) ys = told_append xs ys
-
-variable_tells : (W : Store) (v : ℕ) (n : Name) (o : Option Assertion) → (add_variable W v n o).rules ≡ W.rules ++ []
-variable_tells W v n None = sym (append-nil W.rules)
-variable_tells W v n (Some a) = sym (append-nil W.rules)
-
-metavariable_tells : (W : Store) (n : Name) (o : Option Assertion) → (add_metavariable W n o).rules ≡ W.rules ++ []
-metavariable_tells W n None = sym (append-nil W.rules)
-metavariable_tells W n (Some a) = sym (append-nil W.rules)
-
-rule_tells : (W : Store) (n : Name) (os : Option (List (ℕ × Declared))) (o : Option Assertion) → (add_rule W n os o).rules ≡ W.rules ++ rules_told (told_rule n os o)
-rule_tells W n None o = sym (append-nil W.rules)
-rule_tells W n (Some ms) None = sym (append-nil W.rules)
-rule_tells W n (Some ms) (Some a) = refl
-
-shown_tells : (W : Store) (o : Option Assertion) → W.rules ≡ W.rules ++ rules_told (told_shown W o)
-shown_tells W None = sym (append-nil W.rules)
-shown_tells W (Some a) = sym (append-nil W.rules)
-
-item_tells : (W : Store) (i : Item) → (add W i).rules ≡ W.rules ++ rules_told (told_by_item W i)
-item_tells W (variable v n p) = variable_tells W v n (entry_named W p)
-item_tells W (metavariable n p) = metavariable_tells W n (entry_named W p)
-item_tells W (rule n ms p) = rule_tells W n (each (metavariable_named W) ms) (entry_named W p)
-item_tells W (entry e) = sym (append-nil W.rules)
-item_tells W (shown p) = shown_tells W (entry_named W p)
-
--- the rules of a list are those that it tells
-rules_are_told : (W : Store) (items : List Item) → (add_all W items).rules ≡ W.rules ++ rules_told (told_from W items)
-rules_are_told W [] = sym (append-nil W.rules)
-rules_are_told W (i ∷ items) =
-    rules_are_told (add W i) items
-    ∙ ap (λ z. z ++ rules_told (told_from (add W i) items)) (item_tells W i)
-    ∙ append_assoc W.rules (rules_told (told_by_item W i)) (rules_told (told_from (add W i) items))
-    ∙ ap (λ z. W.rules ++ z) (sym (told_append (told_by_item W i) (told_from (add W i) items)))
-
--- the rules that events tell are those accepted
-accepted_are_told : (es : List Event) → rules_told (map told_by_event es) ≡ accepted_in es
-accepted_are_told [] = refl
-accepted_are_told (accepts n R ∷ es) = ap (λ z. R ∷ z) (accepted_are_told es)
-accepted_are_told (shows W j ∷ es) = accepted_are_told es
-
 module _ (B : Stage) where
   -- a longer list tells the events, after what the list told before
   record Tells (items : List Item) (es : List Event) : Type 0 where
     later : List Item
-    list : Sound B later
+    list : IsSound B later
     tells : told_from empty_store later ≡ told_from empty_store items ++ map told_by_event es
     derivable : EachShown IsWell (shown_in es)
 
-  no_event : (items : List Item) → Sound B items → Tells items []
+  no_event : (items : List Item) → IsSound B items → Tells items []
   no_event items l = record { later = items; list = l; tells = sym (append-nil (told_from empty_store items)); derivable = tt }
 
   module _ (source : Text) where
@@ -113,7 +64,7 @@ module _ (B : Stage) where
     then_tells items c (Err (spent at), s) next r f = record { later = r.later; list = r.holds.list; tells = r.tells; derivable = tt }
     then_tells items c (Err stuck, s) next r f = record { later = r.later; list = r.holds.list; tells = r.tells; derivable = tt }
 
-    typed_tells : (items : List Item) → Sound B items → (r : Result Scope TypeFault) (units : ℕ) (next : Scope → Transcript) → ((scope : Scope) → Tells items (next scope).events) → Tells items (after_typing source r units next).events
+    typed_tells : (items : List Item) → IsSound B items → (r : Result Scope TypeFault) (units : ℕ) (next : Scope → Transcript) → ((scope : Scope) → Tells items (next scope).events) → Tells items (after_typing source r units next).events
     typed_tells items l (Ok scope) units next f = f scope
     typed_tells items l (Err e) units next f = no_event items l
 
@@ -125,7 +76,7 @@ module _ (B : Stage) where
         commands_tell cs (right_built B _ _ u) later further H t m k))
 
     unbuilt_tells : (budget : ℕ) (cs : List Command) (o : Option ℕ) → first_not_built B (source_parts cs) ≡ o → Tells [] (unless_unbuilt source budget cs o).events
-    unbuilt_tells budget cs None e = commands_tell cs (record { none = e }) [] first_scope [] (start budget) tt (record { list = sound_empty B; equality = no_equality []; store = refl; next = refl })
+    unbuilt_tells budget cs None e = commands_tell cs (record { none = e }) [] first_scope [] (start budget) tt (record { list = sound_empty B; equality = none_accepted []; store = refl; next = refl })
     unbuilt_tells budget cs (Some at) e = no_event [] (sound_empty B)
 
     content_tells : (budget : ℕ) (content : Content) → Tells [] (transcript_of B source budget content).events
@@ -142,6 +93,9 @@ module _ (B : Stage) where
 pub shown_derivable : ShownDerivable
 shown_derivable B source budget t h = each_map IsWell IsDerivable (λ s w. w.0) (shown_in t.events) (transcript_tells B source budget t h).derivable
 
+pub shown_over_accepted : ShownOverAccepted
+shown_over_accepted B source budget t h = let r : Tells B [] t.events = transcript_tells B source budget t h in events_over [] t.events (subst (AreStatedOver []) r.tells (told_over empty_store r.later))
+
 pub contexts_hold : ContextsHold
 contexts_hold B source budget t h = each_map IsWell HasContext (λ s w. w.1) (shown_in t.events) (transcript_tells B source budget t h).derivable
 
@@ -150,5 +104,23 @@ accepted_is_finitary B source budget t h k =
     let r : Tells B [] t.events = transcript_tells B source budget t h in
     subst (FinitaryUpTo k) (rules_are_told empty_store r.later ∙ ap rules_told r.tells ∙ accepted_are_told t.events) (r.list.well.finitary k)
 
-pub derivation_exists : DerivationExists
-derivation_exists B source budget t without h = let r : Tells B [] t.events = transcript_tells B source budget t h in (r.later, record { good = r.list.good without; tells = r.tells })
+-- derivations
+derivation : (B : Stage) (es : List Event) → B equality ≡ false → Tells B [] es → HasDerivation es
+derivation B es without r = (r.later, record { good = r.list.good without; tells = r.tells })
+
+pub stage_has_derivation : StageHasDerivation
+stage_has_derivation B source budget t without h = derivation B t.events without (transcript_tells B source budget t h)
+
+content_has_derivation : (B : Stage) (source : Text) (budget : ℕ) (content : Content) → IsWithoutEquality content → HasDerivation (transcript_of B source budget content).events
+content_has_derivation B source budget too_long w = ([], record { good = tt; tells = refl })
+content_has_derivation B source budget (no_text n) w = ([], record { good = tt; tells = refl })
+content_has_derivation B source budget (unexpected at) w = ([], record { good = tt; tells = refl })
+content_has_derivation B source budget (too_nested at) w = ([], record { good = tt; tells = refl })
+content_has_derivation B source budget (commands cs) w = go (first_not_built B (source_parts cs))
+  where
+    go : (o : Option ℕ) → HasDerivation (unless_unbuilt source budget cs o).events
+    go None = derivation no_equality (unless_unbuilt source budget cs None).events refl (unbuilt_tells no_equality source budget cs None w)
+    go (Some at) = ([], record { good = tt; tells = refl })
+
+pub source_has_derivation : SourceHasDerivation
+source_has_derivation B source budget t h w = subst (λ (z : Transcript). HasDerivation z.events) (sym h.2) (content_has_derivation B source budget h.0 w)

@@ -1,12 +1,13 @@
 -- What is shown is derivable, in a context that is well formed; what is done has a derivation; and the rules that are accepted are
 -- a finitary theory.
-use Rattle.std.specs.Prelude.{ℕ, ◌≡◌, false, List, [], ◌∷◌}
+use Rattle.std.specs.Prelude.{ℕ, ◌≡◌, false, None, List, [], ◌∷◌, ◌++◌}
 use Rattle.ft_theory.specs.Rules.{Rule}
 use Rattle.ft_theory.specs.Derivability.{FinitaryUpTo}
 use Rattle.ft_items.specs.Item.{Item}
 use Rattle.ft_sound.specs.Soundness.{MembersHold}
 use Rattle.ft_meaning.specs.Texts.{Text}
-use Rattle.ft_meaning.specs.Stages.{Stage, equality}
+use Rattle.ft_meaning.specs.Stages.{Stage, equality, no_equality, first_unbuilt}
+use Rattle.ft_meaning.specs.Sources.{Content, commands}
 use Rattle.ft_meaning.specs.Events.{Event, accepts, shows, Shown, shown_in, EachShown, AllDerivable, IsDerivationOf}
 use Rattle.ft_meaning.specs.Transcript.{Transcript, IsTranscriptAt}
 
@@ -18,6 +19,16 @@ OfEachTranscript P = (B : Stage) (source : Text) (budget : ℕ) (t : Transcript)
 -- before its line.
 abbrev pub ShownDerivable : Type 0
 ShownDerivable = OfEachTranscript (λ es. AllDerivable (shown_in es))
+
+-- each judgement is shown over these rules and those accepted before it
+abbrev pub AreOver : List Rule → List Event → Type 0
+AreOver T [] = Unit {0}
+AreOver T (accepts n R ∷ es) = AreOver (T ++ R ∷ []) es
+AreOver T (shows W j ∷ es) = (W.rules ≡ T) × AreOver T es
+
+-- Each judgement is shown over the rules accepted before it.
+abbrev pub ShownOverAccepted : Type 0
+ShownOverAccepted = OfEachTranscript (AreOver [])
 
 -- the context of a judgement is well formed: its metavariables first and then its variables, by number, each holds over those
 -- before it
@@ -38,7 +49,20 @@ accepted_in (shows W j ∷ es) = accepted_in es
 abbrev pub AcceptedIsFinitary : Type 0
 AcceptedIsFinitary = OfEachTranscript (λ es. (k : ℕ) → FinitaryUpTo k (accepted_in es))
 
--- Where the equality checker is not built, what a transcript does has a derivation: a good list whose rules and shown marks are, in
--- order, the rules accepted and the judgements shown, each with its sequent.
-abbrev pub DerivationExists : Type 0
-DerivationExists = (B : Stage) (source : Text) (budget : ℕ) (t : Transcript) → B equality ≡ false → IsTranscriptAt B source budget t → (items : List Item) × IsDerivationOf items t.events
+-- There is a derivation of the events: a good list whose rules and shown marks are, in order, the rules accepted and the judgements
+-- shown, each with its sequent.
+abbrev pub HasDerivation : List Event → Type 0
+HasDerivation es = (items : List Item) × IsDerivationOf items es
+
+-- Where the equality checker is not built, what a transcript does has a derivation.
+abbrev pub StageHasDerivation : Type 0
+StageHasDerivation = (B : Stage) (source : Text) (budget : ℕ) (t : Transcript) → B equality ≡ false → IsTranscriptAt B source budget t → HasDerivation t.events
+
+-- no part of the content is one of the equality checker
+abbrev pub IsWithoutEquality : Content → Type 0
+IsWithoutEquality (commands cs) = first_unbuilt no_equality cs ≡ None
+IsWithoutEquality c = Unit {0}
+
+-- Where a source has no part of the equality checker, what its transcript does has a derivation, at each stage.
+abbrev pub SourceHasDerivation : Type 0
+SourceHasDerivation = (B : Stage) (source : Text) (budget : ℕ) (t : Transcript) (h : IsTranscriptAt B source budget t) → IsWithoutEquality h.0 → HasDerivation t.events

@@ -1,10 +1,11 @@
 // What is shown is derivable, and what is done has a derivation.
 
-ghost use Rattle.ft_meaning_laws.specs.Derivability.{ShownDerivable, ContextsHold, AcceptedIsFinitary, DerivationExists};
+ghost use Rattle.ft_meaning_laws.specs.Derivability.{ShownDerivable, ShownOverAccepted, ContextsHold, AcceptedIsFinitary, StageHasDerivation, SourceHasDerivation};
 
 /// Each judgement that a transcript shows is derivable by primitive steps, in the context of its set, over the rules accepted before its line.
 pub fn shown_derivable()
     ensures law { ShownDerivable }
+    ensures over { ShownOverAccepted }
 {}
 
 /// The context of each judgement that a transcript shows is well formed.
@@ -17,7 +18,8 @@ pub fn accepted_is_finitary()
     ensures law { AcceptedIsFinitary }
 {}
 
-/// Where the equality checker is not built, what a transcript does has a derivation.
+/// Where the equality checker is not built, or no part of the source is one of it, what a transcript does has a derivation.
 pub fn derivation_exists()
-    ensures law { DerivationExists }
+    ensures stages { StageHasDerivation }
+    ensures sources { SourceHasDerivation }
 {}

@@ -4,7 +4,6 @@ use Rattle.ft_theory.specs.Expressions.{Expression}
 use Rattle.ft_theory.specs.Statements.{Claim, is_type, has_type, equal_types, equal_terms, type_goal, term_goal, Statement, plain, fill_goal, equate_goal, IsObjectGoal}
 use Rattle.ft_theory.specs.Rules.{Rule, rule_at}
 use Rattle.ft_theory.specs.Steps.{Prim}
-use Rattle.ft_laws.proofs.Finitary.{Sound}
 use Rattle.ft_items.specs.Equal.{is_thesis}
 use Rattle.ft_items.specs.Sets.{Atom, union, Within}
 use Rattle.ft_items.specs.Item.{Item, by_btype}
@@ -18,16 +17,18 @@ use Rattle.ft_equality.specs.Equality.{types_are_equal, terms_are_equal, normal_
 use Rattle.ft_equality_laws.proofs.Means.{Below, If, EqualAt, NormalFact, Came}
 use Rattle.ft_equality_laws.proofs.Opening.{if_map}
 use Rattle.ft_equality_laws.proofs.Parts.{Flat}
+use Rattle.ft_equality_laws.proofs.Normal.{AllCompute}
+use Rattle.ft_equality_laws.proofs.ByType.{AllCompare}
 use Rattle.ft_equality_laws.proofs.Answers.{types_answer, terms_answer, normal_answer}
 use Rattle.ft_equality_laws.proofs.Accepted.{flat_of}
 use Rattle.ft_equality_laws.proofs.Stores.{next_more, below_next, declared_in}
 use Rattle.ft_reference.specs.Refusals.{WrongForm}
 use Rattle.ft_meaning.specs.Stages.{Stage, equality}
-use Rattle.ft_meaning.specs.Values.{Value, judgement, none, some, State, Run, ◌>>=◌, Refused, fails, pure}
+use Rattle.ft_meaning.specs.Values.{Value, judgement, none, some, State, ◌>>=◌, Refused, fails, pure}
 use Rattle.ft_meaning.specs.Forms.{settled, equation_if, compare, normalise}
 use Rattle.ft_meaning_laws.proofs.Bare.{bare}
 use Rattle.ft_meaning_laws.proofs.Grows.{quiet_self, quiet_last}
-use Rattle.ft_meaning_laws.proofs.Lists.{told_entry, sound_valid, AreAccepted}
+use Rattle.ft_meaning_laws.proofs.Lists.{told_entry, sound_valid, AreAccepted, all_compute, all_compare}
 use Rattle.ft_meaning_laws.proofs.Made.{IsThesis, IsMade, Holds, holds_last, Kept, Keeps, keeps_bind, keeps_pure, keeps_halt}
 use Rattle.ft_meaning_laws.proofs.Calls.{entry_end}
 
@@ -37,8 +38,14 @@ came_map m P Q (Err e, u) f c = c
 
 -- Answers over a store without entries.
 module _ (W : Store) (F : WellFormed W) (E : EqualityRules) (h : AreAccepted W.rules E) (u : Units) (next : is_next W.variables u.used ≡ true) where
+  computing : AllCompute W.rules E.computations
+  computing = all_compute W.rules E.computations h.0
+
+  comparing : AllCompare W.rules E.extensionalities
+  comparing = all_compare W.rules (sound_rules W F) E.extensionalities h.1
+
   flat : (s : ℕ) (R : Rule) → rule_at W.rules s ≡ Some R → Flat E s 1 R.premises
-  flat = flat_of W.rules (sound_rules W F) E h.computations
+  flat = flat_of W.rules (sound_rules W F) E computing
 
   over : (x : Statement) (S R : List Atom) → Within S R → Valid W x S → Derivable W x R
   over x S R w v = up W (scoped_rules W F) x S R w v.derivable
@@ -51,7 +58,7 @@ module _ (W : Store) (F : WellFormed W) (E : EqualityRules) (h : AreAccepted W.r
         derivable = y (annotations_in W (union S R)) (below_next W F u.used (union S R) next)
             (over (plain (is_type A)) S (union S R) (λ a m. union_left a S R m) v) (over (plain (is_type C)) R (union S R) (λ a m. union_right a S R m) w);
       }))
-      (types_answer (bare W) E (sound_rules W F) (boundaries_in W (union S R)) h.computations h.extensionalities flat (declared_in W (union S R)) A C u)
+      (types_answer (bare W) E (sound_rules W F) (boundaries_in W (union S R)) computing comparing flat (declared_in W (union S R)) A C u)
     where
       Alike : Type 0
       Alike = EqualAt W.rules (boundaries_in W (union S R)) u.used type_goal A C
@@ -64,7 +71,7 @@ module _ (W : Store) (F : WellFormed W) (E : EqualityRules) (h : AreAccepted W.r
         derivable = y (annotations_in W (union S R)) (below_next W F u.used (union S R) next)
             (over (plain (has_type s A)) S (union S R) (λ a m. union_left a S R m) v) (over (plain (has_type t C)) R (union S R) (λ a m. union_right a S R m) w);
       }))
-      (terms_answer (bare W) E (sound_rules W F) (boundaries_in W (union S R)) h.computations h.extensionalities flat (declared_in W (union S R)) s A t C u)
+      (terms_answer (bare W) E (sound_rules W F) (boundaries_in W (union S R)) computing comparing flat (declared_in W (union S R)) s A t C u)
     where
       At : List (ℕ × Expression) → Claim → Type 0
       At G c = Prim W.rules (boundaries_in W (union S R)) G (plain c)
@@ -76,7 +83,7 @@ module _ (W : Store) (F : WellFormed W) (E : EqualityRules) (h : AreAccepted W.r
   normal_valid S c e o v =
       came_map u.used (NormalFact W.rules (boundaries_in W S) u.used e) (λ f. Valid W (plain (equate_goal c e f)) S) (normal_form (bare W) E e u)
       (λ f y. record { proper = v.proper; derivable = y c o (annotations_in W S) (below_next W F u.used S next) v.derivable })
-      (normal_answer (bare W) E (sound_rules W F) (boundaries_in W S) h.computations h.extensionalities flat (declared_in W S) e u)
+      (normal_answer (bare W) E (sound_rules W F) (boundaries_in W S) computing comparing flat (declared_in W S) e u)
 
 -- Answers in a run.
 module _ (B : Stage) (built : B equality ≡ true) (items : List Item) (at : ℕ) where

@@ -1,19 +1,23 @@
 -- The lists of items that go along with runs, and the equality rules that were accepted.
-use Rattle.std.proofs.Common.{◌≡◌, ℕ, true, false, Some, Ok, List, [], ◌∷◌, ◌++◌, length, ◌⊎◌, inl, inr, refl, sym, ◌∙◌, subst}
+use Rattle.std.proofs.Common.{◌≡◌, ℕ, true, false, Some, Result, Ok, List, [], ◌∷◌, ◌++◌, length, ◌⊎◌, inl, inr, sym, ◌∙◌, subst}
 use Rattle.ft_common.proofs.Booleans.{false_true}
+use Rattle.ft_common.proofs.Results.{ok_ok}
+use Rattle.ft_laws.proofs.Finitary.{Sound}
 use Rattle.ft_theory.specs.Statements.{is_type, plain}
 use Rattle.ft_theory.specs.Rules.{Rule, rule_at}
 use Rattle.ft_items.specs.Item.{Item, entry, by_btype}
 use Rattle.ft_items.specs.Store.{Assertion, Store, nth, add, empty_store, store_of}
 use Rattle.ft_items.specs.Good.{AllowedIn, Good}
 use Rattle.ft_items.proofs.Lists.{store_last, good_last}
-use Rattle.ft_sound.proofs.Valid.{Later, Valid, WellFormed, later_valid, sound_rules, scoped_rules}
+use Rattle.ft_sound.proofs.Valid.{Later, Valid, WellFormed, later_valid, scoped_rules}
 use Rattle.ft_sound.proofs.Good.{nth_last}
 use Rattle.ft_sound.proofs.Reasons.{well_formed_add, well_formed_empty}
-use Rattle.ft_equality.specs.Shapes.{Computation, Extensionality, EqualityRules, no_rules, computation_of, extensionality_of, add_computation, add_extensionality}
-use Rattle.ft_equality_laws.proofs.Normal.{Computes, AllCompute}
-use Rattle.ft_equality_laws.proofs.ByType.{Compares, AllCompare}
-use Rattle.ft_equality_laws.proofs.Accepted.{bind_ok, ok_is, computes, compares}
+use Rattle.ft_equality.specs.Shapes.{Computation, Extensionality, ShapeFault, EqualityRules, computation_of, extensionality_of, add_computation, add_extensionality}
+use Rattle.ft_equality_laws.specs.Laws.{Each}
+use Rattle.ft_equality_laws.proofs.Each.{each_join, each_map}
+use Rattle.ft_equality_laws.proofs.Normal.{AllCompute}
+use Rattle.ft_equality_laws.proofs.ByType.{AllCompare}
+use Rattle.ft_equality_laws.proofs.Accepted.{bind_ok, computes, compares}
 use Rattle.ft_meaning.specs.Stages.{Stage, equality}
 
 -- The store of the list is well formed. Where the equality checker is not built, the list is good; else it may have entries of what
@@ -23,12 +27,12 @@ pub record IsSound (B : Stage) (items : List Item) : Type 0 where
   pub good : B equality ≡ false → Good items
 
 pub sound_empty : (B : Stage) → IsSound B []
-sound_empty B = record { well = well_formed_empty; good = λ no. tt }
+sound_empty B = record { well = well_formed_empty; good = λ without. tt }
 
 pub sound_last : (B : Stage) (items : List Item) (i : Item) → IsSound B items → AllowedIn (store_of items) i → IsSound B (items ++ (i ∷ []))
 sound_last B items i l a = record {
   well = subst WellFormed (sym (store_last empty_store items i)) (well_formed_add (store_of items) l.well i a);
-  good = λ no. good_last empty_store items i (l.good no) a;
+  good = λ without. good_last empty_store items i (l.good without) a;
 }
 
 -- the entry of what is valid, with any step
@@ -56,62 +60,37 @@ with_entry W F a v = record {
 pub sound_valid : (B : Stage) (items : List Item) (a : Assertion) → B equality ≡ true → IsSound B items → Valid (store_of items) a.statement a.set → IsSound B (items ++ (told_entry a ∷ []))
 sound_valid B items a built l v = record {
   well = subst WellFormed (sym (store_last empty_store items (told_entry a))) (with_entry (store_of items) l.well a v);
-  good = λ no. false_true (sym no ∙ built);
+  good = λ without. false_true (sym without ∙ built);
 }
+
+-- an equality rule that a rule of the theory is
+abbrev IsFrom : {A : Type 0} → (ℕ → Rule → Result A ShapeFault) → List Rule → A → Type 0
+IsFrom shape T a = (r : ℕ) × (R : Rule) × (rule_at T r ≡ Some R) × (shape r R ≡ Ok a)
 
 -- The equality rules were accepted, over the rules.
-pub record AreAccepted (T : List Rule) (E : EqualityRules) : Type 0 where
-  pub computations : AllCompute T E.computations
-  pub extensionalities : AllCompare T E.extensionalities
-
-computes_later : (T U : List Rule) → ((r : ℕ) (R : Rule) → rule_at T r ≡ Some R → rule_at U r ≡ Some R) → (c : Computation) → Computes T c → Computes U c
-computes_later T U w c h = record { is = w c.rule _ h.is; symbol_of = h.symbol_of; patterns = h.patterns; left = h.left; pattern = h.pattern; determined = h.determined }
-
-compares_later : (T U : List Rule) → ((r : ℕ) (R : Rule) → rule_at T r ≡ Some R → rule_at U r ≡ Some R) → (x : Extensionality) → Compares T x → Compares U x
-compares_later T U w x h = record {
-  is = w x.rule _ h.is;
-  others = h.others;
-  split = h.split;
-  symbol_of = h.symbol_of;
-  patterns = h.patterns;
-  type_is = h.type_is;
-  pattern = h.pattern;
-  determined = h.determined;
-  equational = h.equational;
-  no_first = h.no_first;
-  no_second = h.no_second;
-}
-
-all_compute_later : (T U : List Rule) → ((r : ℕ) (R : Rule) → rule_at T r ≡ Some R → rule_at U r ≡ Some R) → (cs : List Computation) → AllCompute T cs → AllCompute U cs
-all_compute_later T U w [] h = tt
-all_compute_later T U w (c ∷ cs) h = (computes_later T U w c h.0, all_compute_later T U w cs h.1)
-
-all_compare_later : (T U : List Rule) → ((r : ℕ) (R : Rule) → rule_at T r ≡ Some R → rule_at U r ≡ Some R) → (cs : List Extensionality) → AllCompare T cs → AllCompare U cs
-all_compare_later T U w [] h = tt
-all_compare_later T U w (c ∷ cs) h = (compares_later T U w c h.0, all_compare_later T U w cs h.1)
+abbrev pub AreAccepted : List Rule → EqualityRules → Type 0
+AreAccepted T E = Each (IsFrom computation_of T) E.computations × Each (IsFrom extensionality_of T) E.extensionalities
 
 pub accepted_later : (T U : List Rule) (E : EqualityRules) → ((r : ℕ) (R : Rule) → rule_at T r ≡ Some R → rule_at U r ≡ Some R) → AreAccepted T E → AreAccepted U E
-accepted_later T U E w h = record { computations = all_compute_later T U w E.computations h.computations; extensionalities = all_compare_later T U w E.extensionalities h.extensionalities }
+accepted_later T U E w h = (
+  each_map (IsFrom computation_of T) (IsFrom computation_of U) E.computations (λ c k. (k.0, k.1, w k.0 k.1 k.2, k.3)) h.0,
+  each_map (IsFrom extensionality_of T) (IsFrom extensionality_of U) E.extensionalities (λ x k. (k.0, k.1, w k.0 k.1 k.2, k.3)) h.1,
+)
 
-pub none_accepted : (T : List Rule) → AreAccepted T no_rules
-none_accepted T = record { computations = tt; extensionalities = tt }
-
-compute_last : (T : List Rule) (cs : List Computation) (c : Computation) → AllCompute T cs → Computes T c → AllCompute T (cs ++ (c ∷ []))
-compute_last T [] c h k = (k, tt)
-compute_last T (d ∷ cs) c h k = (h.0, compute_last T cs c h.1 k)
-
-compare_last : (T : List Rule) (cs : List Extensionality) (c : Extensionality) → AllCompare T cs → Compares T c → AllCompare T (cs ++ (c ∷ []))
-compare_last T [] c h k = (k, tt)
-compare_last T (d ∷ cs) c h k = (h.0, compare_last T cs c h.1 k)
-
-pub computation_added : (W : Store) → WellFormed W → (E D : EqualityRules) (r : ℕ) (R : Rule) → rule_at W.rules r ≡ Some R → add_computation E r R ≡ Ok D → AreAccepted W.rules E → AreAccepted W.rules D
-computation_added W F E D r R q h e =
+pub computation_added : (T : List Rule) (E D : EqualityRules) (r : ℕ) (R : Rule) → rule_at T r ≡ Some R → add_computation E r R ≡ Ok D → AreAccepted T E → AreAccepted T D
+computation_added T E D r R q h e =
     let b : (c : Computation) × (computation_of r R ≡ Ok c) × (Ok (record E { computations = E.computations ++ c ∷ [] }) ≡ Ok D) = bind_ok (computation_of r R) (λ c. Ok (record E { computations = E.computations ++ c ∷ [] })) D h in
-    subst (AreAccepted W.rules) (ok_is (Ok (record E { computations = E.computations ++ b.0 ∷ [] })) (record E { computations = E.computations ++ b.0 ∷ [] }) D refl b.2)
-    (record { computations = compute_last W.rules E.computations b.0 e.computations (computes W.rules r R b.0 q b.1); extensionalities = e.extensionalities })
+    subst (AreAccepted T) (ok_ok (record E { computations = E.computations ++ b.0 ∷ [] }) D b.2) (each_join (IsFrom computation_of T) E.computations (b.0 ∷ []) e.0 ((r, R, q, b.1), tt), e.1)
 
-pub extensionality_added : (W : Store) → WellFormed W → (E D : EqualityRules) (r : ℕ) (R : Rule) → rule_at W.rules r ≡ Some R → add_extensionality E r R ≡ Ok D → AreAccepted W.rules E → AreAccepted W.rules D
-extensionality_added W F E D r R q h e =
-    let b : (c : Extensionality) × (extensionality_of r R ≡ Ok c) × (Ok (record E { extensionalities = E.extensionalities ++ c ∷ [] }) ≡ Ok D) = bind_ok (extensionality_of r R) (λ c. Ok (record E { extensionalities = E.extensionalities ++ c ∷ [] })) D h in
-    subst (AreAccepted W.rules) (ok_is (Ok (record E { extensionalities = E.extensionalities ++ b.0 ∷ [] })) (record E { extensionalities = E.extensionalities ++ b.0 ∷ [] }) D refl b.2)
-    (record { computations = e.computations; extensionalities = compare_last W.rules E.extensionalities b.0 e.extensionalities (compares W.rules (sound_rules W F) r R b.0 q b.1) })
+pub extensionality_added : (T : List Rule) (E D : EqualityRules) (r : ℕ) (R : Rule) → rule_at T r ≡ Some R → add_extensionality E r R ≡ Ok D → AreAccepted T E → AreAccepted T D
+extensionality_added T E D r R q h e =
+    let b : (x : Extensionality) × (extensionality_of r R ≡ Ok x) × (Ok (record E { extensionalities = E.extensionalities ++ x ∷ [] }) ≡ Ok D) = bind_ok (extensionality_of r R) (λ x. Ok (record E { extensionalities = E.extensionalities ++ x ∷ [] })) D h in
+    subst (AreAccepted T) (ok_ok (record E { extensionalities = E.extensionalities ++ b.0 ∷ [] }) D b.2) (e.0, each_join (IsFrom extensionality_of T) E.extensionalities (b.0 ∷ []) e.1 ((r, R, q, b.1), tt))
+
+pub all_compute : (T : List Rule) (cs : List Computation) → Each (IsFrom computation_of T) cs → AllCompute T cs
+all_compute T [] h = tt
+all_compute T (c ∷ cs) h = (computes T h.0.0 h.0.1 c h.0.2 h.0.3, all_compute T cs h.1)
+
+pub all_compare : (T : List Rule) → Sound T → (xs : List Extensionality) → Each (IsFrom extensionality_of T) xs → AllCompare T xs
+all_compare T so [] h = tt
+all_compare T so (x ∷ xs) h = (compares T so h.0.0 h.0.1 x h.0.2 h.0.3, all_compare T so xs h.1)

@@ -17,7 +17,6 @@ use Rattle.ft_meaning.specs.Values as values
 use Rattle.ft_meaning.specs.Forms.{meaning}
 use Rattle.ft_meaning.specs.Commands as commands
 use Rattle.ft_grammar.specs.declared.syntax.Named.{Named}
-use Rattle.ft_sound.proofs.Valid.{WellFormed}
 use Rattle.ft_equality.specs.Shapes.{ShapeFault, EqualityRules, add_computation, add_extensionality}
 use Rattle.ft_meaning_laws.proofs.Calls.{IsRule, keeps_rule}
 use Rattle.ft_meaning.specs.Commands.{shaped, declare_equality, boundary_by, declare_premises, declare_rule, Done, Accepted, One, Many, Nothing, Quiet, done, ended, run_command}
@@ -186,12 +185,12 @@ module _ (B : Stage) where
 
   -- an equality rule
   keeps_equality : (items : List Item) (add : EqualityRules → ℕ → Rule → Result EqualityRules ShapeFault) (n : Named)
-      → ((W : Store) → WellFormed W → (E D : EqualityRules) (r : ℕ) (R : Rule) → rule_at W.rules r ≡ Some R → add E r R ≡ Ok D → AreAccepted W.rules E → AreAccepted W.rules D) → Keeps B (Unit {0}) Any items (declare_equality add n)
+      → ((T : List Rule) (E D : EqualityRules) (r : ℕ) (R : Rule) → rule_at T r ≡ Some R → add E r R ≡ Ok D → AreAccepted T E → AreAccepted T D) → Keeps B (Unit {0}) Any items (declare_equality add n)
   keeps_equality items add n f = keeps_bind B (ℕ × Rule) (Unit {0}) IsRule Any items (the_rule n.name) (λ r s. shaped n.at (add s.rules r.0 r.1) s) (keeps_rule B items n.name)
       (λ xs q r k s h. go xs r k s h (add s.rules r.0 r.1) refl)
     where
       go : (xs : List Item) (r : ℕ × Rule) → IsRule xs r → (s : State) → Holds B xs s → (o : Result EqualityRules ShapeFault) → add s.rules r.0 r.1 ≡ o → Kept B (Unit {0}) Any xs (shaped n.at o s)
-      go xs r k s h (Ok D) e = record { later = xs; quiet = quiet_self xs; holds = record { list = h.list; equality = f (store_of xs) h.list.well s.rules D r.0 r.1 k e h.equality; store = h.store; next = h.next }; gives = tt }
+      go xs r k s h (Ok D) e = record { later = xs; quiet = quiet_self xs; holds = record { list = h.list; equality = f (store_of xs).rules s.rules D r.0 r.1 k e h.equality; store = h.store; next = h.next }; gives = tt }
       go xs r k s h (Err x) e = record { later = xs; quiet = quiet_self xs; holds = h; gives = tt }
 
   -- an operation that no case took

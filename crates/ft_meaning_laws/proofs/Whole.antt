@@ -2,9 +2,8 @@
 use Rattle.std.proofs.Common.{◌≡◌, ℕ, false, Option, Some, None, Result, Ok, Err, List, [], ◌∷◌, ◌++◌, refl, sym, ap, ◌∙◌, subst, append_assoc, append-nil}
 use Rattle.std.specs.Prelude.{map}
 use Rattle.ft_theory.specs.Derivability.{FinitaryUpTo}
-use Rattle.ft_theory.specs.Rules.{Rule}
-use Rattle.ft_items.specs.Item.{Name, Item, variable, metavariable, rule, entry, shown}
-use Rattle.ft_items.specs.Store.{Assertion, Declared, Store, each, entry_named, metavariable_named, add_variable, add_metavariable, add_rule, add, add_all, empty_store}
+use Rattle.ft_items.specs.Item.{Item}
+use Rattle.ft_items.specs.Store.{empty_store}
 use Rattle.ft_meaning.specs.Trees.{Command}
 use Rattle.ft_meaning.specs.Stages.{Stage, equality, no_equality, source_parts, first_not_built}
 use Rattle.ft_meaning.specs.Values.{Environment, State, Halt, fails, spent, stuck}
@@ -12,11 +11,11 @@ use Rattle.ft_meaning.specs.Commands.{Done, run_command}
 use Rattle.ft_meaning.specs.Typing.{TypeFault, Scope, first_scope}
 use Rattle.ft_meaning.specs.CommandTyping.{scope_after}
 use Rattle.ft_meaning.specs.Texts.{Text}
-use Rattle.ft_meaning.specs.Events.{Shown, Event, accepts, shows, events_of, shown_in, EachShown, IsDerivable, Told, declares, states, told_by_event, told_rule, told_shown, told_by_item, told_from}
+use Rattle.ft_meaning.specs.Events.{Shown, Event, accepts, shows, events_of, shown_in, EachShown, IsDerivable, told_by_event, told_from}
 use Rattle.ft_meaning.specs.Sources.{Content, too_long, no_text, unexpected, too_nested, commands}
 use Rattle.ft_meaning.specs.Transcript.{Transcript, after_command, after_typing, transcript_from, start, unless_unbuilt, transcript_of, IsTranscriptAt}
-use Rattle.ft_meaning_laws.specs.Derivability.{ShownDerivable, AreOver, ShownOverAccepted, HasContext, ContextsHold, AcceptedIsFinitary, HasDerivation, StageHasDerivation, IsWithoutEquality, SourceHasDerivation}
-use Rattle.ft_meaning_laws.proofs.Lists.{IsSound, sound_empty, none_accepted}
+use Rattle.ft_meaning_laws.specs.Derivability.{ShownDerivable, ShownOverAccepted, HasContext, ContextsHold, AcceptedIsFinitary, HasDerivation, StageHasDerivation, IsWithoutEquality, SourceHasDerivation}
+use Rattle.ft_meaning_laws.proofs.Lists.{IsSound, sound_empty}
 use Rattle.ft_meaning_laws.proofs.Told.{rules_told, rules_are_told, accepted_are_told, AreStatedOver, told_over, events_over}
 use Rattle.ft_meaning_laws.proofs.Made.{AreMade, Holds}
 use Rattle.ft_meaning_laws.proofs.Built.{AllBuilt, left_built, right_built}
@@ -76,7 +75,7 @@ module _ (B : Stage) where
         commands_tell cs (right_built B _ _ u) later further H t m k))
 
     unbuilt_tells : (budget : ℕ) (cs : List Command) (o : Option ℕ) → first_not_built B (source_parts cs) ≡ o → Tells [] (unless_unbuilt source budget cs o).events
-    unbuilt_tells budget cs None e = commands_tell cs (record { none = e }) [] first_scope [] (start budget) tt (record { list = sound_empty B; equality = none_accepted []; store = refl; next = refl })
+    unbuilt_tells budget cs None e = commands_tell cs (record { none = e }) [] first_scope [] (start budget) tt (record { list = sound_empty B; equality = (tt, tt); store = refl; next = refl })
     unbuilt_tells budget cs (Some at) e = no_event [] (sound_empty B)
 
     content_tells : (budget : ℕ) (content : Content) → Tells [] (transcript_of B source budget content).events

@@ -103,6 +103,7 @@ rule_of_name_there W n R h = go (place_of W.names n) h
     go None e = none_some e
     go (Some r) e = rule_there W r R e
 
+-- a metavariable of the list
 abbrev pub IsMetavariable : List Item → ℕ × Declared → Type 0
 IsMetavariable items m = nth (store_of items).metavariables m.0 ≡ Some m.1
 
@@ -110,6 +111,7 @@ pub metavariable_resolved : (items : List Item) (m : ℕ × Declared) → IsMeta
 metavariable_resolved items m h = ap (option_map (λ d. (m.0, d))) h
 
 module _ (B : Stage) where
+  -- a call of the nucleus on what is in the list
   pub keeps_nucleus_with : (Q : Statement → Type 0) (items : List Item) (at : ℕ) (c : Resolved) → Named items c → ((x : Statement) → conclusion (store_of items) c ≡ Some x → Q x) → Keeps B Assertion (AnswersWith Q c) items (nucleus at (λ W. answer W c))
   keeps_nucleus_with Q items at c n f s h = go (answer s.store c) refl
     where

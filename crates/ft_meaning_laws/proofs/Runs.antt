@@ -7,6 +7,7 @@ use Rattle.ft_items.specs.Store.{Assertion, Store, sequent_in, Derivable, add_ru
 use Rattle.ft_items.specs.Rows.{atoms}
 use Rattle.ft_items.specs.Good.{is_next}
 use Rattle.ft_sound.specs.Soundness.{MembersHold}
+use Rattle.ft_sound.proofs.Valid.{Valid}
 use Rattle.ft_reference.specs.Declare.{Outcome as Declaration, outcome, first_of, RuleFault, OpenConclusion, Draft, name_fault, first_outside, begin, declared_rule, next_rule, finish}
 use Rattle.ft_nucleus_laws.specs.Laws.{drafted}
 use Rattle.ft_nucleus_laws.proofs.Declaring.{finishes_allowed}
@@ -18,7 +19,6 @@ use Rattle.ft_meaning.specs.Forms.{meaning}
 use Rattle.ft_meaning.specs.Commands as commands
 use Rattle.ft_grammar.specs.declared.syntax.Named.{Named}
 use Rattle.ft_equality.specs.Shapes.{ShapeFault, EqualityRules, add_computation, add_extensionality}
-use Rattle.ft_meaning_laws.proofs.Calls.{IsRule, keeps_rule}
 use Rattle.ft_meaning.specs.Commands.{shaped, declare_equality, boundary_by, declare_premises, declare_rule, Done, Accepted, One, Many, Nothing, Quiet, done, ended, run_command}
 use Rattle.ft_meaning.specs.Events.{Event, shows, EachShown, events_of, shown_in, IsDerivable, Shown, Told, declares, states, told_by_event, told_rule, told_shown, told_from}
 use Rattle.ft_meaning_laws.specs.Derivability.{HasContext}
@@ -27,7 +27,8 @@ use Rattle.ft_meaning_laws.proofs.Grows as grows
 use Rattle.ft_meaning_laws.proofs.Grows.{GrowsStore, grows_self, grows_then, grows_last, told_last, quiet_self}
 use Rattle.ft_meaning_laws.proofs.Lists.{sound_last, AreAccepted, computation_added, extensionality_added}
 use Rattle.ft_meaning_laws.proofs.Contexts.{members_hold}
-use Rattle.ft_meaning_laws.proofs.Made.{IsEntry, IsThesis, AllTheses, IsMade, AreMade, theses_grown, are_made_later, are_made_grown, Holds, holds_last, Kept, Keeps, keeps_bind, keeps_then, keeps_pure, keeps_halt, Any, keeps_judgement, keeps_judgements}
+use Rattle.ft_meaning_laws.proofs.Made.{IsThesis, AllTheses, IsMade, AreMade, theses_grown, are_made_later, are_made_grown, Holds, holds_last, Kept, Keeps, keeps_bind, keeps_then, keeps_pure, keeps_halt, Any, keeps_judgement, keeps_judgements}
+use Rattle.ft_meaning_laws.proofs.Calls.{IsRule, keeps_rule}
 use Rattle.ft_meaning_laws.proofs.Built.{AllBuilt, rest_built, right_built}
 use Rattle.ft_meaning_laws.proofs.Evaluations.{keeps_meaning}
 use Rattle.ft_meaning_laws.proofs.Rules.{IsPlainBoundary, HasDraft, draft_later, keeps_begin, DraftMade, keeps_boundary, keeps_premises}
@@ -66,18 +67,36 @@ abbrev CommandMade : List Item → Done × Environment → Type 0
 CommandMade items d = DoneMade items d.0 × AreMade items d.1
 
 module _ (B : Stage) where
-  record RuleRan (n : Name) (items : List Item) (o : Outcome Rule) : Type 0 where
-    later : List Item
-    grows : GrowsStore (store_of items) (store_of later)
-    holds : Holds B later o.1
-    tells : told later ≡ told items ++ rule_told n o.0
+  -- A longer list that goes along with the state, and tells these after what the list told.
+  pub record Longer (items : List Item) (s : State) (ts : List Told) : Type 0 where
+    pub later : List Item
+    pub grows : GrowsStore (store_of items) (store_of later)
+    pub holds : Holds B later s
+    pub tells : told later ≡ told items ++ ts
+
+  longer_self : (items : List Item) (s : State) → Holds B items s → Longer items s []
+  longer_self items s h = record { later = items; grows = grows_self (store_of items); holds = h; tells = sym (append-nil (told items)) }
+
+  abbrev longer_quiet : (A : Type 0) (P : List Item → A → Type 0) (items : List Item) (o : Outcome A) → Kept B A P items o → Longer items o.1 []
+  longer_quiet A P items o k = record { later = k.later; grows = k.quiet.grows; holds = k.holds; tells = k.quiet.tells ∙ sym (append-nil (told items)) }
+
+  abbrev longer_then : (items : List Item) (s t : State) (xs ys : List Told) (m : Longer items s xs) → Longer m.later t ys → Longer items t (xs ++ ys)
+  longer_then items s t xs ys m n = record {
+    later = n.later;
+    grows = grows_then (store_of items) (store_of m.later) (store_of n.later) m.grows n.grows;
+    holds = n.holds;
+    tells = n.tells ∙ ap (λ z. z ++ ys) m.tells ∙ append_assoc (told items) xs ys;
+  }
+
+  -- a rule is declared
+  abbrev RuleRan : Name → List Item → Outcome Rule → Type 0
+  RuleRan n items o = Longer items o.1 (rule_told n o.0)
 
   rule_after : (A : Type 0) (P : List Item → A → Type 0) (n : Name) (items : List Item) (o : Outcome A) (next : A → Run Rule) → Kept B A P items o
       → ((later : List Item) → grows.Quiet items later → (a : A) → P later a → (s : State) → Holds B later s → RuleRan n later (next a s)) → RuleRan n items (values.after o next)
   rule_after A P n items (Ok a, s) next k f =
-      let r : RuleRan n k.later (next a s) = f k.later k.quiet a k.gives s k.holds in
-      record { later = r.later; grows = grows_then (store_of items) (store_of k.later) (store_of r.later) k.quiet.grows r.grows; holds = r.holds; tells = r.tells ∙ ap (λ z. z ++ rule_told n (next a s).0) k.quiet.tells }
-  rule_after A P n items (Err e, s) next k f = record { later = k.later; grows = k.quiet.grows; holds = k.holds; tells = k.quiet.tells ∙ sym (append-nil (told items)) }
+      longer_then items s (next a s).1 [] (rule_told n (next a s).0) (longer_quiet A P items (Ok a, s) k) (f k.later k.quiet a k.gives s k.holds)
+  rule_after A P n items (Err e, s) next k f = longer_quiet A P items (Err e, s) k
 
   finishing : (n : Name) (items : List Item) (at : ℕ) (d : Draft) (b : Assertion) → HasDraft n items d → IsPlainBoundary items b → (s : State) → Holds B items s
       → RuleRan n items ((declare OfRule at (λ W. finish W d b) >>= λ R. pure R.1) s)
@@ -113,66 +132,62 @@ module _ (B : Stage) where
                 refl (ap made h.store ∙ ap bare (sym named)) (subst (λ (z : Store). is_next z.variables s.units.used ≡ true) (sym named) h.next);
             tells = told_last empty_store items item ∙ ap (λ z. told items ++ z) (ap₂ (told_rule d.name) i.0.named k.0.0.1 ∙ ap (λ z. declares z (declared_rule d.premises b) ∷ []) i.1);
           }
-      go (Some f) e = record { later = items; grows = grows_self W; holds = h; tells = sym (append-nil (told items)) }
+      go (Some f) e = longer_self items s h
 
   pub record CommandRan (E : Type 0) (items : List Item) (o : Result (Done × Environment) E × State) : Type 0 where
-    pub later : List Item
-    pub grows : GrowsStore (store_of items) (store_of later)
-    pub holds : Holds B later o.1
-    pub tells : told later ≡ told items ++ map told_by_event (events_by o)
-    pub names : NamesMade later o.0
+    pub longer : Longer items o.1 (map told_by_event (events_by o))
+    pub names : NamesMade longer.later o.0
     pub derivable : EachShown IsWell (shown_in (events_by o))
 
   -- a rule
   rule_ran : (n : Name) (items : List Item) (G : Environment) → AreMade items G → (o : Outcome Rule) → RuleRan n items o → CommandRan End items (values.after o (λ R. pure (Accepted n R, G)))
-  rule_ran n items G g (Ok R, s) r = record { later = r.later; grows = r.grows; holds = r.holds; tells = r.tells; names = are_made_grown items r.later r.grows G g; derivable = tt }
-  rule_ran n items G g (Err e, s) r = record { later = r.later; grows = r.grows; holds = r.holds; tells = r.tells; names = tt; derivable = tt }
+  rule_ran n items G g (Ok R, s) r = record { longer = r; names = are_made_grown items r.later r.grows G g; derivable = tt }
+  rule_ran n items G g (Err e, s) r = record { longer = r; names = tt; derivable = tt }
 
-  record Marked (items : List Item) (s : State) (js : List Assertion) : Type 0 where
-    later : List Item
-    grows : GrowsStore (store_of items) (store_of later)
-    holds : Holds B later s
-    tells : told later ≡ told items ++ map told_by_event (map (shows s.store) js)
-    derivable : EachShown IsWell (shown_in (map (shows s.store) js))
+  -- judgements are shown
+  well_here : (items : List Item) (s : State) → Holds B items s → (j : Assertion) → IsThesis items j → IsWell (record { store = s.store; judgement = j })
+  well_here items s h j k =
+      let v : Valid (store_of items) j.statement j.set = h.list.well.entries k.0.0 j k.0.1 in (
+        subst (λ z. Derivable z j.statement j.set) (sym h.store) (derivable_bare (store_of items) j.statement j.set v.derivable),
+        subst (λ z. MembersHold z [] j.set) (sym h.store) (members_bare (store_of items) [] j.set (members_hold (store_of items) h.list.well [] j.set v.proper)),
+      )
 
-  derivable_here : (items : List Item) (s : State) → Holds B items s → (j : Assertion) → IsEntry items j → Derivable s.store j.statement j.set
-  derivable_here items s h j k =
-      subst (λ z. Derivable z j.statement j.set) (sym h.store) (derivable_bare (store_of items) j.statement j.set (h.list.well.entries k.0 j k.1).derivable)
+  mark_one : (items : List Item) (s : State) → Holds B items s → (j : Assertion) → IsThesis items j → Longer items s (told_by_event (shows s.store j) ∷ [])
+  mark_one items s h j k = record {
+    later = items ++ (item ∷ []);
+    grows = grows_last items item;
+    holds = holds_last B items item s s h (sound_last B items item h.list (j, k.0.1, k.1)) refl h.store h.next;
+    tells = told_last empty_store items item ∙ ap (λ z. told items ++ z)
+        (ap (told_shown W) k.0.1
+        ∙ ap (λ z. states W.rules z ∷ []) (sym (sequent_bare W j.statement j.set))
+        ∙ ap (λ (z : Store). states z.rules (sequent_in z j.statement j.set) ∷ []) (sym h.store));
+  }
+    where
+      W : Store
+      W = store_of items
 
-  -- the context of a thesis of the list
-  context_here : (items : List Item) (s : State) → Holds B items s → (j : Assertion) → IsThesis items j → MembersHold s.store [] j.set
-  context_here items s h j k = subst (λ z. MembersHold z [] j.set) (sym h.store) (members_bare (store_of items) [] j.set (members_hold (store_of items) h.list.well [] j.set (h.list.well.entries k.0.0 j k.0.1).proper))
+      item : Item
+      item = shown k.0.0
 
-  mark : (js : List Assertion) (items : List Item) (s : State) → Holds B items s → AllTheses items js → Marked items s js
-  mark [] items s h k = record { later = items; grows = grows_self (store_of items); holds = h; tells = sym (append-nil (told items)); derivable = tt }
+  mark : (js : List Assertion) (items : List Item) (s : State) → Holds B items s → AllTheses items js
+      → Longer items s (map told_by_event (map (shows s.store) js)) × EachShown IsWell (shown_in (map (shows s.store) js))
+  mark [] items s h k = (longer_self items s h, tt)
   mark (j ∷ js) items s h k =
-      let item : Item = shown k.0.0.0 in
-      let next : List Item = items ++ (item ∷ []) in
-      let here : Holds B next s = holds_last B items item s s h (sound_last B items item h.list (j, k.0.0.1, k.0.1)) refl h.store h.next in
-      let more : Marked next s js = mark js next s here (theses_grown items next (grows_last items item) js k.1) in
-      let one : told next ≡ told items ++ (told_by_event (shows s.store j) ∷ []) = told_last empty_store items item ∙ ap (λ z. told items ++ z)
-      (ap (told_shown (store_of items)) k.0.0.1
-      ∙ ap (λ z. states (store_of items).rules z ∷ []) (sym (sequent_bare (store_of items) j.statement j.set))
-      ∙ ap (λ (z : Store). states z.rules (sequent_in z j.statement j.set) ∷ []) (sym h.store)) in
-      record {
-        later = more.later;
-        grows = grows_then (store_of items) (store_of next) (store_of more.later) (grows_last items item) more.grows;
-        holds = more.holds;
-        tells = more.tells ∙ ap (λ z. z ++ map told_by_event (map (shows s.store) js)) one ∙ append_assoc (told items) (told_by_event (shows s.store j) ∷ []) (map told_by_event (map (shows s.store) js));
-        derivable = ((derivable_here items s h j k.0.0, context_here items s h j k.0), more.derivable);
-      }
+      let m : Longer items s (told_by_event (shows s.store j) ∷ []) = mark_one items s h j k.0 in
+      let more : Longer m.later s (map told_by_event (map (shows s.store) js)) × EachShown IsWell (shown_in (map (shows s.store) js)) = mark js m.later s m.holds (theses_grown items m.later m.grows js k.1) in
+      (longer_then items s s (told_by_event (shows s.store j) ∷ []) (map told_by_event (map (shows s.store) js)) m more.0, (well_here items s h j k.0, more.1))
 
   quiet_ran : (items : List Item) (o : Outcome (Done × Environment)) → Kept B (Done × Environment) CommandMade items o → CommandRan End items o
   quiet_ran items (Ok (Accepted n R, G), s) k = absurd k.gives.0
   quiet_ran items (Ok (One j, G), s) k =
-      let m : Marked k.later s (j ∷ []) = mark (j ∷ []) k.later s k.holds (k.gives.0, tt) in
-      record { later = m.later; grows = grows_then (store_of items) (store_of k.later) (store_of m.later) k.quiet.grows m.grows; holds = m.holds; tells = m.tells ∙ ap (λ z. z ++ map told_by_event (shows s.store j ∷ [])) k.quiet.tells; names = are_made_grown k.later m.later m.grows G k.gives.1; derivable = m.derivable }
+      let m : Longer k.later s (map told_by_event (shows s.store j ∷ [])) × EachShown IsWell (shown_in (shows s.store j ∷ [])) = mark (j ∷ []) k.later s k.holds (k.gives.0, tt) in
+      record { longer = longer_then items s s [] (map told_by_event (shows s.store j ∷ [])) (longer_quiet _ CommandMade items _ k) m.0; names = are_made_grown k.later m.0.later m.0.grows G k.gives.1; derivable = m.1 }
   quiet_ran items (Ok (Many js, G), s) k =
-      let m : Marked k.later s js = mark js k.later s k.holds k.gives.0 in
-      record { later = m.later; grows = grows_then (store_of items) (store_of k.later) (store_of m.later) k.quiet.grows m.grows; holds = m.holds; tells = m.tells ∙ ap (λ z. z ++ map told_by_event (map (shows s.store) js)) k.quiet.tells; names = are_made_grown k.later m.later m.grows G k.gives.1; derivable = m.derivable }
-  quiet_ran items (Ok (Nothing, G), s) k = record { later = k.later; grows = k.quiet.grows; holds = k.holds; tells = k.quiet.tells ∙ sym (append-nil (told items)); names = k.gives.1; derivable = tt }
-  quiet_ran items (Ok (Quiet, G), s) k = record { later = k.later; grows = k.quiet.grows; holds = k.holds; tells = k.quiet.tells ∙ sym (append-nil (told items)); names = k.gives.1; derivable = tt }
-  quiet_ran items (Err e, s) k = record { later = k.later; grows = k.quiet.grows; holds = k.holds; tells = k.quiet.tells ∙ sym (append-nil (told items)); names = tt; derivable = tt }
+      let m : Longer k.later s (map told_by_event (map (shows s.store) js)) × EachShown IsWell (shown_in (map (shows s.store) js)) = mark js k.later s k.holds k.gives.0 in
+      record { longer = longer_then items s s [] (map told_by_event (map (shows s.store) js)) (longer_quiet _ CommandMade items _ k) m.0; names = are_made_grown k.later m.0.later m.0.grows G k.gives.1; derivable = m.1 }
+  quiet_ran items (Ok (Nothing, G), s) k = record { longer = longer_quiet _ CommandMade items _ k; names = k.gives.1; derivable = tt }
+  quiet_ran items (Ok (Quiet, G), s) k = record { longer = longer_quiet _ CommandMade items _ k; names = k.gives.1; derivable = tt }
+  quiet_ran items (Err e, s) k = record { longer = longer_quiet _ CommandMade items _ k; names = tt; derivable = tt }
 
   -- what a value shows
   keeps_shown : (items : List Item) (v : Value) → IsMade items v → Keeps B Done DoneMade items (commands.shown v)
@@ -195,9 +210,9 @@ module _ (B : Stage) where
 
   -- an operation that no case took
   ended_ran : (items : List Item) (o : Outcome (Done × Environment)) → CommandRan End items o → CommandRan Halt items (ended o)
-  ended_ran items (Ok d, s) r = record { later = r.later; grows = r.grows; holds = r.holds; tells = r.tells; names = r.names; derivable = r.derivable }
-  ended_ran items (Err (performs op v at), s) r = record { later = r.later; grows = r.grows; holds = r.holds; tells = r.tells; names = tt; derivable = tt }
-  ended_ran items (Err (halts e), s) r = record { later = r.later; grows = r.grows; holds = r.holds; tells = r.tells; names = tt; derivable = tt }
+  ended_ran items (Ok d, s) r = record { longer = r.longer; names = r.names; derivable = r.derivable }
+  ended_ran items (Err (performs op v at), s) r = record { longer = r.longer; names = tt; derivable = tt }
+  ended_ran items (Err (halts e), s) r = record { longer = r.longer; names = tt; derivable = tt }
 
   declared_ran : (n : Named) (ps : List Premise) (at : ℕ) (c : Body) → AllBuilt B (rule_parts [] ps at c) → (items : List Item) (G : Environment) → AreMade items G → (s : State) → Holds B items s → RuleRan n.name items (declare_rule n ps at c G s)
   declared_ran n ps at c u items G g s h =

@@ -1,6 +1,7 @@
 -- Whole transcripts: there is a list that tells what a transcript does, and all that it shows is derivable in its context.
 use Rattle.std.proofs.Common.{◌≡◌, ℕ, false, Option, Some, None, Result, Ok, Err, List, [], ◌∷◌, ◌++◌, refl, sym, ap, ◌∙◌, subst, append_assoc, append-nil}
 use Rattle.std.specs.Prelude.{map}
+use Rattle.std.proofs.lemmas.List.{map-append}
 use Rattle.ft_theory.specs.Derivability.{FinitaryUpTo}
 use Rattle.ft_items.specs.Item.{Item}
 use Rattle.ft_items.specs.Store.{empty_store}
@@ -20,10 +21,6 @@ use Rattle.ft_meaning_laws.proofs.Told.{rules_told, rules_are_told, accepted_are
 use Rattle.ft_meaning_laws.proofs.Made.{AreMade, Holds}
 use Rattle.ft_meaning_laws.proofs.Built.{AllBuilt, left_built, right_built}
 use Rattle.ft_meaning_laws.proofs.Runs.{IsWell, CommandRan, command_ran}
-
-map_append : {A C : Type 0} (f : A → C) (xs ys : List A) → map f (xs ++ ys) ≡ map f xs ++ map f ys
-map_append f [] ys = refl
-map_append f (x ∷ xs) ys = ap (λ z. f x ∷ z) (map_append f xs ys)
 
 shown_append : (xs ys : List Event) → EachShown IsWell (shown_in xs) → EachShown IsWell (shown_in ys) → EachShown IsWell (shown_in (xs ++ ys))
 shown_append [] ys h k = k
@@ -49,19 +46,19 @@ module _ (B : Stage) where
     then_tells : (items : List Item) (c : Command) (o : Result (Done × Environment) Halt × State) (next : Environment → State → Transcript) → CommandRan B Halt items o
         → ((later : List Item) (G : Environment) (s : State) → AreMade later G → Holds B later s → Tells later (next G s).events) → Tells items (after_command source c o next).events
     then_tells items c (Ok d, s) next r f =
-        let t : Tells r.later (next d.1 s).events = f r.later d.1 s r.names r.holds in
+        let t : Tells r.longer.later (next d.1 s).events = f r.longer.later d.1 s r.names r.longer.holds in
         record {
           later = t.later;
           list = t.list;
           tells = t.tells
-              ∙ ap (λ z. z ++ map told_by_event (next d.1 s).events) r.tells
+              ∙ ap (λ z. z ++ map told_by_event (next d.1 s).events) r.longer.tells
               ∙ append_assoc (told_from empty_store items) (map told_by_event (events_of s.store d.0)) (map told_by_event (next d.1 s).events)
-              ∙ ap (λ z. told_from empty_store items ++ z) (sym (map_append told_by_event (events_of s.store d.0) (next d.1 s).events));
+              ∙ ap (λ z. told_from empty_store items ++ z) (sym (map-append told_by_event (events_of s.store d.0) (next d.1 s).events));
           derivable = shown_append (events_of s.store d.0) (next d.1 s).events r.derivable t.derivable;
         }
-    then_tells items c (Err (fails why at), s) next r f = record { later = r.later; list = r.holds.list; tells = r.tells; derivable = tt }
-    then_tells items c (Err (spent at), s) next r f = record { later = r.later; list = r.holds.list; tells = r.tells; derivable = tt }
-    then_tells items c (Err stuck, s) next r f = record { later = r.later; list = r.holds.list; tells = r.tells; derivable = tt }
+    then_tells items c (Err (fails why at), s) next r f = record { later = r.longer.later; list = r.longer.holds.list; tells = r.longer.tells; derivable = tt }
+    then_tells items c (Err (spent at), s) next r f = record { later = r.longer.later; list = r.longer.holds.list; tells = r.longer.tells; derivable = tt }
+    then_tells items c (Err stuck, s) next r f = record { later = r.longer.later; list = r.longer.holds.list; tells = r.longer.tells; derivable = tt }
 
     typed_tells : (items : List Item) → IsSound B items → (r : Result Scope TypeFault) (units : ℕ) (next : Scope → Transcript) → ((scope : Scope) → Tells items (next scope).events) → Tells items (after_typing source r units next).events
     typed_tells items l (Ok scope) units next f = f scope

@@ -137,7 +137,7 @@ refuses_first W s r m = (there, back)
     back f = ap (λ o. answered o (given W s)) (ap first_refusal f.3 ∙ first_fails f.0 f.1 f.2 f.4 f.5 ∙ ap Some f.6)
 
 -- what is answered may be added, and is derivable
-answer_gives : (W : Store) (n : Stated) (s : Resolved) (a : Assertion) → resolve W n ≡ Some s → answer W s ≡ Ok a → AllowedIn W (entry (record { statement = a.statement; set = a.set; step = n }))
+pub answer_gives : (W : Store) (n : Stated) (s : Resolved) (a : Assertion) → resolve W n ≡ Some s → answer W s ≡ Ok a → AllowedIn W (entry (record { statement = a.statement; set = a.set; step = n }))
 answer_gives W n s a e h = ap (option_and_then (given W)) e ∙ (answered_ok (first_refusal (checks W s)) (given W s) a h).1
 
 pub answers_derivable : AnswersDerivable

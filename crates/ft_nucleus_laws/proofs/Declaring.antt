@@ -1,22 +1,24 @@
 -- Declaring variables, metavariables and rules: allowed items, and what stays after a refusal.
-use Rattle.std.proofs.Common.{◌≡◌, ◌≢◌, ℕ, suc, Bool, true, false, cond, nat_lt, ◌&&◌, not, Option, Some, None, List, [], ◌∷◌, ◌++◌, ◌⊎◌, length, inl, inr, refl, sym, ap, ap₂, ◌∙◌, subst, append_assoc, append-nil, arith}
+use Rattle.std.proofs.Common.{◌≡◌, ◌≢◌, ℕ, suc, ◌<◌, Bool, true, false, cond, nat_lt, ◌&&◌, not, Option, Some, None, List, [], ◌∷◌, ◌++◌, ◌⊎◌, length, inl, inr, refl, sym, ap, ap₂, ◌∙◌, subst, append_assoc, append-nil, arith}
 use Rattle.std.specs.Prelude.{option_map, option_and_then, Result, Ok, Err}
 use Rattle.std.proofs.lemmas.Bool.{ltb-true, lt-ltb, and_parts, and_from, not-true}
 use Rattle.std.proofs.lemmas.Option.{same_Some}
 use Rattle.ft_common.proofs.Options.{none_some, some_none}
 use Rattle.ft_common.proofs.Booleans.{false_true}
+use Rattle.ft_common.proofs.Choices.{if_same, if_other}
+use Rattle.ft_theory.specs.Rules.{look_up, Rule, rule_at}
 use Rattle.ft_theory.specs.Derivability.{FinitaryUpTo}
 use Rattle.ft_items.specs.Sets.{Atom, met, var, has, is_within, metavariables_only, Has}
 use Rattle.ft_items.specs.Item.{Name, variable, metavariable}
-use Rattle.ft_items.specs.Store.{Assertion, Declared, Store, nth, each, entry_named, metavariable_named, add_variable, add_metavariable, add_rule, empty_store, store_of}
+use Rattle.ft_items.specs.Store.{Assertion, Annotation, Declared, Store, nth, each, entry_named, variable_named, metavariable_named, rule_named, add_variable, add_metavariable, add_rule, empty_store, store_of}
 use Rattle.ft_items.specs.Rows.{atoms, differ, on_earlier}
-use Rattle.ft_items.specs.Good.{is_plain_type, is_new, Allowed}
+use Rattle.ft_items.specs.Good.{is_plain_type, is_next, is_new, Allowed}
 use Rattle.ft_items.proofs.SetLemmas.{by_bool, has_true, has_false}
 use Rattle.ft_items.proofs.Lists.{store_last, good_last, Before, nth_before, each_before, nth_end, nth_past, store_append, before_all}
 use Rattle.ft_sound.proofs.Theorems.{rules_finitary}
 use Rattle.ft_reference.specs.Refusals.{Refusal, WrongForm, OpenBoundary}
-use Rattle.ft_reference.specs.Declare.{outcome, refused_unless, first_of, new_variable, first_variable, new_metavariable, RuleFault, Duplicate, TooMany, OpenPremise, OpenConclusion, Draft, name_fault, first_outside, begin, premise, finish}
-use Rattle.ft_nucleus_laws.specs.Laws.{LeavesOld, RefusalsChangeNothing, VariablesAllowed, MetavariablesAllowed, numbers, IsDraft, DraftsGrow, DraftsStay, drafted, FinishesAllowed, FinishedIsFinitary}
+use Rattle.ft_reference.specs.Declare.{outcome, refused_unless, first_of, declared_variable, new_variable, first_variable, declared_metavariable, next_metavariable, new_metavariable, RuleFault, Duplicate, TooMany, OpenPremise, OpenConclusion, Draft, name_fault, first_outside, begin, premise, declared_rule, next_rule, finish}
+use Rattle.ft_nucleus_laws.specs.Laws.{LeavesOld, RefusalsChangeNothing, VariablesAllowed, MetavariablesAllowed, numbers, IsDraft, DraftsGrow, DraftsStay, drafted, FinishesAllowed, FinishedIsFinitary, VariableIsThere, MetavariableIsThere, PremiseIsThere, RuleIsThere}
 use Rattle.ft_sound.proofs.Good.{atoms_last}
 
 -- outcomes
@@ -45,7 +47,7 @@ pub refusals_change_nothing : RefusalsChangeNothing
 refusals_change_nothing W d v n p = (stays _ _ _ _, stays _ _ _ _, stays _ _ _ _, stays _ _ _ _, stays _ _ _ _)
 
 -- refusals that are none
-unless_true : {E : Type 0} (b : Bool) (e : E) → refused_unless b e ≡ None → b ≡ true
+pub unless_true : {E : Type 0} (b : Bool) (e : E) → refused_unless b e ≡ None → b ≡ true
 unless_true true e h = refl
 unless_true false e h = some_none h
 
@@ -53,14 +55,14 @@ true_unless : {E : Type 0} (b : Bool) (e : E) → b ≡ true → refused_unless 
 true_unless true e h = refl
 true_unless false e h = false_true h
 
-both_none : {E : Type 0} (o p : Option E) → first_of o p ≡ None → (o ≡ None) × (p ≡ None)
+pub both_none : {E : Type 0} (o p : Option E) → first_of o p ≡ None → (o ≡ None) × (p ≡ None)
 both_none None p h = (refl, h)
 both_none (Some e) p h = some_none h
 
 none_both : {E : Type 0} (o p : Option E) → o ≡ None → p ≡ None → first_of o p ≡ None
 none_both o p h k = ap (λ z. first_of z p) h ∙ k
 
-map_none : {A B : Type 0} (f : A → B) (o : Option A) → option_map f o ≡ None → o ≡ None
+pub map_none : {A B : Type 0} (f : A → B) (o : Option A) → option_map f o ≡ None → o ≡ None
 map_none f None h = refl
 map_none f (Some a) h = some_none h
 
@@ -75,18 +77,21 @@ variables_allowed items v p n a next named = (there, back)
     W : Store
     W = store_of items
 
-    there : (new_variable W v n a).answer ≡ Ok v → Allowed items (variable v n p) × ((new_variable W v n a).after ≡ store_of (items ++ (variable v n p ∷ [])))
+    x : ℕ × Annotation
+    x = (v, declared_variable n a)
+
+    there : (new_variable W v n a).answer ≡ Ok x → Allowed items (variable v n p) × ((new_variable W v n a).after ≡ store_of (items ++ (variable v n p ∷ [])))
     there h =
-        let k : (refused_unless (is_plain_type a.statement) WrongForm ≡ None) × (v ≡ v) = answers_none (refused_unless (is_plain_type a.statement) WrongForm) W (add_variable W v n (Some a)) v v h in (
+        let k : (refused_unless (is_plain_type a.statement) WrongForm ≡ None) × (x ≡ x) = answers_none (refused_unless (is_plain_type a.statement) WrongForm) W (add_variable W v n (Some a)) x x h in (
           (next, a, named, unless_true (is_plain_type a.statement) WrongForm k.0),
-          (none_answers (refused_unless (is_plain_type a.statement) WrongForm) W (add_variable W v n (Some a)) v k.0).1
+          (none_answers (refused_unless (is_plain_type a.statement) WrongForm) W (add_variable W v n (Some a)) x k.0).1
               ∙ ap (add_variable W v n) (sym named)
               ∙ sym (store_last empty_store items (variable v n p)),
         )
 
-    back : Allowed items (variable v n p) × ((new_variable W v n a).after ≡ store_of (items ++ (variable v n p ∷ []))) → (new_variable W v n a).answer ≡ Ok v
+    back : Allowed items (variable v n p) × ((new_variable W v n a).after ≡ store_of (items ++ (variable v n p ∷ []))) → (new_variable W v n a).answer ≡ Ok x
     back h =
-        (none_answers (refused_unless (is_plain_type a.statement) WrongForm) W (add_variable W v n (Some a)) v
+        (none_answers (refused_unless (is_plain_type a.statement) WrongForm) W (add_variable W v n (Some a)) x
         (true_unless (is_plain_type a.statement) WrongForm (subst (λ (z : Assertion). is_plain_type z.statement ≡ true) (same_entry W p a h.0.1 named h.0.2) h.0.3))).0
 
 -- metavariables
@@ -109,22 +114,25 @@ metavariables_allowed items p n a kind named = (there, back)
     o : Option Refusal
     o = option_map OpenBoundary (first_variable a.set)
 
-    there : (new_metavariable W n a).answer ≡ Ok (length W.metavariables) → Allowed items (metavariable n p) × ((new_metavariable W n a).after ≡ store_of (items ++ (metavariable n p ∷ [])))
+    x : ℕ × Declared
+    x = next_metavariable W n a
+
+    there : (new_metavariable W n a).answer ≡ Ok x → Allowed items (metavariable n p) × ((new_metavariable W n a).after ≡ store_of (items ++ (metavariable n p ∷ [])))
     there h =
-        let k : (o ≡ None) × (length W.metavariables ≡ length W.metavariables) = answers_none o W (add_metavariable W n (Some a)) (length W.metavariables) (length W.metavariables) h in (
+        let k : (o ≡ None) × (x ≡ x) = answers_none o W (add_metavariable W n (Some a)) x x h in (
           (a, named, kind, no_first a.set (map_none OpenBoundary (first_variable a.set) k.0)),
-          (none_answers o W (add_metavariable W n (Some a)) (length W.metavariables) k.0).1
+          (none_answers o W (add_metavariable W n (Some a)) x k.0).1
               ∙ ap (add_metavariable W n) (sym named)
               ∙ sym (store_last empty_store items (metavariable n p)),
         )
 
-    back : Allowed items (metavariable n p) × ((new_metavariable W n a).after ≡ store_of (items ++ (metavariable n p ∷ []))) → (new_metavariable W n a).answer ≡ Ok (length W.metavariables)
+    back : Allowed items (metavariable n p) × ((new_metavariable W n a).after ≡ store_of (items ++ (metavariable n p ∷ []))) → (new_metavariable W n a).answer ≡ Ok x
     back h =
-        (none_answers o W (add_metavariable W n (Some a)) (length W.metavariables)
+        (none_answers o W (add_metavariable W n (Some a)) x
         (ap (option_map OpenBoundary) (first_none a.set (subst (λ (z : Assertion). metavariables_only z.set ≡ true) (same_entry W p a h.0.0 named h.0.1) h.0.3)))).0
 
 -- sets within others
-no_outside : (R S : List Atom) → first_outside R S ≡ None → is_within S R ≡ true
+pub no_outside : (R S : List Atom) → first_outside R S ≡ None → is_within S R ≡ true
 no_outside R [] h = refl
 no_outside R (a ∷ S) h = go (has a R) h (no_outside R S)
   where
@@ -210,7 +218,7 @@ earlier_last before (d ∷ ds) x h k =
 
 -- the draft with the premise
 more : (W : Store) (d : Draft) (n : Name) (b : Assertion) → IsDraft W d → is_within b.set (atoms d.premises) ≡ true
-    → IsDraft (add_metavariable W n (Some b)) (record d { premises = d.premises ++ ((length W.metavariables, record { name = n; boundary = b.statement; set = b.set }) ∷ []) })
+    → IsDraft (add_metavariable W n (Some b)) (record d { premises = d.premises ++ (next_metavariable W n b ∷ []) })
 more W d n b i h = record {
   named = ap (each (metavariable_named X)) (numbers_last d.premises x)
       ∙ each_last X (numbers d.premises) d.premises m x (each_before W X stays_there (numbers d.premises) d.premises i.named) (ap (option_map (λ d. (m, d))) (nth_end W.metavariables x.1));
@@ -222,7 +230,7 @@ more W d n b i h = record {
     m = length W.metavariables
 
     x : ℕ × Declared
-    x = (m, record { name = n; boundary = b.statement; set = b.set })
+    x = next_metavariable W n b
 
     X : Store
     X = add_metavariable W n (Some b)
@@ -243,10 +251,10 @@ drafts_grow = (begun, grown)
     begun : (W : Store) (n : Name) (d : Draft) → (begin W n).answer ≡ Ok d → IsDraft W d
     begun W n d h = subst (IsDraft W) (answers_none (name_fault W n) W W (record { name = n; premises = [] }) d h).1 (record { named = refl; different = refl; ordered = refl })
 
-    grown : (W : Store) (d : Draft) (n : Name) (b : Assertion) (m : ℕ) → IsDraft W d → (premise W d n b).answer ≡ Ok m → IsDraft (premise W d n b).after.0 (premise W d n b).after.1
+    grown : (W : Store) (d : Draft) (n : Name) (b : Assertion) (m : ℕ × Declared) → IsDraft W d → (premise W d n b).answer ≡ Ok m → IsDraft (premise W d n b).after.0 (premise W d n b).after.1
     grown W d n b m i h =
-        let e : (option_map (OpenPremise (suc (length d.premises))) (first_outside (atoms d.premises) b.set) ≡ None) × (length W.metavariables ≡ m) = answers_none _ _ _ _ m h in
-        subst (λ (z : Store × Draft). IsDraft z.0 z.1) (sym (none_answers (option_map (OpenPremise (suc (length d.premises))) (first_outside (atoms d.premises) b.set)) _ _ (length W.metavariables) e.0).1)
+        let e : (option_map (OpenPremise (suc (length d.premises))) (first_outside (atoms d.premises) b.set) ≡ None) × (next_metavariable W n b ≡ m) = answers_none _ _ _ _ m h in
+        subst (λ (z : Store × Draft). IsDraft z.0 z.1) (sym (none_answers (option_map (OpenPremise (suc (length d.premises))) (first_outside (atoms d.premises) b.set)) _ _ (next_metavariable W n b) e.0).1)
         (more W d n b i (no_outside (atoms d.premises) b.set (map_none _ _ e.0)))
 
 -- rules
@@ -262,9 +270,12 @@ finishes_allowed items d p c i named kind flat = (there, back)
     made : Store
     made = add_rule W d.name (Some d.premises) (Some c)
 
-    there : (finish W d c).answer ≡ Ok (length W.rules) → Allowed items (drafted d p) × ((finish W d c).after ≡ store_of (items ++ (drafted d p ∷ [])))
+    x : ℕ × Rule
+    x = next_rule W d.premises c
+
+    there : (finish W d c).answer ≡ Ok x → Allowed items (drafted d p) × ((finish W d c).after ≡ store_of (items ++ (drafted d p ∷ [])))
     there h =
-        let k : o ≡ None = (answers_none o W made (length W.rules) (length W.rules) h).0 in
+        let k : o ≡ None = (answers_none o W made x x h).0 in
         let f : (name_fault W d.name ≡ None) × (option_map OpenConclusion (first_outside (atoms d.premises) c.set) ≡ None) = both_none (name_fault W d.name) (option_map OpenConclusion (first_outside (atoms d.premises) c.set)) k in
         let g : (refused_unless (is_new W.names d.name) Duplicate ≡ None) × (refused_unless (nat_lt (length W.rules) 65536) TooMany ≡ None) = both_none (refused_unless (is_new W.names d.name) Duplicate) (refused_unless (nat_lt (length W.rules) 65536) TooMany) f.0 in (
           (
@@ -280,13 +291,13 @@ finishes_allowed items d p c i named kind flat = (there, back)
             i.ordered,
             no_outside (atoms d.premises) c.set (map_none OpenConclusion (first_outside (atoms d.premises) c.set) f.1),
           ),
-          (none_answers o W made (length W.rules) k).1
+          (none_answers o W made x k).1
               ∙ ap₂ (add_rule W d.name) (sym i.named) (sym named)
               ∙ sym (store_last empty_store items (drafted d p)),
         )
 
-    back : Allowed items (drafted d p) × ((finish W d c).after ≡ store_of (items ++ (drafted d p ∷ []))) → (finish W d c).answer ≡ Ok (length W.rules)
-    back h = (none_answers o W made (length W.rules) (none_both (name_fault W d.name) (option_map OpenConclusion (first_outside (atoms d.premises) c.set)) free closed)).0
+    back : Allowed items (drafted d p) × ((finish W d c).after ≡ store_of (items ++ (drafted d p ∷ []))) → (finish W d c).answer ≡ Ok x
+    back h = (none_answers o W made x (none_both (name_fault W d.name) (option_map OpenConclusion (first_outside (atoms d.premises) c.set)) free closed)).0
       where
         free : name_fault W d.name ≡ None
         free = none_both (refused_unless (is_new W.names d.name) Duplicate) (refused_unless (nat_lt (length W.rules) 65536) TooMany)
@@ -308,11 +319,80 @@ finished_is_finitary items d p c k g i named kind flat = go o refl
     o : Option RuleFault
     o = first_of (name_fault W d.name) (option_map OpenConclusion (first_outside (atoms d.premises) c.set))
 
-    longer : (finish W d c).answer ≡ Ok (length W.rules) → FinitaryUpTo k (finish W d c).after.rules
+    x : ℕ × Rule
+    x = next_rule W d.premises c
+
+    longer : (finish W d c).answer ≡ Ok x → FinitaryUpTo k (finish W d c).after.rules
     longer h =
         let a : Allowed items (drafted d p) × ((finish W d c).after ≡ store_of (items ++ (drafted d p ∷ []))) = (finishes_allowed items d p c i named kind flat).0 h in
         subst (λ (z : Store). FinitaryUpTo k z.rules) (sym a.1) (rules_finitary (items ++ (drafted d p ∷ [])) (good_last empty_store items (drafted d p) g a.0) k)
 
     go : (z : Option RuleFault) → o ≡ z → FinitaryUpTo k (finish W d c).after.rules
-    go None e = longer (none_answers o W (add_rule W d.name (Some d.premises) (Some c)) (length W.rules) e).0
-    go (Some f) e = subst (λ (z : Store). FinitaryUpTo k z.rules) (sym (stays o W (add_rule W d.name (Some d.premises) (Some c)) (length W.rules) f (ap (λ z. (outcome z W (add_rule W d.name (Some d.premises) (Some c)) (length W.rules)).answer) e))) (rules_finitary items g k)
+    go None e = longer (none_answers o W (add_rule W d.name (Some d.premises) (Some c)) x e).0
+    go (Some f) e = subst (λ (z : Store). FinitaryUpTo k z.rules) (sym (stays o W (add_rule W d.name (Some d.premises) (Some c)) x f (ap (λ z. (outcome z W (add_rule W d.name (Some d.premises) (Some c)) x).answer) e))) (rules_finitary items g k)
+
+-- what is answered is there
+look_up_next : (G : List (ℕ × Annotation)) (v : ℕ) (a : Annotation) → is_next G v ≡ true → look_up (G ++ ((v, a) ∷ [])) v ≡ Some a
+look_up_next [] v a h = if_same v v (Some a) None refl
+look_up_next (p ∷ G) v a h =
+    let k : (nat_lt p.0 v ≡ true) × (is_next G v ≡ true) = and_parts (nat_lt p.0 v) (is_next G v) h in
+    let below : p.0 < v = ltb-true p.0 v k.0 in
+    if_other v p.0 (Some p.1) (look_up (G ++ ((v, a) ∷ [])) v) (λ e. omega (arith, below, e)) ∙ look_up_next G v a k.1
+
+pub variable_is_there : VariableIsThere
+variable_is_there W v n p x next h =
+    let k : (o ≡ None) × ((v, declared_variable n p) ≡ x) = answers_none o W made (v, declared_variable n p) x h in
+    ap (λ (z : Store). variable_named z v) (none_answers o W made (v, declared_variable n p) k.0).1
+    ∙ ap (option_map (λ d. (v, d))) (look_up_next W.variables v (declared_variable n p) next)
+    ∙ ap Some k.1
+  where
+    o : Option Refusal
+    o = refused_unless (is_plain_type p.statement) WrongForm
+
+    made : Store
+    made = add_variable W v n (Some p)
+
+metavariable_end : (W : Store) (n : Name) (b : Assertion) → metavariable_named (add_metavariable W n (Some b)) (length W.metavariables) ≡ Some (next_metavariable W n b)
+metavariable_end W n b = ap (option_map (λ d. (length W.metavariables, d))) (nth_end W.metavariables (declared_metavariable n b))
+
+pub metavariable_is_there : MetavariableIsThere
+metavariable_is_there W n b m h =
+    let k : (o ≡ None) × (next_metavariable W n b ≡ m) = answers_none o W made (next_metavariable W n b) m h in
+    ap (λ (z : Store). metavariable_named z (length W.metavariables)) (none_answers o W made (next_metavariable W n b) k.0).1 ∙ metavariable_end W n b ∙ ap Some k.1
+  where
+    o : Option Refusal
+    o = option_map OpenBoundary (first_variable b.set)
+
+    made : Store
+    made = add_metavariable W n (Some b)
+
+pub premise_is_there : PremiseIsThere
+premise_is_there W d n b m h =
+    let k : (o ≡ None) × (next_metavariable W n b ≡ m) = answers_none o (W, d) made (next_metavariable W n b) m h in
+    let e : (premise W d n b).after ≡ made = (none_answers o (W, d) made (next_metavariable W n b) k.0).1 in (
+      ap (λ (z : Store × Draft). metavariable_named z.0 (length W.metavariables)) e ∙ metavariable_end W n b ∙ ap Some k.1,
+      ap (λ (z : Store × Draft). z.1.premises) e ∙ ap (λ x. d.premises ++ (x ∷ [])) k.1,
+    )
+  where
+    o : Option RuleFault
+    o = option_map (OpenPremise (suc (length d.premises))) (first_outside (atoms d.premises) b.set)
+
+    made : Store × Draft
+    made = (add_metavariable W n (Some b), record d { premises = d.premises ++ (next_metavariable W n b ∷ []) })
+
+rule_end : (T : List Rule) (R : Rule) → rule_at (T ++ (R ∷ [])) (length T) ≡ Some R
+rule_end [] R = refl
+rule_end (S ∷ T) R = rule_end T R
+
+pub rule_is_there : RuleIsThere
+rule_is_there W d c r h =
+    let k : (o ≡ None) × (next_rule W d.premises c ≡ r) = answers_none o W made (next_rule W d.premises c) r h in
+    ap (λ (z : Store). rule_named z (length W.rules)) (none_answers o W made (next_rule W d.premises c) k.0).1
+    ∙ ap (option_map (λ R. (length W.rules, R))) (rule_end W.rules (declared_rule d.premises c))
+    ∙ ap Some k.1
+  where
+    o : Option RuleFault
+    o = first_of (name_fault W d.name) (option_map OpenConclusion (first_outside (atoms d.premises) c.set))
+
+    made : Store
+    made = add_rule W d.name (Some d.premises) (Some c)

@@ -15,7 +15,7 @@ use Rattle.ft_items.specs.Good.{is_new, given}
 use Rattle.ft_reference.specs.Refusals.{first_refusal, TooBig}
 use Rattle.ft_reference.specs.Checks.{forms_application}
 use Rattle.ft_reference.specs.Calls.{answered}
-use Rattle.ft_reference.specs.Declare.{outcome, refused_unless, first_of, RuleFault, Duplicate, TooMany, OpenPremise, OpenConclusion, Draft, name_fault, first_outside}
+use Rattle.ft_reference.specs.Declare.{outcome, refused_unless, first_of, RuleFault, Duplicate, TooMany, OpenPremise, OpenConclusion, Draft, name_fault, next_metavariable, next_rule, first_outside}
 use Rattle.ft_nucleus_laws.specs.Laws.{Answers, NamesRefused, OpenRefused, WideRefused}
 
 -- an outcome is refused with e exactly where e is the refusal
@@ -105,8 +105,8 @@ pub names_refused : NamesRefused
 names_refused W d c = (
   through (refused (name_fault W d.name) W W begun Duplicate) (through (path_first (name_fault W d.name) (first_of (faults B C) None) Duplicate (sym (no_more (faults B C)))) (duplicate_is B C None (none_fault Duplicate))),
   through (refused (name_fault W d.name) W W begun TooMany) (through (path_first (name_fault W d.name) (first_of (faults B C) None) TooMany (sym (no_more (faults B C)))) (through (too_many_is B C None (none_fault TooMany)) (with_many (B ≡ true) (length W.rules)))),
-  through (refused _ W _ (length W.rules) Duplicate) (duplicate_is B C (option_map OpenConclusion (first_outside (atoms d.premises) c.set)) (open_not Duplicate not_duplicate (first_outside (atoms d.premises) c.set))),
-  through (refused _ W _ (length W.rules) TooMany) (through (too_many_is B C (option_map OpenConclusion (first_outside (atoms d.premises) c.set)) (open_not TooMany not_many (first_outside (atoms d.premises) c.set))) (with_many (B ≡ true) (length W.rules))),
+  through (refused _ W _ (next_rule W d.premises c) Duplicate) (duplicate_is B C (option_map OpenConclusion (first_outside (atoms d.premises) c.set)) (open_not Duplicate not_duplicate (first_outside (atoms d.premises) c.set))),
+  through (refused _ W _ (next_rule W d.premises c) TooMany) (through (too_many_is B C (option_map OpenConclusion (first_outside (atoms d.premises) c.set)) (open_not TooMany not_many (first_outside (atoms d.premises) c.set))) (with_many (B ≡ true) (length W.rules))),
 )
   where
     B : Bool
@@ -127,8 +127,8 @@ premise_is i (Some b) a = (λ h. ap Some (inside h), λ h. ap (λ z. option_map 
 
 pub open_refused : OpenRefused
 open_refused W d n b a = (
-  through (refused (option_map (OpenPremise (suc (length d.premises))) (first_outside (atoms d.premises) b.set)) _ _ (length W.metavariables) (OpenPremise (suc (length d.premises)) a)) (premise_is (suc (length d.premises)) (first_outside (atoms d.premises) b.set) a),
-  through (refused _ W _ (length W.rules) (OpenConclusion a)) (through (open_is (is_new W.names d.name) (nat_lt (length W.rules) 65536) (first_outside (atoms d.premises) b.set) a) (λ h. (h.0, (few (length W.rules)).0 h.1, h.2), λ h. (h.0, (few (length W.rules)).1 h.1, h.2))),
+  through (refused (option_map (OpenPremise (suc (length d.premises))) (first_outside (atoms d.premises) b.set)) _ _ (next_metavariable W n b) (OpenPremise (suc (length d.premises)) a)) (premise_is (suc (length d.premises)) (first_outside (atoms d.premises) b.set) a),
+  through (refused _ W _ (next_rule W d.premises b) (OpenConclusion a)) (through (open_is (is_new W.names d.name) (nat_lt (length W.rules) 65536) (first_outside (atoms d.premises) b.set) a) (λ h. (h.0, (few (length W.rules)).0 h.1, h.2), λ h. (h.0, (few (length W.rules)).1 h.1, h.2))),
 )
 
 -- wide metavariables

@@ -2,18 +2,18 @@
 use Rattle.std.specs.Prelude.{ℕ, suc, ◌<◌, ◌≤◌, true, false, nat_eq, Some, None, Result, Ok, Err, List, [], ◌∷◌, ◌++◌, length, ◌≡◌, ◌↔◌, ◌⊎◌}
 use Rattle.ft_theory.specs.Statements.{Statement, domain_count, fill}
 use Rattle.ft_theory.specs.Derivability.{FinitaryUpTo}
-use Rattle.ft_theory.specs.Rules.{look_up}
+use Rattle.ft_theory.specs.Rules.{look_up, Rule}
 use Rattle.ft_items.specs.Sets.{Atom, var, Has, precedes, Ascending}
 use Rattle.ft_items.specs.Equal.{is_thesis, is_plain, is_object, head}
 use Rattle.ft_items.specs.Item.{Name, Stated, Item, variable, metavariable, rule, entry, by_generic}
-use Rattle.ft_items.specs.Store.{Assertion, Annotation, Declared, Store, entry_named, metavariable_named, each, resolve, Resolved, Derivable, store_of}
+use Rattle.ft_items.specs.Store.{Assertion, Annotation, Declared, Store, entry_named, variable_named, metavariable_named, rule_named, each, resolve, Resolved, Derivable, store_of}
 use Rattle.ft_items.specs.Rows.{rests_on, atoms, differ, on_earlier}
 use Rattle.ft_items.specs.Good.{given, is_next, is_new, Allowed, Good}
 use Rattle.ft_reference.specs.Refusals.{Refusal, TooBig, Check, holds, refusal_of, first_refusal, formed, AllSmall}
 use Rattle.ft_reference.specs.Compare.{fit_checks}
 use Rattle.ft_reference.specs.Checks.{first_dependent, checks}
 use Rattle.ft_reference.specs.Calls.{may_be_made, answer}
-use Rattle.ft_reference.specs.Declare.{Outcome, Duplicate, TooMany, OpenPremise, OpenConclusion, Draft, new_variable, new_metavariable, first_variable, first_outside, begin, premise, finish}
+use Rattle.ft_reference.specs.Declare.{Outcome, Duplicate, TooMany, OpenPremise, OpenConclusion, Draft, declared_variable, new_variable, next_metavariable, new_metavariable, first_variable, first_outside, begin, premise, next_rule, finish}
 
 -- A call answers a statement and its set exactly where its row gives these after the store's items and all that it forms is
 -- small.
@@ -62,12 +62,12 @@ RefusalsChangeNothing = (W : Store) (d : Draft) (v : ℕ) (n : Name) (p : Assert
 -- longer list.
 abbrev pub VariablesAllowed : Type 0
 VariablesAllowed = (items : List Item) (v p : ℕ) (n : Name) (a : Assertion) → is_next (store_of items).variables v ≡ true → entry_named (store_of items) p ≡ Some a
-    → ((new_variable (store_of items) v n a).answer ≡ Ok v) ↔ (Allowed items (variable v n p) × ((new_variable (store_of items) v n a).after ≡ store_of (items ++ (variable v n p ∷ []))))
+    → ((new_variable (store_of items) v n a).answer ≡ Ok (v, declared_variable n a)) ↔ (Allowed items (variable v n p) × ((new_variable (store_of items) v n a).after ≡ store_of (items ++ (variable v n p ∷ []))))
 
 -- The same for a metavariable with a boundary.
 abbrev pub MetavariablesAllowed : Type 0
 MetavariablesAllowed = (items : List Item) (p : ℕ) (n : Name) (a : Assertion) → is_thesis a.statement ≡ false → entry_named (store_of items) p ≡ Some a
-    → ((new_metavariable (store_of items) n a).answer ≡ Ok (length (store_of items).metavariables)) ↔ (Allowed items (metavariable n p) × ((new_metavariable (store_of items) n a).after ≡ store_of (items ++ (metavariable n p ∷ []))))
+    → ((new_metavariable (store_of items) n a).answer ≡ Ok (next_metavariable (store_of items) n a)) ↔ (Allowed items (metavariable n p) × ((new_metavariable (store_of items) n a).after ≡ store_of (items ++ (metavariable n p ∷ []))))
 
 -- the numbers of metavariables
 abbrev pub numbers : List (ℕ × Declared) → List ℕ
@@ -83,7 +83,7 @@ pub record IsDraft (W : Store) (d : Draft) : Type 0 where
 -- A draft that is begun is one, and with each premise that is made it stays one.
 abbrev pub DraftsGrow : Type 0
 DraftsGrow = ((W : Store) (n : Name) (d : Draft) → (begin W n).answer ≡ Ok d → IsDraft W d)
-    × ((W : Store) (d : Draft) (n : Name) (b : Assertion) (m : ℕ) → IsDraft W d → (premise W d n b).answer ≡ Ok m → IsDraft (premise W d n b).after.0 (premise W d n b).after.1)
+    × ((W : Store) (d : Draft) (n : Name) (b : Assertion) (m : ℕ × Declared) → IsDraft W d → (premise W d n b).answer ≡ Ok m → IsDraft (premise W d n b).after.0 (premise W d n b).after.1)
 
 -- And it stays one as the list goes on, by whatever items.
 abbrev pub DraftsStay : Type 0
@@ -96,12 +96,34 @@ drafted d p = rule d.name (numbers d.premises) p
 -- A draft finishes with a plain boundary exactly where its rule is allowed, and the store is then that of the longer list.
 abbrev pub FinishesAllowed : Type 0
 FinishesAllowed = (items : List Item) (d : Draft) (p : ℕ) (c : Assertion) → IsDraft (store_of items) d → entry_named (store_of items) p ≡ Some c → is_thesis c.statement ≡ false → is_plain c.statement ≡ true
-    → ((finish (store_of items) d c).answer ≡ Ok (length (store_of items).rules)) ↔ (Allowed items (drafted d p) × ((finish (store_of items) d c).after ≡ store_of (items ++ (drafted d p ∷ []))))
+    → ((finish (store_of items) d c).answer ≡ Ok (next_rule (store_of items) d.premises c)) ↔ (Allowed items (drafted d p) × ((finish (store_of items) d c).after ≡ store_of (items ++ (drafted d p ∷ []))))
 
 -- So, after a good list, the rules stay a finitary theory, whether the draft finishes or not.
 abbrev pub FinishedIsFinitary : Type 0
 FinishedIsFinitary = (items : List Item) (d : Draft) (p : ℕ) (c : Assertion) (k : ℕ) → Good items → IsDraft (store_of items) d → entry_named (store_of items) p ≡ Some c → is_thesis c.statement ≡ false → is_plain c.statement ≡ true
     → FinitaryUpTo k (finish (store_of items) d c).after.rules
+
+-- What a declaration answers: what the store that it leaves has under the number.
+
+-- for a variable of the next number
+abbrev pub VariableIsThere : Type 0
+VariableIsThere = (W : Store) (v : ℕ) (n : Name) (p : Assertion) (x : ℕ × Annotation) → is_next W.variables v ≡ true → (new_variable W v n p).answer ≡ Ok x
+    → variable_named (new_variable W v n p).after v ≡ Some x
+
+-- for a metavariable
+abbrev pub MetavariableIsThere : Type 0
+MetavariableIsThere = (W : Store) (n : Name) (b : Assertion) (m : ℕ × Declared) → (new_metavariable W n b).answer ≡ Ok m
+    → metavariable_named (new_metavariable W n b).after (length W.metavariables) ≡ Some m
+
+-- for a premise, which the draft has as its last one
+abbrev pub PremiseIsThere : Type 0
+PremiseIsThere = (W : Store) (d : Draft) (n : Name) (b : Assertion) (m : ℕ × Declared) → (premise W d n b).answer ≡ Ok m
+    → (metavariable_named (premise W d n b).after.0 (length W.metavariables) ≡ Some m) × ((premise W d n b).after.1.premises ≡ d.premises ++ (m ∷ []))
+
+-- for a rule
+abbrev pub RuleIsThere : Type 0
+RuleIsThere = (W : Store) (d : Draft) (c : Assertion) (r : ℕ × Rule) → (finish W d c).answer ≡ Ok r
+    → rule_named (finish W d c).after (length W.rules) ≡ Some r
 
 -- Which refusals name an atom: the least one.
 

@@ -223,10 +223,10 @@ two_rules = record one_metavariable { rules = nat_rule ∷ successor_rule ∷ []
 
 abbrev pub DraftRows : Type 0
 DraftRows = (begin empty_store (codes "Nat") ≡ record { after = empty_store; answer = Ok nat_draft })
-    × (finish empty_store nat_draft type_boundary ≡ record { after = one_rule; answer = Ok 0 })
+    × (finish empty_store nat_draft type_boundary ≡ record { after = one_rule; answer = Ok (0, nat_rule) })
     × (begin one_rule (codes "Nat") ≡ record { after = one_rule; answer = Err Duplicate })
-    × (premise one_rule (record { name = codes "S"; premises = [] }) (codes "n") (term_boundary_of Nat) ≡ record { after = (one_metavariable, successor_draft); answer = Ok 0 })
-    × (finish one_metavariable successor_draft (term_boundary_of Nat) ≡ record { after = two_rules; answer = Ok 1 })
+    × (premise one_rule (record { name = codes "S"; premises = [] }) (codes "n") (term_boundary_of Nat) ≡ record { after = (one_metavariable, successor_draft); answer = Ok (0, record { name = codes "n"; boundary = plain (term_goal Nat); set = [] }) })
+    × (finish one_metavariable successor_draft (term_boundary_of Nat) ≡ record { after = two_rules; answer = Ok (1, successor_rule) })
     × (finish one_rule nat_draft type_boundary ≡ record { after = one_rule; answer = Err Duplicate })
     × (premise store nat_draft (codes "p") open_boundary ≡ record { after = (store, nat_draft); answer = Err (OpenPremise 1 (var 4)) })
     × (premise one_metavariable successor_draft (codes "p") (of (plain type_goal) (met 0 ∷ met 3 ∷ var 4 ∷ [])) ≡ record { after = (one_metavariable, successor_draft); answer = Err (OpenPremise 2 (met 3)) })
@@ -234,7 +234,7 @@ DraftRows = (begin empty_store (codes "Nat") ≡ record { after = empty_store; a
 
 -- variables and metavariables
 abbrev pub NewRows : Type 0
-NewRows = (new_variable store 9 (codes "z") (type_of Nat) ≡ record { after = record store { variables = store.variables ++ ((9, record { name = codes "z"; annotation = Nat; set = [] }) ∷ []) }; answer = Ok 9 })
+NewRows = (new_variable store 9 (codes "z") (type_of Nat) ≡ record { after = record store { variables = store.variables ++ ((9, record { name = codes "z"; annotation = Nat; set = [] }) ∷ []) }; answer = Ok (9, record { name = codes "z"; annotation = Nat; set = [] }) })
     × (new_variable store 9 (codes "z") (term_of O Nat) ≡ record { after = store; answer = Err WrongForm })
-    × (new_metavariable store (codes "m") type_boundary ≡ record { after = record store { metavariables = store.metavariables ++ (record { name = codes "m"; boundary = plain type_goal; set = [] } ∷ []) }; answer = Ok 9 })
+    × (new_metavariable store (codes "m") type_boundary ≡ record { after = record store { metavariables = store.metavariables ++ (record { name = codes "m"; boundary = plain type_goal; set = [] } ∷ []) }; answer = Ok (9, record { name = codes "m"; boundary = plain type_goal; set = [] }) })
     × (new_metavariable store (codes "m") open_boundary ≡ record { after = store; answer = Err (OpenBoundary 4) })

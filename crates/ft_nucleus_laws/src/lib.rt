@@ -1,7 +1,7 @@
 // Laws of the nucleus. Each function states one fact on its calls, over the definitions alone.
 #![tactic(auto)]
 
-ghost use Rattle.ft_nucleus_laws.specs.Laws.{AnswersItsRow, RefusesFirst, AnswersDerivable, AnswersAllowed, FitsIsFilling, RefusalsChangeNothing, VariablesAllowed, MetavariablesAllowed, DraftsGrow, DraftsStay, FinishesAllowed, FinishedIsFinitary, FirstOutsideIsLeast, FirstVariableIsLeast, FirstDependentIsLeast, NamesRefused, OpenRefused, WideRefused};
+ghost use Rattle.ft_nucleus_laws.specs.Laws.{AnswersItsRow, RefusesFirst, AnswersDerivable, AnswersAllowed, FitsIsFilling, RefusalsChangeNothing, VariablesAllowed, MetavariablesAllowed, DraftsGrow, DraftsStay, FinishesAllowed, FinishedIsFinitary, VariableIsThere, MetavariableIsThere, PremiseIsThere, RuleIsThere, FirstOutsideIsLeast, FirstVariableIsLeast, FirstDependentIsLeast, NamesRefused, OpenRefused, WideRefused};
 ghost use Rattle.ft_nucleus_laws.specs.SmallAnswers.{AnswersSmall, ClosingKeepsSize, ClosingKeepsSmall, AbstractionsSmall};
 ghost use Rattle.ft_nucleus_laws.specs.Rows.{VariableRows, SubstitutionRows, EqualityRows, SideRows, RuleRows, DeepRows, CongruenceRows, ApplicationRows, NaturalRows, DraftRows, NewRows};
 
@@ -63,6 +63,14 @@ pub fn finishes_allowed()
 /// Over a good list a draft finishes only so that the rules stay a finitary theory.
 pub fn finished_is_finitary()
     ensures law { FinishedIsFinitary }
+{}
+
+/// What a declaration answers is what the store that it leaves has under the number.
+pub fn answers_what_is_declared()
+    ensures variable { VariableIsThere }
+    ensures metavariable { MetavariableIsThere }
+    ensures premise { PremiseIsThere }
+    ensures rule { RuleIsThere }
 {}
 
 /// The atom or variable that a refusal names is the least that is refused.

@@ -14,7 +14,7 @@ use Rattle.ft_meaning.specs.Names.{named}
 use Rattle.ft_meaning.specs.Trees.{ValueType, Form, let_in, if_then, match_with, handle_with, abstraction, cons_of, one, two, argument, congruence, perform, call, substitution, truth_of, unit_of, pair_of, none_of, nil_of, Forms, no_forms, and_form, Cases, no_cases, and_case, ValueCase, no_value_case, value_case, Handlers, no_handlers, and_handler, place}
 use Rattle.ft_meaning.specs.Trees as type
 use Rattle.ft_meaning.specs.Typing.{TypeFault, fault_at, Arity, RuleType, Scope, with_value, meant_by, wanted, either_wanted, ensure_arity, ensure_new, Bindings, bindings, case_scope, word_type, first_wanted, word_type_of_two, form_count, type_of, are_judgements, type_of_cases, cases_have, type_of_value, handlers_have}
-use Rattle.ft_meaning.specs.Values.{Value, judgement, unit, truth, pair, nil, cons, none, Environment, NoMatch, State, fails, spent, stuck, performs, halts, Outcome, Run, ◌>>=◌, pure, halt, nucleus, the_rule, as_judgement, as_judgements}
+use Rattle.ft_meaning.specs.Values.{Value, judgement, unit, truth, pair, nil, cons, none, Environment, NoMatch, State, fails, stuck, performs, halts, Outcome, Run, ◌>>=◌, pure, halt, nucleus, the_rule, as_judgement, as_judgements}
 use Rattle.ft_meaning.specs.Matching.{matches}
 use Rattle.ft_meaning.specs.Forms.{judged, fitting, make_variable, abstract_value, substitute_value, word_at, word_at_two, handled, alone, meaning, applied, substituted, first_match, of_value, of_operation}
 use Rattle.ft_meaning_laws.specs.Fits.{HasType, HaveTypes, CanCoerce}

@@ -1,5 +1,5 @@
 -- Forms that have a type give a value of it, or end as typing allows.
-use Rattle.std.proofs.Common.{◌≡◌, ◌≤◌, ℕ, suc, Bool, true, false, cond, ◌⊎◌, inl, inr, Option, Some, None, Result, Ok, Err, List, [], ◌∷◌, ◌++◌, refl, sym, subst}
+use Rattle.std.proofs.Common.{◌≡◌, ◌≤◌, ℕ, suc, Bool, true, false, cond, ◌⊎◌, inl, inr, Option, Some, None, Result, Ok, Err, List, ◌∷◌, ◌++◌, refl, sym, subst}
 use Rattle.std.specs.Prelude.{is_some, not, codes, ◌||◌}
 use Rattle.ft_theory.specs.Rules.{Rule}
 use Rattle.ft_theory.specs.Statements.{Statement, is_type, has_type, equal_types, equal_terms, plain}
@@ -10,7 +10,7 @@ use Rattle.ft_reference.specs.Nucleus.{fits_boundary}
 use Rattle.ft_reference.specs.Nucleus as reference
 use Rattle.ft_equality.specs.Results as results
 use Rattle.ft_theory.specs.Expressions.{Expression}
-use Rattle.ft_equality.specs.Programs.{Units, Answer, Spent, NotSmall}
+use Rattle.ft_equality.specs.Programs.{Answer, Spent, NotSmall}
 use Rattle.ft_equality.specs.Equality.{types_are_equal, terms_are_equal, normal_form}
 use Rattle.ft_grammar.specs.declared.form.OneForm.{OneForm}
 use Rattle.ft_grammar.specs.declared.form.OneForm.TheVariants.{Refl, Sym, Left, Right, Typeof, Domain, Natural, Normal, Boundaryof, SomeWord}
@@ -21,7 +21,7 @@ use Rattle.ft_meaning.specs.Names.{named}
 use Rattle.ft_meaning.specs.Trees.{ValueType, Pattern, cons_pattern, some_pattern, symbol_pattern, name_pattern, wildcard, truth_pattern, unit_pattern, none_pattern, nil_pattern, pair_pattern, Patterns, no_patterns, and_pattern, Form, let_in, if_then, match_with, handle_with, abstraction, cons_of, one, two, argument, congruence, perform, call, substitution, truth_of, unit_of, pair_of, none_of, nil_of, Forms, no_forms, and_form, Cases, no_cases, and_case, ValueCase, no_value_case, value_case, Handlers, no_handlers, and_handler, place}
 use Rattle.ft_meaning.specs.Trees as type
 use Rattle.ft_meaning.specs.Typing.{same_type, RuleType, Scope, meant_by, wanted, either_wanted, ensure_arity, pattern_count, fault_at, Unbound, Twice, Bindings, bindings, all_bindings, word_type, first_wanted, word_type_of_two}
-use Rattle.ft_meaning.specs.Values.{Value, judgement, boundary, unit, truth, pair, nil, cons, none, some, Environment, Refused, State, fails, spent, performs, halts, Run, ◌>>=◌, pure, end, nucleus, the_rule}
+use Rattle.ft_meaning.specs.Values.{Value, judgement, boundary, unit, truth, pair, nil, cons, none, some, Environment, Refused, State, fails, performs, Run, pure, end, nucleus, the_rule}
 use Rattle.ft_meaning.specs.Matching.{is_applied, where_true, and_also, same_truth, matches, match_arguments}
 use Rattle.ft_meaning.specs.Forms.{judged, bounded, fitting, abstract_value, substitute_value, settled, equation_if, compare, normalise, conversion, word_at, word_at_two}
 use Rattle.ft_equality_laws.specs.Laws.{UsesUnits}
@@ -29,7 +29,7 @@ use Rattle.ft_equality_laws.proofs.Counts.{units_are_kept}
 use Rattle.ft_equality_laws.proofs.Stores.{next_more}
 use Rattle.ft_common.proofs.Results.{ok_ok}
 use Rattle.ft_meaning_laws.specs.Fits.{HasType, HaveTypes, CanCoerce}
-use Rattle.ft_meaning_laws.proofs.Typed.{ground, Safe, IsSafe, Any, safe_here, safe_bind, safe_pure, safe_end, safe_halt, safe_cond, safe_nucleus, safe_rule, okay, ok_then, ok_both, not_ok, same_type_true, wanted_is, meant_is, ensured}
+use Rattle.ft_meaning_laws.proofs.Typed.{ground, Safe, IsSafe, Any, safe_bind, safe_pure, safe_end, safe_halt, safe_cond, safe_nucleus, safe_rule, okay, ok_then, ok_both, not_ok, same_type_true, wanted_is, meant_is, ensured}
 
 -- values of a type
 abbrev pub Of : ValueType → Value → Type 0
@@ -60,7 +60,7 @@ of_boundary sc P f (boundary b) h k = k b
 of_boundary sc P f v h k = absurd h
 
 -- the type is one of judgements or of boundaries
-either_or : (a b : Bool) → (a || b) ≡ true → (a ≡ true) ⊎ (b ≡ true)
+pub either_or : (a b : Bool) → (a || b) ≡ true → (a ≡ true) ⊎ (b ≡ true)
 either_or true b e = inl refl
 either_or false b e = inr e
 

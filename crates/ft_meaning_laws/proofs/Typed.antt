@@ -1,6 +1,6 @@
 -- Values of types, and evaluations that end as typed ones do: never stuck.
-use Rattle.std.proofs.Common.{◌≡◌, ℕ, zero, suc, ◌<◌, ◌≤◌, Bool, true, false, cond, ◌&&◌, Option, Some, None, Result, Ok, Err, List, [], ◌∷◌, ◌++◌, length, refl, sym, ap, ap₂, ◌∙◌, subst, arith}
-use Rattle.std.specs.Prelude.{nat_eq, nat_lt, option_and_then}
+use Rattle.std.proofs.Common.{◌≡◌, ℕ, zero, suc, Bool, true, false, cond, ◌&&◌, Option, Some, None, Result, Ok, Err, List, [], ◌∷◌, ◌++◌, refl, sym, ap, ap₂, ◌∙◌, subst, arith}
+use Rattle.std.specs.Prelude.{nat_eq, nat_lt}
 use Rattle.std.proofs.lemmas.Bool.{lt-ltb, and_parts}
 use Rattle.std.proofs.Math.Dec.{eqb-suc-zero}
 use Rattle.ft_common.proofs.Booleans.{false_true}
@@ -8,14 +8,14 @@ use Rattle.ft_common.proofs.Options.{one_value}
 use Rattle.ft_common.proofs.Results.{ok_ok, err_ok}
 use Rattle.ft_theory.specs.Rules.{Rule}
 use Rattle.ft_items.specs.Item.{Name}
-use Rattle.ft_items.specs.Store.{Assertion, Annotation, Store, add_variable, rule_named}
+use Rattle.ft_items.specs.Store.{Assertion, Annotation, Store, add_variable}
 use Rattle.ft_items.specs.Good.{equal_names, is_next, is_plain_type}
 use Rattle.ft_items.proofs.Names.{same_name}
 use Rattle.ft_reference.specs.Refusals.{Refusal, WrongForm}
 use Rattle.ft_reference.specs.Declare.{Outcome as Declaration, outcome, refused_unless, declared_variable, new_variable}
 use Rattle.ft_equality.specs.Results as results
 use Rattle.ft_equality_laws.proofs.Stores.{next_more}
-use Rattle.ft_meaning.specs.Names.{named, place_of, rule_of_name}
+use Rattle.ft_meaning.specs.Names.{named, rule_of_name}
 use Rattle.ft_meaning.specs.Trees.{ValueType}
 use Rattle.ft_meaning.specs.Trees as type
 use Rattle.ft_meaning.specs.Typing.{same_type, TypeFault, RuleType, Scope, fault_at, Unbound, meant_by, wanted}

@@ -2,3 +2,5 @@
 #![tactic(auto)]
 
 mod safe;
+
+pub use safe::{lines_go_on, never_stuck, stages_agree, typed_commands_fit};

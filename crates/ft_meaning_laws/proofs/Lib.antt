@@ -5,3 +5,4 @@ pub mod SafeCommands
 pub mod SafeRules
 pub mod SafeRuns
 pub mod Transcripts
+pub mod Contents

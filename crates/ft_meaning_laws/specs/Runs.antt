@@ -1,13 +1,25 @@
--- What holds of the transcripts of sources.
+-- What holds of sources and of their transcripts.
 use Rattle.std.specs.Prelude.{ℕ, ◌≡◌, ◌≢◌, None, List, ◌++◌}
 use Rattle.ft_meaning.specs.Trees.{Command}
 use Rattle.ft_meaning.specs.Values.{Environment, State}
 use Rattle.ft_meaning.specs.Typing.{Scope}
 use Rattle.ft_meaning.specs.Texts.{Text}
-use Rattle.ft_meaning.specs.Sources.{commands}
+use Rattle.ft_meaning.specs.Sources.{commands, Has}
 use Rattle.ft_meaning.specs.Events.{Event}
 use Rattle.ft_meaning.specs.Stages.{Stage, all_built, first_unbuilt}
 use Rattle.ft_meaning.specs.Transcript.{Transcript, stuck_status, transcript_from, transcript_of, IsTranscriptAt}
+
+-- there is exactly one with P
+abbrev pub ExactlyOne : {A : Type 0} → (A → Type 0) → Type 0
+ExactlyOne {A} P = ((a : A) × P a) × ((a b : A) → P a → P b → a ≡ b)
+
+-- The bytes of a source have exactly one content.
+abbrev pub OneContent : Type 0
+OneContent = (source : Text) → ExactlyOne (Has source)
+
+-- A source has exactly one transcript within a budget, at each stage.
+abbrev pub OneTranscript : Type 0
+OneTranscript = (B : Stage) (source : Text) (budget : ℕ) → ExactlyOne (IsTranscriptAt B source budget)
 
 -- No transcript tells of a run that is stuck, whatever the stage, the source and the budget.
 abbrev pub NeverStuck : Type 0

@@ -3,4 +3,6 @@
 
 mod safe;
 
-pub use safe::{lines_go_on, never_stuck, stages_agree, typed_commands_fit};
+pub use safe::{
+    lines_go_on, never_stuck, one_content, one_transcript, stages_agree, typed_commands_fit,
+};

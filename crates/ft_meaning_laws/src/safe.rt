@@ -1,7 +1,7 @@
 //! Laws of types, and of transcripts.
 
 ghost use Rattle.ft_meaning_laws.specs.Fits.{TypedCommandsFit, FirstStateFits};
-ghost use Rattle.ft_meaning_laws.specs.Runs.{NeverStuck, LinesGoOn, RunsEnd, StagesAgree};
+ghost use Rattle.ft_meaning_laws.specs.Runs.{OneContent, OneTranscript, NeverStuck, LinesGoOn, RunsEnd, StagesAgree};
 
 /// A command that has a type is never stuck, and leaves a state that fits the scope after it; where it halts the run, the
 /// state fits the scope before. The first state fits the first scope.
@@ -25,4 +25,14 @@ pub fn lines_go_on()
 /// Where each part of the commands is built at a stage, their transcript is that of the whole language.
 pub fn stages_agree()
     ensures law { StagesAgree }
+{}
+
+/// The bytes of a source are one of these, and no other: too many, no text, a text outside the grammar, the text of commands.
+pub fn one_content()
+    ensures law { OneContent }
+{}
+
+/// A source has exactly one transcript within a budget, at each stage.
+pub fn one_transcript()
+    ensures law { OneTranscript }
 {}

@@ -1,0 +1,8 @@
+//! Laws of the meaning of sources. Each function states one fact, over the definitions alone.
+#![tactic(auto)]
+
+mod safe;
+
+pub use safe::{
+    lines_go_on, never_stuck, one_content, one_transcript, stages_agree, typed_commands_fit,
+};

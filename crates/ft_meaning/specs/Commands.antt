@@ -26,7 +26,7 @@ bind_all (b ∷ bs) G xs = do
   j ← nucleus b.name.at (λ W. reference.variable W x)
   bind_all bs ((b.name.name, judgement j) ∷ G) ((b.name.at, x) ∷ xs)
 
--- the boundary that a body states
+-- the boundary that a body states; a refusal of it stands at the place
 abbrev pub boundary_by : ℕ → Body → Environment → Run Assertion
 boundary_by at type_body G = nucleus at reference.boundary_type
 boundary_by at (term_body e) G = do
@@ -42,7 +42,7 @@ boundary_by at (terms_body e f g) G = do
   A ← judgement_of g G
   nucleus at (λ W. reference.boundary_eq_term W A s t)
 
--- the variables taken out, in turn
+-- the variables bound in turn, each as a new first domain
 abbrev pub abstract_all : List Bound → Assertion → Run Assertion
 abstract_all [] b = pure b
 abstract_all (x ∷ xs) b = nucleus x.0 (λ W. reference.abstract_variable W x.1 b) >>= abstract_all xs
@@ -66,7 +66,7 @@ declare_premises (p ∷ ps) d G = do
   j ← nucleus p.at (λ W. reference.generic W M)
   declare_premises ps e ((p.name.name, judgement j) ∷ G)
 
--- a rule is declared
+-- A rule is declared. Faults of its name stand at the name, those of the conclusion's boundary and of finishing at the conclusion.
 abbrev pub declare_rule : Named → List Premise → ℕ → Body → Environment → Run Rule
 declare_rule n ps at c G = do
   d ← declare OfRule n.at (λ W. begin W n.name)
@@ -90,7 +90,8 @@ declare_equality add n = do
 
 -- Commands.
 
--- What a command has to tell: a rule is accepted; judgements are shown; an option without a judgement is shown; nothing.
+-- What a command has to tell: a rule is accepted; one judgement is shown; those of a list; an option that has none (`Nothing`); or
+-- there is nothing to tell (`Quiet`).
 pub data Done : Type 0 where
   Accepted : Name → Rule → Done
   One : Assertion → Done

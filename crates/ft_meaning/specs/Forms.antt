@@ -36,15 +36,15 @@ bounded at ask = nucleus at ask >>= λ b. pure (boundary b)
 abbrev pub coerce : {A : Type 0} → ℕ → Assertion → Assertion → Run A
 coerce at j b = end (performs (codes "coerce") (pair (judgement j) (boundary b)) at)
 
--- the judgement, where it fits the boundary
+-- the judgement, where it fits the boundary; else `coerce` is performed with both
 abbrev pub fitting : ℕ → Assertion → Assertion → Run Assertion
 fitting at j b = cond (fits_boundary j b) (pure j) (coerce at j b)
 
--- A new variable of a type, for one unit. Its number is that of the units used before.
+-- A new variable of a type, for one unit, which is spent also where the type is refused. Its number is that of the units used before.
 abbrev pub make_variable : ℕ → Name → Assertion → Run (ℕ × Annotation)
 make_variable at n A = λ s. (spend at >> declare Refused at (λ W. new_variable W s.units.used n A)) s
 
--- the variable taken out of a judgement or a boundary
+-- a judgement or a boundary with the variable bound, as its first domain
 abbrev pub abstract_value : ℕ → ℕ × Annotation → Value → Run Value
 abstract_value at x (judgement j) = judged at (λ W. reference.abstract_variable W x j)
 abstract_value at x (boundary b) = bounded at (λ W. reference.abstract_variable W x b)
@@ -69,7 +69,8 @@ abbrev pub equation_if : Bool → Statement → Assertion → Assertion → Valu
 equation_if true x j k = some (judgement (record { statement = x; set = union j.set k.set }))
 equation_if false x j k = none
 
--- the equation of two plain types or two plain terms, where they are equal by the declared rules; of terms at the first type
+-- The equation of two plain types or two plain terms, where they are equal by the declared rules, of terms at the first type; none
+-- where they are not. What has another form is refused.
 abbrev pub compare : ℕ → Assertion → Assertion → Statement → Statement → Run Value
 compare at j k (plain (is_type A)) (plain (is_type B)) =
     (λ s. settled at s (types_are_equal s.store s.rules A B s.units)) >>= λ b. pure (equation_if b (plain (equal_types A B)) j k)
@@ -77,7 +78,7 @@ compare at j k (plain (has_type t A)) (plain (has_type u B)) =
     (λ s. settled at s (terms_are_equal s.store s.rules t A u B s.units)) >>= λ b. pure (equation_if b (plain (equal_terms t u A)) j k)
 compare at j k x y = halt (fails (Refused WrongForm) at)
 
--- the equation of a plain type or term with its normal form
+-- the equation of a plain type or term with its normal form; what has another form is refused
 abbrev pub normalise : ℕ → Assertion → Statement → Run Value
 normalise at j (plain (is_type A)) =
     (λ s. settled at s (normal_form s.store s.rules A s.units)) >>= λ N. pure (judgement (record { statement = plain (equal_types A N); set = j.set }))

@@ -3,6 +3,7 @@ use Rattle.std.specs.Prelude.{ℕ, suc, Bool, true, false, cond, nat_eq, Option,
 use Rattle.ft_theory.specs.Expressions.{symbol}
 use Rattle.ft_theory.specs.Statements.{is_type, has_type, Statement, plain}
 use Rattle.ft_items.specs.Store.{Assertion}
+use Rattle.ft_items.specs.Rows.{when}
 use Rattle.ft_reference.specs.Nucleus as reference
 use Rattle.ft_meaning.specs.Trees.{Pattern, cons_pattern, some_pattern, symbol_pattern, name_pattern, wildcard, truth_pattern, unit_pattern, none_pattern, nil_pattern, pair_pattern, Patterns, no_patterns, and_pattern}
 use Rattle.ft_meaning.specs.Values.{Value, judgement, unit, truth, pair, nil, cons, none, some, Environment, Run, ◌>>=◌, pure, halt, stuck, nucleus, the_rule}
@@ -12,10 +13,6 @@ abbrev pub is_applied : ℕ → Statement → Bool
 is_applied s (plain (is_type (symbol r a))) = nat_eq s r
 is_applied s (plain (has_type (symbol r a) A)) = nat_eq s r
 is_applied s x = false
-
--- the environment, where the test holds
-abbrev pub where_true : Bool → Environment → Option Environment
-where_true b G = cond b (Some G) None
 
 -- what follows where a pattern matches
 abbrev pub and_also : Option Environment → (Environment → Run (Option Environment)) → Run (Option Environment)
@@ -40,7 +37,7 @@ abbrev mutual
       the_rule n.name >>= λ r. cond (is_applied r.0 j.statement) (match_arguments at ps j 1 G) (pure None)
   matches at (name_pattern a n) v G = pure (Some ((n, v) ∷ G))
   matches at (wildcard a) v G = pure (Some G)
-  matches at (truth_pattern a b) (truth c) G = pure (where_true (same_truth b c) G)
+  matches at (truth_pattern a b) (truth c) G = pure (when (same_truth b c) G)
   matches at (unit_pattern a) unit G = pure (Some G)
   matches at (none_pattern a) none G = pure (Some G)
   matches at (none_pattern a) (some v) G = pure None

@@ -40,7 +40,7 @@ abbrev pub IsProgram : List Token → List Command → Type 0
 IsProgram tokens cs = (trees : List Tree) × IsSource nesting trees tokens × (cs ≡ map command_of trees)
 
 -- The bytes have this content. Where the tokens are those of no commands, the place is the one at which reading them by the rules of
--- the grammar ends.
+-- the grammar ends: which part is nested too deeply is not told by the lists of tokens that are in the grammar alone.
 abbrev pub Has : Text → Content → Type 0
 Has source too_long = greatest_length < length source
 Has source (no_text n) = (length source ≤ greatest_length) × IsValidUpTo source n

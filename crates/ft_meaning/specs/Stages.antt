@@ -1,4 +1,5 @@
--- Which parts of the language are built. Where a source has a part that is not, nothing is run, and the first such part is told.
+-- Stages: which parts of the language are built. Where a source has a part that is not, nothing is run, and the first such part is
+-- told.
 use Rattle.std.specs.Prelude.{ℕ, Bool, true, false, cond, Option, Some, None, List, [], ◌∷◌, ◌++◌}
 use Rattle.ft_items.specs.Item.{Name}
 use Rattle.ft_grammar.specs.declared.form.OneForm.{OneForm}
@@ -38,10 +39,6 @@ no_operations f = no_equality f
 abbrev pub applications_alone : Stage
 applications_alone applications = true
 applications_alone f = false
-
--- what this program has built
-abbrev pub built : Stage
-built = all_built
 
 -- the feature of a word before one atom
 abbrev pub word_feature : OneForm → Feature

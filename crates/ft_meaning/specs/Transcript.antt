@@ -12,7 +12,7 @@ use Rattle.ft_meaning.specs.Texts.{Text}
 use Rattle.ft_meaning.specs.Faults.{fault_text, fault_status, type_why_text}
 use Rattle.ft_meaning.specs.Lines.{line, error_line, done_lines}
 use Rattle.ft_meaning.specs.Events.{Event, events_of}
-use Rattle.ft_meaning.specs.Stages.{Stage, built, first_unbuilt}
+use Rattle.ft_meaning.specs.Stages.{Stage, all_built, first_unbuilt}
 use Rattle.ft_meaning.specs.Sources.{Content, too_long, no_text, unexpected, too_nested, commands, Has}
 
 -- the lines, the status, the events in their order, and the units used
@@ -82,6 +82,6 @@ transcript_of B source budget (commands cs) = unless_unbuilt source budget cs (f
 abbrev pub IsTranscriptAt : Stage → Text → ℕ → Transcript → Type 0
 IsTranscriptAt B source budget t = (content : Content) × Has source content × (t ≡ transcript_of B source budget content)
 
--- the same by what is built
+-- a transcript of the source within the budget, in the whole language
 abbrev pub IsTranscript : Text → ℕ → Transcript → Type 0
-IsTranscript = IsTranscriptAt built
+IsTranscript = IsTranscriptAt all_built

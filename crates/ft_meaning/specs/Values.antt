@@ -25,7 +25,7 @@ pub data Value : Type 0 where
 abbrev pub Environment : Type 0
 Environment = List (Name × Value)
 
--- the state of a run: the store of the nucleus, the equality rules declared, and the units
+-- the state of a run: the store of the nucleus, whose list of entries stays empty; the equality rules declared; and the units
 pub record State : Type 0 where
   pub store : Store
   pub rules : EqualityRules
@@ -40,7 +40,7 @@ pub data Fault : Type 0 where
   OfShape : ShapeFault → Fault
 
 -- How a run halts: it fails at a place, or a unit is needed at a place and none is left. Where a value is not of the kind that its
--- form needs it is stuck, which typing excludes.
+-- form needs, or a name has no rule, it is stuck, which typing excludes.
 pub data Halt : Type 0 where
   fails : Fault → ℕ → Halt
   spent : ℕ → Halt

@@ -1,3 +1,11 @@
+pub mod Typed
+pub mod SafeWords
+pub mod SafeForms
+pub mod SafeCommands
+pub mod SafeRules
+pub mod SafeRuns
+pub mod Transcripts
+pub mod Contents
 mod Bare
 mod Grows
 mod Lists

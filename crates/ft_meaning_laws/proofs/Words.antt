@@ -4,6 +4,7 @@ use Rattle.std.specs.Prelude.{codes}
 use Rattle.ft_theory.specs.Statements.{equal_terms, Statement, plain}
 use Rattle.ft_items.specs.Item.{Item, by_abs, by_subst, by_substeq, by_refl, by_sym, by_trans, by_conv, by_conveq, by_left, by_right, by_typeof, by_domain, by_boundary, by_widen, by_arg, by_natural}
 use Rattle.ft_items.specs.Store.{Assertion, Annotation, with_two}
+use Rattle.ft_items.specs.Rows.{when}
 use Rattle.ft_theory.specs.Rules.{Rule}
 use Rattle.ft_reference.specs.Calls.{answer}
 use Rattle.ft_reference.specs.Nucleus.{fits_boundary}
@@ -14,13 +15,13 @@ use Rattle.ft_grammar.specs.declared.form.TwoForm.TheVariants.{Trans, Convert, E
 use Rattle.ft_meaning.specs.Trees.{Pattern, cons_pattern, some_pattern, symbol_pattern, name_pattern, wildcard, truth_pattern, unit_pattern, none_pattern, nil_pattern, pair_pattern, Patterns, no_patterns, and_pattern}
 use Rattle.ft_meaning.specs.Stages.{Stage, word_feature, word_feature_of_two}
 use Rattle.ft_meaning.specs.Values.{Value, judgement, boundary, unit, truth, pair, nil, cons, none, some, Environment, performs, stuck, Run, ◌>>=◌, pure, end, nucleus, the_rule}
-use Rattle.ft_meaning.specs.Matching.{is_applied, where_true, and_also, same_truth, matches, match_arguments}
+use Rattle.ft_meaning.specs.Matching.{is_applied, and_also, same_truth, matches, match_arguments}
 use Rattle.ft_meaning.specs.Forms.{fitting, abstract_value, substitute_value, conversion, judged, word_at, word_at_two}
 use Rattle.ft_meaning_laws.proofs.Made.{IsEntry, IsThesis, IsBoundary, IsMade, AreMade, IfMade, thesis_later, made_later, are_made_later, Keeps, keeps_bind, keeps_pure, keeps_end, keeps_halt, keeps_cond}
 use Rattle.ft_meaning_laws.proofs.Equal.{keeps_compare, keeps_normalise}
 use Rattle.ft_meaning_laws.proofs.Calls.{Answers, keeps_nucleus, keeps_judged, keeps_bounded, named_one, named_two, IsRule, IsVariable, variable_resolved, keeps_rule}
 
-where_made : (items : List Item) (b : Bool) (G : Environment) → AreMade items G → IfMade items (where_true b G)
+where_made : (items : List Item) (b : Bool) (G : Environment) → AreMade items G → IfMade items (when b G)
 where_made items true G h = h
 where_made items false G h = tt
 
@@ -93,7 +94,7 @@ module _ (B : Stage) where
         (keeps_pure B (Option Environment) IfMade xs None tt))
     keeps_match items at (name_pattern a n) v G h g = keeps_pure B (Option Environment) IfMade items (Some ((n, v) ∷ G)) (h, g)
     keeps_match items at (wildcard a) v G h g = keeps_pure B (Option Environment) IfMade items (Some G) g
-    keeps_match items at (truth_pattern a b) (truth c) G h g = keeps_pure B (Option Environment) IfMade items (where_true (same_truth b c) G) (where_made items (same_truth b c) G g)
+    keeps_match items at (truth_pattern a b) (truth c) G h g = keeps_pure B (Option Environment) IfMade items (when (same_truth b c) G) (where_made items (same_truth b c) G g)
     keeps_match items at (unit_pattern a) unit G h g = keeps_pure B (Option Environment) IfMade items (Some G) g
     keeps_match items at (none_pattern a) none G h g = keeps_pure B (Option Environment) IfMade items (Some G) g
     keeps_match items at (none_pattern a) (some v) G h g = keeps_pure B (Option Environment) IfMade items None tt

@@ -1,6 +1,10 @@
-// Laws of the meaning. Each function states one fact, over the definitions alone.
+//! Laws of the meaning of sources. Each function states one fact, over the definitions alone.
 #![tactic(auto)]
 
 mod derivable;
+mod safe;
 
 pub use derivable::{accepted_is_finitary, contexts_hold, derivation_exists, shown_derivable};
+pub use safe::{
+    lines_go_on, never_stuck, one_content, one_transcript, stages_agree, typed_commands_fit,
+};

@@ -33,7 +33,7 @@ first_of (Some e) o = Some e
 abbrev pub declared_variable : Name → Assertion → Annotation
 declared_variable n p = record { name = n; annotation = type_in p.statement; set = p.set }
 
--- A variable of number v at a type, which is to be plain. The number is greater than those of the earlier variables.
+-- A variable of number v at a type, which is to be plain. The number is to be greater than those of the earlier variables.
 abbrev pub new_variable : Store → ℕ → Name → Assertion → Outcome Store (ℕ × Annotation) Refusal
 new_variable W v n p = outcome (refused_unless (is_plain_type p.statement) WrongForm) W (add_variable W v n (Some p)) (v, declared_variable n p)
 

@@ -1,10 +1,10 @@
 -- The calls of the nucleus by name. Each is the answer of one step with what it names.
-use Rattle.std.specs.Prelude.{ℕ, Bool, is_none, Result, List}
+use Rattle.std.specs.Prelude.{ℕ, Bool, Result, List}
 use Rattle.ft_theory.specs.Rules.{Rule}
+use Rattle.ft_items.specs.Equal.{fits}
 use Rattle.ft_items.specs.Item.{by_var, by_generic, by_meta, by_metacong, by_abs, by_subst, by_substeq, by_refl, by_sym, by_trans, by_conv, by_conveq, by_left, by_right, by_typeof, by_domain, by_boundary, by_widen, by_btype, by_bterm, by_beqty, by_beqtm, by_rule, by_rulewith, by_inst, by_cong, by_convprem, by_convback, by_arg, by_natural, by_metainst}
 use Rattle.ft_items.specs.Store.{Assertion, Annotation, Declared, Store}
-use Rattle.ft_reference.specs.Refusals.{Refusal, first_refusal}
-use Rattle.ft_reference.specs.Compare.{fit_checks}
+use Rattle.ft_reference.specs.Refusals.{Refusal}
 use Rattle.ft_reference.specs.Calls.{answer}
 
 -- Variables and metavariables.
@@ -71,19 +71,19 @@ convert_equation W p e = answer W (by_conveq p e)
 
 -- Parts.
 
--- the left side of the equation p, or of its boundary
+-- the left side of p, an equation or the boundary of one, under the domains of p
 abbrev pub left_side : Store → Assertion → Result Assertion Refusal
 left_side W p = answer W (by_left p)
 
--- the right side
+-- its right side, under these domains
 abbrev pub right_side : Store → Assertion → Result Assertion Refusal
 right_side W p = answer W (by_right p)
 
--- the type in p, a thesis or a boundary of terms
+-- the type in p, a thesis or a boundary of terms, under the domains of p
 abbrev pub type_part : Store → Assertion → Result Assertion Refusal
 type_part W p = answer W (by_typeof p)
 
--- the first domain of p, as a type
+-- the first domain of p, as a plain type
 abbrev pub first_domain : Store → Assertion → Result Assertion Refusal
 first_domain W p = answer W (by_domain p)
 
@@ -109,9 +109,9 @@ boundary_eq_type W p q = answer W (by_beqty p q)
 abbrev pub boundary_eq_term : Store → Assertion → Assertion → Assertion → Result Assertion Refusal
 boundary_eq_term W p s t = answer W (by_beqtm p s t)
 
--- the test that the thesis j fits the boundary b; it has no refusal
+-- the test that the thesis j fits the boundary b
 abbrev pub fits_boundary : Assertion → Assertion → Bool
-fits_boundary j b = is_none (first_refusal (fit_checks j.statement b.statement))
+fits_boundary j b = fits j.statement b.statement
 
 -- Rules.
 

@@ -1,0 +1,5 @@
+use Rattle.ft_meaning_laws.proofs.Contents as proved
+use Rattle.ft_meaning_laws.proofs.safe.one_content.Goals as goal
+
+pub returns : goal.returns
+returns c = record { law = proved.one_content }

@@ -1,4 +1,4 @@
--- What the answer of a function that reads a whole source says of the grammar.
+-- What the answer of a function that reads a whole source says of the grammar, by the laws of the grammar.
 use Rattle.std.proofs.Common.{◌≡◌, ◌≢◌, ◌∙◌, sym, ap, refl, ℕ, true, not, IsTrue, IfOk, IfErr, IsErrOf, List, [], ◌∷◌, Ok, Err, Result}
 use Rattle.std.proofs.lemmas.Bool.{and_parts}
 use Rattle.ft_grammar.specs.declared.token.Kind.{Kind}
@@ -12,8 +12,7 @@ use Rattle.ft_grammar.specs.Forms.{is_no_end}
 use Rattle.ft_grammar.specs.Grammar.{IsSource, nesting}
 use Rattle.ft_grammar.specs.Reading.{parse, ReadsAll}
 use Rattle.ft_grammar.specs.Sources.{IsClosed, IsTooNested, IsFirstUnexpected}
-use Rattle.ft_parser.proofs.SourceLaws.{accepted_is_in_grammar, in_grammar_is_accepted}
-use Rattle.ft_parser.proofs.Refusals.{unexpected_is_first, too_nested_cannot_go_on}
+use Rattle.ft_grammar_laws.specs.Laws.{AcceptedIsInGrammar, InGrammarIsAccepted, UnexpectedIsFirst, TooNestedCannotGoOn}
 
 the_end : (k : Kind) → IsTrue (is_end k) → k ≡ kind.End
 the_end kind.End h = refl
@@ -37,18 +36,18 @@ closed [] h = cc
 closed (t ∷ []) h = the_end t.kind h
 closed (t ∷ u ∷ us) h = let each = and_parts (not (is_end t.kind)) (is_ended (u ∷ us)) h in (no_end t.kind each.0, closed (u ∷ us) each.1)
 
-pub accepted : {B : Type 0} (value : B → List Command) (ts : List Token) (r : Result B SyntaxFault) → IsTrue (is_ended ts)
+pub accepted : AcceptedIsInGrammar → {B : Type 0} (value : B → List Command) (ts : List Token) (r : Result B SyntaxFault) → IsTrue (is_ended ts)
     → ReadsAll (parse ts) r value → IfOk r (λ b. IsSource nesting (value b) ts)
-accepted value ts (Ok b) h reads = accepted_is_in_grammar (value b) ts (closed ts h) reads
-accepted value ts (Err e) h reads = tt
+accepted law value ts (Ok b) h reads = law (value b) ts (closed ts h) reads
+accepted law value ts (Err e) h reads = tt
 
 clash : {A : Type 0} {a : A} {e : SyntaxFault} (r : Result A SyntaxFault) → r ≡ Ok a → r ≡ Err e → ⊥
 clash r h k = cc
 
-pub refused : {B : Type 0} (value : B → List Command) (ts : List Token) (r : Result B SyntaxFault)
+pub refused : InGrammarIsAccepted → {B : Type 0} (value : B → List Command) (ts : List Token) (r : Result B SyntaxFault)
     → ReadsAll (parse ts) r value → IfErr r (λ e. e ≢ Memory → (c : List Command) → IsSource nesting c ts → ⊥)
-refused value ts (Ok b) reads = tt
-refused value ts (Err e) reads = λ other c h. clash (parse ts) (in_grammar_is_accepted c ts h) (reads other)
+refused law value ts (Ok b) reads = tt
+refused law value ts (Err e) reads = λ other c h. clash (parse ts) (law c ts h) (reads other)
 
 not_memory_at : (at : ℕ) → Unexpected at ≢ Memory
 not_memory_at at h = cc
@@ -59,16 +58,16 @@ not_memory_nested at h = cc
 err_is : {B : Type 0} (e f : SyntaxFault) → ◌≡◌ {A = Result B SyntaxFault} (Err e) (Err f) → e ≡ f
 err_is e f h = cc
 
-pub unexpected : {B : Type 0} (value : B → List Command) (ts : List Token) (r : Result B SyntaxFault) (at : ℕ) → IsTrue (is_ended ts)
+pub unexpected : UnexpectedIsFirst → {B : Type 0} (value : B → List Command) (ts : List Token) (r : Result B SyntaxFault) (at : ℕ) → IsTrue (is_ended ts)
     → ReadsAll (parse ts) r value → IsErrOf r (Unexpected at) → IsFirstUnexpected at ts
-unexpected value ts (Ok b) at h reads is = cc
-unexpected value ts (Err e) at h reads is =
+unexpected law value ts (Ok b) at h reads is = cc
+unexpected law value ts (Err e) at h reads is =
     let same = err_is e (Unexpected at) is in
-    unexpected_is_first at ts (closed ts h) (reads (λ m. not_memory_at at (sym same ∙ m)) ∙ ap Err same)
+    law at ts (closed ts h) (reads (λ m. not_memory_at at (sym same ∙ m)) ∙ ap Err same)
 
-pub too_nested : {B : Type 0} (value : B → List Command) (ts : List Token) (r : Result B SyntaxFault) (at : ℕ) → IsTrue (is_ended ts)
+pub too_nested : TooNestedCannotGoOn → {B : Type 0} (value : B → List Command) (ts : List Token) (r : Result B SyntaxFault) (at : ℕ) → IsTrue (is_ended ts)
     → ReadsAll (parse ts) r value → IsErrOf r (TooNested at) → IsTooNested nesting at ts
-too_nested value ts (Ok b) at h reads is = cc
-too_nested value ts (Err e) at h reads is =
+too_nested law value ts (Ok b) at h reads is = cc
+too_nested law value ts (Err e) at h reads is =
     let same = err_is e (TooNested at) is in
-    too_nested_cannot_go_on at ts (closed ts h) (reads (λ m. not_memory_nested at (sym same ∙ m)) ∙ ap Err same)
+    law at ts (closed ts h) (reads (λ m. not_memory_nested at (sym same ∙ m)) ∙ ap Err same)

@@ -1,4 +1,4 @@
-//! The parser of sources, and the laws of their grammar.
+//! The parser of sources.
 #![tactic(auto)]
 
 mod applications;
@@ -8,7 +8,6 @@ mod computations;
 mod cursor;
 mod expressions;
 mod form;
-mod laws;
 mod matching;
 mod patterns;
 mod premises;
@@ -18,9 +17,5 @@ mod types;
 pub use ft_grammar::{
     AmlType, Ast, Binder, Body, Case, Command, Conclusion, Named, OpCase, Pattern, Premise,
     SyntaxFault, ValCase,
-};
-pub use laws::{
-    accepted_is_in_grammar, in_grammar_is_accepted, one_tree, too_nested_cannot_go_on,
-    unexpected_is_first,
 };
 pub use source::parse;

@@ -12,6 +12,9 @@ ghost use Rattle.ft_grammar.specs.declared.syntax.Command.{Command as AnyCommand
 use crate::commands::commands;
 use crate::cursor::Cursor;
 use ft_grammar::{Command, SyntaxFault, Token};
+use ft_grammar_laws::{
+    accepted_is_in_grammar, in_grammar_is_accepted, too_nested_cannot_go_on, unexpected_is_first,
+};
 use std::alloc::Global;
 
 /// The commands of a source, by its tokens. `Unexpected` names the first token with which no source goes on at any nesting.
@@ -25,6 +28,10 @@ pub fn parse(alloc: Global, tokens: &[Token]) -> Result<Vec<Command>, SyntaxFaul
     ensures unexpected { (at : ℕ) → IsErrOf result (Unexpected at) → IsFirstUnexpected at tokens.now }
     ensures too_nested { (at : ℕ) → IsErrOf result (TooNested at) → IsTooNested nesting at tokens.now }
 {
+    accepted_is_in_grammar();
+    in_grammar_is_accepted();
+    unexpected_is_first();
+    too_nested_cannot_go_on();
     read_source(alloc, tokens)
 }
 

@@ -11,12 +11,12 @@ use Rattle.ft_grammar.specs.Rules.{Rule, Part, expression, pattern, type, type_a
 use Rattle.ft_grammar.specs.Forms.{begins_atom, begins_pattern_atom, is_no_end}
 use Rattle.ft_grammar.specs.Grammar.{rule_of, IsPart, list_type, option_type, parenthesized_type, atomic_type, any_type, parenthesized_pattern, atomic_pattern, some_pattern, symbol_pattern, list_pattern, any_pattern, parenthesized, none_of, nil_of, base, brace, braces, atom, call, one_part, two_parts, argument, congruence, perform, application, list_expression, let_in, if_then_else, case, match_with, operation_body, operation_case, value_body, handle_cases, handle_with, abstraction, any_expression, binder, type_body, term_body, equation_type, equation_body, any_body, premise, type_conclusion, term_conclusion, any_conclusion, rule_command, let_command, operation_command, computation_command, extensionality_command, show_command, any_command, commands}
 use Rattle.ft_grammar.specs.Reading.{level, read, read_name, read_word, read_mark}
-use Rattle.ft_parser.proofs.Cases.{some_first}
-use Rattle.ft_parser.proofs.Sound.{Proper, eats, eaten, sound}
-use Rattle.ft_parser.proofs.ProperRules.{proper_atomic_pattern, proper_brace, proper_atom, proper_case, proper_operation_case, proper_binder, proper_premise, proper_any_command}
-use Rattle.ft_parser.proofs.Levels.{parts_eat, parts_sound}
-use Rattle.ft_parser.proofs.BodyRules.{a_name}
-use Rattle.ft_parser.proofs.Local.{Looks, Takes, IsLocal, local, nested_local, beyond, left_of}
+use Rattle.ft_grammar_laws.proofs.Cases.{some_first}
+use Rattle.ft_grammar_laws.proofs.Sound.{Proper, eats, eaten, sound}
+use Rattle.ft_grammar_laws.proofs.ProperRules.{proper_atomic_pattern, proper_brace, proper_atom, proper_case, proper_operation_case, proper_binder, proper_premise, proper_any_command}
+use Rattle.ft_grammar_laws.proofs.Levels.{parts_eat, parts_sound}
+use Rattle.ft_grammar_laws.proofs.BodyRules.{a_name}
+use Rattle.ft_grammar_laws.proofs.Local.{Looks, Takes, IsLocal, local, nested_local, beyond, left_of}
 
 pub rule_takes : (d : ℕ) {A : Type 0} (r : Rule A) → Proper r → IsTrue (eats r) → Takes (read (level d) r)
 rule_takes d r proper eat ts a rest h =

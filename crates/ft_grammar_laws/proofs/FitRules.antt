@@ -5,9 +5,9 @@ use Rattle.ft_grammar.specs.declared.syntax.Ast.TheVariants as ast
 use Rattle.ft_grammar.specs.Rules.{expression, pattern, type, type_atom, is_word, is_mark, is_name, exactly}
 use Rattle.ft_grammar.specs.Forms.{plain_type, word_pattern, word_expression, one_form, two_form, begins_one, begins_two, begins_atom, begins_pattern_atom, is_no_end}
 use Rattle.ft_grammar.specs.Grammar.{IsPart, list_type, option_type, parenthesized_type, atomic_type, any_type, parenthesized_pattern, atomic_pattern, some_pattern, symbol_pattern, list_pattern, any_pattern, parenthesized, none_of, nil_of, base, brace, braces, atom, call, one_part, two_parts, argument, congruence, perform, application, list_expression, let_in, if_then_else, case, match_with, operation_body, operation_case, value_body, handle_cases, handle_with, abstraction, any_expression, binder, type_body, term_body, equation_type, equation_body, type_conclusion, term_conclusion, any_conclusion, let_command, operation_command, computation_command, extensionality_command, show_command}
-use Rattle.ft_parser.proofs.EveryKind.{within, apart}
-use Rattle.ft_parser.proofs.Follow.{begins, follows, anything, after_type, after_pattern, after_atom, after_application, after_expression, after_equation, is_end_word, after_command}
-use Rattle.ft_parser.proofs.Complete.{Fits, shrink}
+use Rattle.ft_grammar_laws.proofs.EveryKind.{within, apart}
+use Rattle.ft_grammar_laws.proofs.Follow.{begins, follows, anything, after_type, after_pattern, after_atom, after_application, after_expression, after_equation, is_end_word, after_command}
+use Rattle.ft_grammar_laws.proofs.Complete.{Fits, shrink}
 
 pub fits_list_type : (d : ℕ) → Fits begins follows (IsPart d) list_type anything
 unfolding list_type is_word is_mark is_name exactly plain_type word_pattern word_expression one_form two_form begins_one begins_two begins_atom begins_pattern_atom is_no_end

@@ -7,7 +7,7 @@ use Rattle.ft_grammar.specs.declared.syntax.Named.{Named}
 use Rattle.ft_grammar.specs.Rules.{Rule, Part, Tree, AllOf, Is, give, name, number, word, mark, part, starting, sequence, either, either_by_two, unless, more, named, numbered, worded, is_mark, is_name}
 use Rattle.ft_grammar.specs.Reading.{Parser, and_then, read, more_from, start_of, kind_of, read_name, read_number, read_word, read_mark, value_or_refuse, refuse}
 use Rattle.std.proofs.lemmas.List.{length-append}
-use Rattle.ft_parser.proofs.Sound.{eats, PartsEat, eaten}
+use Rattle.ft_grammar_laws.proofs.Sound.{eats, PartsEat, eaten}
 
 -- the tokens that begin a part, and those that may follow one
 module _ (begins follows : Part → Kind → Bool) where

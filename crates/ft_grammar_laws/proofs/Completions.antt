@@ -9,8 +9,8 @@ use Rattle.ft_grammar.specs.declared.token.Token.{Token}
 use Rattle.ft_grammar.specs.declared.fault.SyntaxFault.{SyntaxFault}
 use Rattle.ft_grammar.specs.Rules.{Rule, Part, Tree, AllOf, Is, give, name, number, word, mark, part, starting, sequence, either, either_by_two, unless, more, is_mark, named, numbered, worded}
 use Rattle.ft_grammar.specs.Reading.{Outcome, Parser, and_then, read, more_from, start_of, kind_of, read_name, read_number, read_word, read_mark, value_or_refuse, refuse}
-use Rattle.ft_parser.proofs.Cases.{same_left}
-use Rattle.ft_parser.proofs.Sound.{eaten, PartsEat, IsSound, Proper, sound}
+use Rattle.ft_grammar_laws.proofs.Cases.{same_left}
+use Rattle.ft_grammar_laws.proofs.Sound.{eaten, PartsEat, IsSound, Proper, sound}
 
 abbrev pub at_zero : Kind → Token
 at_zero k = record { kind = k; start = 0; end = 0 }

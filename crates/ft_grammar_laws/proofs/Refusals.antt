@@ -9,14 +9,13 @@ use Rattle.ft_grammar.specs.Reading.{Outcome, read, level, start_of, answer, par
 use Rattle.ft_grammar.specs.Sources.{IsClosed, HasNoSource, IsFirstUnexpected, IsTooNested}
 use Rattle.ft_grammar.specs.Forms.{is_no_end}
 use Rattle.ft_grammar.specs.declared.fault.SyntaxFault.TheVariants.{Unexpected, TooNested, Memory}
-use Rattle.ft_parser.proofs.FaultNames.{Names, NamesNext, names_next, level_names}
-use Rattle.ft_parser.proofs.Continued.{refusal_is_begun, refusal_is_continued}
-use Rattle.ft_parser.proofs.SourceLaws.{NoEnd}
+use Rattle.ft_grammar_laws.proofs.FaultNames.{Names, NamesNext, names_next, level_names}
+use Rattle.ft_grammar_laws.proofs.Continued.{refusal_is_begun, refusal_is_continued}
+use Rattle.ft_grammar_laws.proofs.SourceLaws.{NoEnd, source_is_read_at}
 use Rattle.std.proofs.lemmas.List.{length-append}
-use Rattle.ft_parser.proofs.Local.{StopsAt}
-use Rattle.ft_parser.proofs.Deeper.{Agree, Nested, agree, levels_agree}
-use Rattle.ft_parser.proofs.LookRules.{commands_local}
-use Rattle.ft_parser.proofs.SourceLaws.{source_is_read}
+use Rattle.ft_grammar_laws.proofs.Local.{StopsAt}
+use Rattle.ft_grammar_laws.proofs.Deeper.{Agree, Nested, agree, levels_agree}
+use Rattle.ft_grammar_laws.proofs.LookRules.{commands_local}
 
 clash : {A : Type 0} (e : SyntaxFault × List Token) (p : A × List Token) → ◌≡◌ {A = Outcome A} (Ok p) (Err e) → ⊥
 clash e p h = cc
@@ -75,7 +74,7 @@ no_source_after : (d : ℕ) (fault : SyntaxFault) (ts left : List Token) (t : To
 no_source_after d fault ts left t h xs e cs rest g =
     let stop = subst (λ o. StopsAt (read (level (suc d)) commands) ts o) h (commands_local d ts) in
     let same : stop.0 ≡ xs = cancel stop.0 xs (t ∷ left) (sym stop.1 ∙ e) in
-    let r = source_is_read (suc d) cs (xs ++ t ∷ rest) (subst (λ us. IsSource (suc d) cs us) (regroup xs t rest) g) in
+    let r = source_is_read_at (suc d) cs (xs ++ t ∷ rest) (subst (λ us. IsSource (suc d) cs us) (regroup xs t rest) g) in
     clash (fault, t ∷ rest) (cs, r.0) (sym r.1 ∙ ap (λ ws. read (level (suc d)) commands (ws ++ t ∷ rest)) (sym same) ∙ stop.2 (t ∷ rest) refl)
 
 no_source_at_all : (d n : ℕ) (ts left : List Token) (t : Token) (h : read (level (suc d)) commands ts ≡ Err (Unexpected n, t ∷ left)) (xs : List Token) → ts ≡ xs ++ t ∷ left
@@ -83,7 +82,7 @@ no_source_at_all : (d n : ℕ) (ts left : List Token) (t : Token) (h : read (lev
 no_source_at_all d n ts left t h xs is e cs rest g =
     let stop = subst (λ o. StopsAt (read (level (suc d)) commands) ts o) h (commands_local d ts) in
     let same : stop.0 ≡ xs = cancel stop.0 xs (t ∷ left) (sym stop.1 ∙ is) in
-    let r = source_is_read e cs (xs ++ t ∷ rest) (subst (λ us. IsSource e cs us) (regroup xs t rest) g) in
+    let r = source_is_read_at e cs (xs ++ t ∷ rest) (subst (λ us. IsSource e cs us) (regroup xs t rest) g) in
     by_order r (ap (λ ws. read (level (suc d)) commands (ws ++ t ∷ rest)) (sym same) ∙ stop.2 (t ∷ rest) refl) (ordered e (suc d))
   where
     by_order : ((us : List Token) × (read (level e) commands (xs ++ t ∷ rest) ≡ Ok (cs, us))) → read (level (suc d)) commands (xs ++ t ∷ rest) ≡ Err (Unexpected n, t ∷ rest)
@@ -130,7 +129,7 @@ fault_or : SyntaxFault → Result (List Command) SyntaxFault → SyntaxFault
 fault_or d (Ok a) = d
 fault_or d (Err e) = e
 
-refused : (o : Outcome (List Command)) (fault : SyntaxFault) → answer o ≡ Err fault → (left : List Token) × (o ≡ Err (fault, left))
+pub refused : (o : Outcome (List Command)) (fault : SyntaxFault) → answer o ≡ Err fault → (left : List Token) × (o ≡ Err (fault, left))
 unfolding fault_or
 refused (Ok p) fault h = absurd (no_fault h)
   where

@@ -7,13 +7,13 @@ use Rattle.ft_grammar.specs.Rules.{Part, Tree, Is}
 use Rattle.ft_grammar.specs.Grammar.{rule_of, IsPart, commands}
 use Rattle.ft_grammar.specs.Reading.{read, level}
 use Rattle.ft_grammar.specs.Sources.{CanGoOn}
-use Rattle.ft_parser.proofs.Cases.{same_left}
-use Rattle.ft_parser.proofs.SourceLaws.{NoEnd, no_end, part_no_end}
-use Rattle.ft_parser.proofs.Sound.{IsSound}
-use Rattle.ft_parser.proofs.ProperRules.{proper_part, proper_commands}
-use Rattle.ft_parser.proofs.Levels.{parts_eat, parts_sound}
-use Rattle.ft_parser.proofs.Completions.{at_zero, Sample, CanComplete, Completed, complete, grow}
-use Rattle.ft_parser.proofs.SampleRules.{part_sample, sampled_part, sampled_commands}
+use Rattle.ft_grammar_laws.proofs.Cases.{same_left}
+use Rattle.ft_grammar_laws.proofs.SourceLaws.{NoEnd, no_end, part_no_end}
+use Rattle.ft_grammar_laws.proofs.Sound.{IsSound}
+use Rattle.ft_grammar_laws.proofs.ProperRules.{proper_part, proper_commands}
+use Rattle.ft_grammar_laws.proofs.Levels.{parts_eat, parts_sound}
+use Rattle.ft_grammar_laws.proofs.Completions.{at_zero, Sample, CanComplete, Completed, complete, grow}
+use Rattle.ft_grammar_laws.proofs.SampleRules.{part_sample, sampled_part, sampled_commands}
 
 pub part_grows : (d : ℕ) (p : Part) (a : Tree p) (xs : List Token) → IsPart d p a xs → IsPart (suc d) p a xs
 unfolding IsPart

@@ -5,13 +5,13 @@ use Rattle.ft_grammar.specs.Rules.{Part, expression, pattern, type, type_atom, i
 use Rattle.ft_grammar.specs.Forms.{plain_type, word_pattern, word_expression, one_form, two_form, begins_one, begins_two, begins_atom, begins_pattern_atom, is_no_end}
 use Rattle.ft_grammar.specs.Grammar.{rule_of, IsPart, list_type, option_type, parenthesized_type, atomic_type, any_type, parenthesized_pattern, atomic_pattern, some_pattern, symbol_pattern, list_pattern, any_pattern, parenthesized, none_of, nil_of, base, brace, braces, atom, call, one_part, two_parts, argument, congruence, perform, application, list_expression, let_in, if_then_else, case, match_with, operation_body, operation_case, value_body, handle_cases, handle_with, abstraction, any_expression, binder, type_body, term_body, equation_type, equation_body, any_body, premise, type_conclusion, term_conclusion, any_conclusion, rule_command, let_command, operation_command, computation_command, extensionality_command, show_command, any_command, commands}
 use Rattle.ft_grammar.specs.Reading.{level, too_nested}
-use Rattle.ft_parser.proofs.EveryKind.{within}
-use Rattle.ft_parser.proofs.Follow.{begins, follows}
-use Rattle.ft_parser.proofs.Sound.{eats, PartsEat, IsSound, eaten, sound}
-use Rattle.ft_parser.proofs.ProperRules.{proper_part}
-use Rattle.ft_parser.proofs.Complete.{first, first_is, back, Within, PartsBegin, ReadsBack, Fits}
-use Rattle.ft_parser.proofs.UniformRules.{uniform_part}
-use Rattle.ft_parser.proofs.FitRules.{fits_any_expression, fits_any_pattern, fits_any_type, fits_atomic_type}
+use Rattle.ft_grammar_laws.proofs.EveryKind.{within}
+use Rattle.ft_grammar_laws.proofs.Follow.{begins, follows}
+use Rattle.ft_grammar_laws.proofs.Sound.{eats, PartsEat, IsSound, eaten, sound}
+use Rattle.ft_grammar_laws.proofs.ProperRules.{proper_part}
+use Rattle.ft_grammar_laws.proofs.Complete.{first, first_is, back, Within, PartsBegin, ReadsBack, Fits}
+use Rattle.ft_grammar_laws.proofs.UniformRules.{uniform_part}
+use Rattle.ft_grammar_laws.proofs.FitRules.{fits_any_expression, fits_any_pattern, fits_any_type, fits_atomic_type}
 
 eats_part : (p : Part) → IsTrue (eats (rule_of p))
 unfolding list_type option_type parenthesized_type atomic_type any_type parenthesized_pattern atomic_pattern some_pattern symbol_pattern list_pattern any_pattern parenthesized none_of nil_of base brace braces atom call one_part two_parts argument congruence perform application list_expression let_in if_then_else case match_with operation_body operation_case value_body handle_cases handle_with abstraction any_expression binder type_body term_body equation_type equation_body any_body premise type_conclusion term_conclusion any_conclusion rule_command let_command operation_command computation_command extensionality_command show_command any_command commands is_word is_mark is_name exactly plain_type word_pattern word_expression one_form two_form begins_one begins_two begins_atom begins_pattern_atom is_no_end

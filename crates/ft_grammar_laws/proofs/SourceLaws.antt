@@ -1,4 +1,4 @@
--- The laws of sources.
+-- How sources are read.
 use Rattle.std.proofs.Common.{◌≡◌, ◌∙◌, sym, ap, refl, subst, ℕ, zero, suc, ◌≤◌, Bool, true, false, if◌then◌else◌, IsTrue, List, [], ◌∷◌, ◌++◌, length, Ok, Err, Result, Option, Some, ◌⊎◌, inl, inr, arith}
 use Rattle.ft_common.proofs.Booleans.{false_true}
 use Rattle.ft_common.proofs.Options.{none_some}
@@ -12,17 +12,17 @@ use Rattle.ft_grammar.specs.declared.syntax.Named.{Named}
 use Rattle.ft_grammar.specs.declared.syntax.Command.{Command}
 use Rattle.ft_grammar.specs.Rules.{Rule, Part, Tree, AllOf, Is, give, name, number, word, mark, part, starting, sequence, either, either_by_two, unless, more, named, numbered, worded, is_mark, expression}
 use Rattle.ft_grammar.specs.Forms.{is_no_end}
-use Rattle.ft_grammar.specs.Grammar.{IsPart, IsSource, commands, any_command, rule_command, let_command, operation_command, computation_command, extensionality_command, show_command, rule_of, nesting}
+use Rattle.ft_grammar.specs.Grammar.{IsPart, IsSource, commands, any_command, rule_command, let_command, operation_command, computation_command, extensionality_command, show_command, rule_of}
 use Rattle.ft_grammar.specs.Sources.{IsClosed}
-use Rattle.ft_grammar.specs.Reading.{Outcome, Parser, read, level, and_then, more_from, kind_of, answer, parse}
-use Rattle.ft_parser.proofs.Cases.{bind_ok, ok_value, ok_rest, some_first}
-use Rattle.ft_parser.proofs.Follow.{begins, follows, is_end}
-use Rattle.ft_parser.proofs.Sound.{sound, eaten, eats}
-use Rattle.ft_parser.proofs.Complete.{back}
-use Rattle.ft_parser.proofs.ProperRules.{proper_commands, proper_any_command}
-use Rattle.ft_parser.proofs.UniformRules.{uniform_commands}
-use Rattle.ft_parser.proofs.BodyRules.{fits_commands}
-use Rattle.ft_parser.proofs.Levels.{parts_eat, parts_sound, parts_begin, parts_back}
+use Rattle.ft_grammar.specs.Reading.{Outcome, Parser, read, level, and_then, more_from, kind_of, answer}
+use Rattle.ft_grammar_laws.proofs.Cases.{bind_ok, ok_rest, some_first}
+use Rattle.ft_grammar_laws.proofs.Follow.{begins, follows, is_end}
+use Rattle.ft_grammar_laws.proofs.Sound.{sound, eaten, eats}
+use Rattle.ft_grammar_laws.proofs.Complete.{back}
+use Rattle.ft_grammar_laws.proofs.ProperRules.{proper_commands, proper_any_command}
+use Rattle.ft_grammar_laws.proofs.UniformRules.{uniform_commands}
+use Rattle.ft_grammar_laws.proofs.BodyRules.{fits_commands}
+use Rattle.ft_grammar_laws.proofs.Levels.{parts_eat, parts_sound, parts_begin, parts_back}
 
 -- ---- what is in the grammar is read
 pub commands_back : (d : ℕ) (cs : List Command) (xs rest : List Token) → Is (IsPart d) commands cs xs → is_end (kind_of rest) ≡ true
@@ -35,16 +35,9 @@ end_is_end : (t : Token) → t.kind ≡ kind.End → is_end t.kind ≡ true
 unfolding is_no_end
 end_is_end t e = ap is_end e
 
-pub source_is_read : (d : ℕ) (cs : List Command) (ts : List Token) → IsSource d cs ts → (rest : List Token) × (read (level d) commands ts ≡ Ok (cs, rest))
-source_is_read d cs ts h =
+pub source_is_read_at : (d : ℕ) (cs : List Command) (ts : List Token) → IsSource d cs ts → (rest : List Token) × (read (level d) commands ts ≡ Ok (cs, rest))
+source_is_read_at d cs ts h =
     (h.1 ∷ [], ap (λ us. read (level d) commands us) h.2 ∙ commands_back d cs h.0 (h.1 ∷ []) h.4 (end_is_end h.1 h.3))
-
-pub in_grammar_is_accepted : (cs : List Command) (ts : List Token) → IsSource nesting cs ts → parse ts ≡ Ok cs
-unfolding parse
-in_grammar_is_accepted cs ts h = ap answer (source_is_read nesting cs ts h).1
-
-pub one_tree : (d : ℕ) (cs ds : List Command) (ts : List Token) → IsSource d cs ts → IsSource d ds ts → cs ≡ ds
-one_tree d cs ds ts h g = ok_value (sym (source_is_read d cs ts h).1 ∙ (source_is_read d ds ts g).1)
 
 -- ---- what is read is in the grammar
 -- no token of the list is the end
@@ -172,7 +165,7 @@ value_or : List Command → Result (List Command) SyntaxFault → List Command
 value_or d (Ok a) = a
 value_or d (Err e) = d
 
-answered : (o : Outcome (List Command)) (cs : List Command) → answer o ≡ Ok cs → (rest : List Token) × (o ≡ Ok (cs, rest))
+pub answered : (o : Outcome (List Command)) (cs : List Command) → answer o ≡ Ok cs → (rest : List Token) × (o ≡ Ok (cs, rest))
 unfolding value_or
 answered (Ok p) cs h = (p.1, ap (λ c. Ok (c, p.1)) (ap (value_or []) h))
 answered (Err e) cs h = absurd (clash h)
@@ -189,9 +182,3 @@ read_is_in_grammar d cs ts rest closed h =
     let got = sound (IsPart d) (level d) (parts_eat d) (parts_sound d) commands proper_commands ts cs rest h in
     let c = closed_rest got.0 rest (no_end (IsPart d) (part_no_end d) commands cs got.0 got.2) (read_stops d cs ts rest h) (subst IsClosed got.1 closed) in
     (got.0, c.0, got.1 ∙ ap (λ us. got.0 ++ us) c.1, c.2, got.2)
-
-pub accepted_is_in_grammar : (cs : List Command) (ts : List Token) → IsClosed ts → parse ts ≡ Ok cs → IsSource nesting cs ts
-unfolding parse
-accepted_is_in_grammar cs ts closed h =
-    let o = answered (read (level nesting) commands ts) cs h in
-    read_is_in_grammar nesting cs ts o.0 closed o.1

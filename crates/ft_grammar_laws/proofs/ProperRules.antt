@@ -4,7 +4,7 @@ use Rattle.ft_grammar.specs.declared.syntax.Ast.{Ast}
 use Rattle.ft_grammar.specs.declared.syntax.Ast.TheVariants as ast
 use Rattle.ft_grammar.specs.Rules.{Part, expression, pattern, type, type_atom}
 use Rattle.ft_grammar.specs.Grammar.{rule_of, list_type, option_type, parenthesized_type, atomic_type, any_type, parenthesized_pattern, atomic_pattern, some_pattern, symbol_pattern, list_pattern, any_pattern, parenthesized, none_of, nil_of, base, brace, braces, atom, call, one_part, two_parts, argument, congruence, perform, application, list_expression, let_in, if_then_else, case, match_with, operation_body, operation_case, value_body, handle_cases, handle_with, abstraction, any_expression, binder, type_body, term_body, equation_type, equation_body, any_body, premise, type_conclusion, term_conclusion, any_conclusion, rule_command, let_command, operation_command, computation_command, extensionality_command, show_command, any_command, commands}
-use Rattle.ft_parser.proofs.Sound.{Proper}
+use Rattle.ft_grammar_laws.proofs.Sound.{Proper}
 
 pub proper_list_type : Proper list_type
 unfolding list_type

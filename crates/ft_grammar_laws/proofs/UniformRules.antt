@@ -5,9 +5,9 @@ use Rattle.ft_grammar.specs.declared.syntax.Ast.TheVariants as ast
 use Rattle.ft_grammar.specs.Rules.{Part, expression, pattern, type, type_atom, is_word, is_mark, is_name, exactly}
 use Rattle.ft_grammar.specs.Forms.{plain_type, word_pattern, word_expression, one_form, two_form, begins_one, begins_two, begins_atom, begins_pattern_atom, is_no_end}
 use Rattle.ft_grammar.specs.Grammar.{rule_of, list_type, option_type, parenthesized_type, atomic_type, any_type, parenthesized_pattern, atomic_pattern, some_pattern, symbol_pattern, list_pattern, any_pattern, parenthesized, none_of, nil_of, base, brace, braces, atom, call, one_part, two_parts, argument, congruence, perform, application, list_expression, let_in, if_then_else, case, match_with, operation_body, operation_case, value_body, handle_cases, handle_with, abstraction, any_expression, binder, type_body, term_body, equation_type, equation_body, any_body, premise, type_conclusion, term_conclusion, any_conclusion, rule_command, let_command, operation_command, computation_command, extensionality_command, show_command, any_command, commands}
-use Rattle.ft_parser.proofs.EveryKind.{within}
-use Rattle.ft_parser.proofs.Follow.{begins, follows}
-use Rattle.ft_parser.proofs.Complete.{IsUniform}
+use Rattle.ft_grammar_laws.proofs.EveryKind.{within}
+use Rattle.ft_grammar_laws.proofs.Follow.{begins, follows}
+use Rattle.ft_grammar_laws.proofs.Complete.{IsUniform}
 
 pub uniform_list_type : IsUniform begins follows list_type
 unfolding list_type is_word is_mark is_name exactly plain_type word_pattern word_expression one_form two_form begins_one begins_two begins_atom begins_pattern_atom is_no_end

@@ -7,7 +7,7 @@ use Rattle.ft_grammar.specs.declared.token.Mark.{Mark}
 use Rattle.ft_grammar.specs.declared.fault.SyntaxFault.TheVariants.{Unexpected}
 use Rattle.ft_grammar.specs.Rules.{Rule, Part, Tree, AllOf, Is, give, name, number, word, mark, part, starting, sequence, either, either_by_two, unless, more, named, numbered, worded, is_mark}
 use Rattle.ft_grammar.specs.Reading.{Outcome, Parser, and_then, read, more_from, start_of, kind_of, read_name, read_number, read_word, read_mark, value_or_refuse, refuse}
-use Rattle.ft_parser.proofs.Cases.{Front, bind_ok, chosen, taken, ok_value, ok_rest}
+use Rattle.ft_grammar_laws.proofs.Cases.{Front, bind_ok, chosen, taken, ok_value, ok_rest}
 
 -- each list of the rule has a token
 abbrev pub eats : {A : Type 0} → Rule A → Bool

@@ -1,3 +1,7 @@
 pub mod Reader
 pub mod Trees
-pub mod Try
+pub mod Running
+pub mod Applications
+pub mod Programs
+pub mod Operations
+pub mod Equality

@@ -1,31 +1,38 @@
 -- How the worked rows are written.
-use Rattle.std.specs.Prelude.{ℕ, ◌≡◌, List, [], ◌∷◌, ◌++◌, map, Result, Ok, Err}
-use Rattle.std.specs.Str.{chars}
-use Rattle.ft_grammar.specs.declared.fault.SyntaxFault.{SyntaxFault}
-use Rattle.ft_grammar.specs.declared.fault.SyntaxFault.TheVariants.{Unexpected, TooNested, Memory}
-use Rattle.ft_grammar.specs.declared.syntax.Command.{Command as Tree}
-use Rattle.ft_grammar.specs.Reading.{parse}
-use Rattle.ft_meaning.specs.Trees.{command_of}
+use Rattle.std.specs.Prelude.{ℕ, ◌≡◌, List, [], ◌∷◌, ◌++◌}
 use Rattle.ft_meaning.specs.Texts.{Text}
-use Rattle.ft_meaning.specs.Sources.{Content, unexpected, too_nested, commands, source_tokens}
-use Rattle.ft_meaning.specs.Transcript.{Transcript}
-
--- what reading the tokens of a source gives
-abbrev pub content_read : Result (List Tree) SyntaxFault → Content
-content_read (Ok trees) = commands (map command_of trees)
-content_read (Err (Unexpected at)) = unexpected at
-content_read (Err (TooNested at)) = too_nested at
-content_read (Err Memory) = commands []
-
--- the content of a text
-abbrev pub content_of : Text → Content
-content_of source = content_read (parse (source_tokens source))
+use Rattle.ft_meaning.specs.Stages.{Stage, all_built}
+use Rattle.ft_meaning.specs.Transcript.{Transcript, IsTranscriptAt}
 
 -- lines, each with its line feed
 abbrev pub lines : List Text → Text
 lines [] = []
 lines (l ∷ ls) = l ++ 10 ∷ lines ls
 
--- the transcript has this text and this status
-abbrev pub Writes : Transcript → Text → ℕ → Type 0
-Writes t text status = (t.text ≡ text) × (t.status ≡ status)
+-- A row: the lines of a source, a budget of units, the lines that are written, and the status.
+pub record Row : Type 0 where
+  pub source : List Text
+  pub budget : ℕ
+  pub written : List Text
+  pub status : ℕ
+
+-- the budget of rows that say nothing of it
+abbrev pub plenty : ℕ
+plenty = 1000000
+
+-- at the stage, what the row says is a transcript of its source
+abbrev pub HoldsAt : Stage → Row → Type 0
+HoldsAt B r = (t : Transcript) × IsTranscriptAt B (lines r.source) r.budget t × (t.text ≡ lines r.written) × (t.status ≡ r.status)
+
+-- the same for the whole language
+abbrev pub Holds : Row → Type 0
+Holds = HoldsAt all_built
+
+-- each row holds
+abbrev pub AllHold : List Row → Type 0
+AllHold [] = Unit {0}
+AllHold (r ∷ rs) = Holds r × AllHold rs
+
+-- the row holds, and its transcript uses so many units
+abbrev pub Uses : Row → ℕ → Type 0
+Uses r units = (t : Transcript) × IsTranscriptAt all_built (lines r.source) r.budget t × (t.text ≡ lines r.written) × (t.status ≡ r.status) × (t.units ≡ units)

@@ -5,3 +5,7 @@ pub mod Applications
 pub mod Programs
 pub mod Operations
 pub mod Equality
+pub mod Deep
+pub mod Unbuilt
+pub mod Counted
+pub mod Syntax

@@ -107,8 +107,8 @@ atom_of_pattern pattern = at (λ a.
     when is_name (name >>= λ n. give (name_pattern a n.name))
     (when (is_mark m.Underscore) (mark m.Underscore >> give (wildcard a))
     (when (is_mark m.LeftParen) (mark m.LeftParen >>
-      when (is_mark m.RightParen) (mark m.RightParen >> give (unit_pattern a)) (pattern >>= λ p.
-      when (is_mark m.Comma) (mark m.Comma >> pattern >>= λ q. mark m.RightParen >> give (pair_pattern a p q)) (mark m.RightParen >> give p)))
+    when (is_mark m.RightParen) (mark m.RightParen >> give (unit_pattern a)) (pattern >>= λ p.
+    when (is_mark m.Comma) (mark m.Comma >> pattern >>= λ q. mark m.RightParen >> give (pair_pattern a p q)) (mark m.RightParen >> give p)))
     (word (word_pattern a)))))
 
 abbrev pattern : ℕ → Reader Pattern
@@ -117,7 +117,7 @@ pattern (suc d) = λ ts. (at (λ a.
     when (is_word w.SomeWord) (the w.SomeWord >> atom_of_pattern (pattern d) >>= λ p. give (some_pattern a p))
     (when (is_mark m.At) (mark m.At >> name >>= λ n. more [] begins_pattern_atom (atom_of_pattern (pattern d)) >>= λ ps. give (symbol_pattern a n (patterns ps)))
     (atom_of_pattern (pattern d) >>= λ p.
-      when (is_mark m.DoubleColon) (mark m.DoubleColon >> pattern d >>= λ q. give (cons_pattern a p q)) (give p))))) ts
+    when (is_mark m.DoubleColon) (mark m.DoubleColon >> pattern d >>= λ q. give (cons_pattern a p q)) (give p))))) ts
 
 -- Forms.
 
@@ -131,8 +131,8 @@ module _ (form : Reader Form) (pattern : Reader Pattern) (type_atom : Reader Val
   base = at (λ a.
       when is_name (name >>= λ n. give (call a n (forms [])))
       (when (is_mark m.LeftParen) (mark m.LeftParen >>
-        when (is_mark m.RightParen) (mark m.RightParen >> give (unit_of a)) (form >>= λ e.
-        when (is_mark m.Comma) (mark m.Comma >> form >>= λ f. mark m.RightParen >> give (pair_of a e f)) (mark m.RightParen >> give e)))
+      when (is_mark m.RightParen) (mark m.RightParen >> give (unit_of a)) (form >>= λ e.
+      when (is_mark m.Comma) (mark m.Comma >> form >>= λ f. mark m.RightParen >> give (pair_of a e f)) (mark m.RightParen >> give e)))
       (when (is_word w.NoneWord) (the w.NoneWord >> type_atom >>= λ A. give (none_of a A))
       (when (is_word w.Nil) (the w.Nil >> type_atom >>= λ A. give (nil_of a A))
       (word (word_form a))))))
@@ -149,7 +149,7 @@ module _ (form : Reader Form) (pattern : Reader Pattern) (type_atom : Reader Val
   abbrev application : Reader Form
   application = at (λ a.
       when is_name (name >>= λ n.
-        when (is_mark m.LeftBrace) (braces a (call a n (forms []))) (more [] begins_atom atom >>= λ es. give (call a n (forms es))))
+      when (is_mark m.LeftBrace) (braces a (call a n (forms []))) (more [] begins_atom atom >>= λ es. give (call a n (forms es))))
       (when begins_one (word one_form >>= λ x. atom >>= λ e. give (one a x e))
       (when begins_two (word two_form >>= λ x. atom >>= λ e. atom >>= λ f. give (two a x e f))
       (when (is_word w.Argument) (the w.Argument >> atom >>= λ e. (λ ts. value (numbered (kind_of ts)) ts) >>= λ i. give (argument a e i))

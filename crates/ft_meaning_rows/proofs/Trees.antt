@@ -1,6 +1,6 @@
 -- The parser's trees of the trees of the meaning. Those have the place of each case of a match or a handler too, which a function
 -- gives from the place after the bar.
-use Rattle.std.proofs.Common.{◌≡◌, ◌∙◌, sym, ap, refl, ℕ, true, false, List, [], ◌∷◌, map, Option, Some, None}
+use Rattle.std.proofs.Common.{◌≡◌, refl, ℕ, true, false, List, [], ◌∷◌, map, Some, None}
 use Rattle.ft_grammar.specs.Forms.{one_tree, two_tree}
 use Rattle.ft_grammar.specs.declared.form.OneForm.{OneForm}
 use Rattle.ft_grammar.specs.declared.form.OneForm.TheVariants as single
@@ -24,8 +24,8 @@ use Rattle.ft_grammar.specs.declared.syntax.Conclusion.{Conclusion}
 use Rattle.ft_grammar.specs.declared.syntax.Conclusion.TheVariants as conclusion
 use Rattle.ft_grammar.specs.declared.syntax.Command.{Command as AnyCommand}
 use Rattle.ft_grammar.specs.declared.syntax.Command.TheVariants as command
-use Rattle.ft_meaning.specs.Trees.{ValueType, judgement, boundary, unit, bool, pair, list, option, Pattern, cons_pattern, some_pattern, symbol_pattern, name_pattern, wildcard, truth_pattern, unit_pattern, none_pattern, nil_pattern, pair_pattern, Patterns, no_patterns, and_pattern, patterns, Form, let_in, if_then, match_with, handle_with, abstraction, cons_of, one, two, argument, congruence, perform, call, substitution, truth_of, unit_of, pair_of, none_of, nil_of, Forms, no_forms, and_form, forms, Cases, no_cases, and_case, cases, ValueCase, no_value_case, value_case, Handlers, no_handlers, and_handler, handlers, Binder, Body, type_body, term_body, types_body, terms_body, Premise, Command, rule_command, let_command, operation_command, computation_command, extensionality_command, show_command, value_type, pattern, form, binder, premise, equation_body, command_of, value_case_of}
-use Rattle.ft_meaning.proofs.Written.{case, handler, value, case_parts, handler_parts, value_parts, form_LetIn, form_If, form_Match, form_Handle_None, form_Handle_Some, form_Abstract, form_Cons, form_Refl, form_Sym, form_Left, form_Right, form_Typeof, form_Domain, form_Natural, form_Normal, form_Boundaryof, form_SomeWord, form_Trans, form_Convert, form_Equal, form_Widen, form_Rewrite, form_Fill, form_Argument, form_Congruence, form_Perform, form_Call, form_Subst, form_TrueWord, form_FalseWord, form_Unit, form_Pair, form_NoneWord, form_Nil, pattern_Cons, pattern_SomeWord, pattern_Symbol, pattern_Name, pattern_Wildcard, pattern_TrueWord, pattern_FalseWord, pattern_Unit, pattern_NoneWord, pattern_Nil, pattern_Pair, type_Judgement, type_Boundary, type_Unit, type_Bool, type_Pair, type_List, type_Opt}
+use Rattle.ft_meaning.specs.Trees.{ValueType, judgement, boundary, unit, bool, pair, list, option, Pattern, cons_pattern, some_pattern, symbol_pattern, name_pattern, wildcard, truth_pattern, unit_pattern, none_pattern, nil_pattern, pair_pattern, Patterns, no_patterns, and_pattern, patterns, Form, let_in, if_then, match_with, handle_with, abstraction, cons_of, one, two, argument, congruence, perform, call, substitution, truth_of, unit_of, pair_of, none_of, nil_of, Forms, no_forms, and_form, forms, Cases, no_cases, and_case, cases, no_value_case, value_case, Handlers, no_handlers, and_handler, handlers, Binder, Body, type_body, term_body, types_body, terms_body, Premise, Command, rule_command, let_command, operation_command, computation_command, extensionality_command, show_command, value_type, pattern, form, binder, premise, command_of}
+use Rattle.ft_meaning.proofs.Written.{case, handler, case_parts, handler_parts, value_parts, form_LetIn, form_If, form_Match, form_Handle_None, form_Handle_Some, form_Abstract, form_Cons, form_Refl, form_Sym, form_Left, form_Right, form_Typeof, form_Domain, form_Natural, form_Normal, form_Boundaryof, form_SomeWord, form_Trans, form_Convert, form_Equal, form_Widen, form_Rewrite, form_Fill, form_Argument, form_Congruence, form_Perform, form_Call, form_Subst, form_TrueWord, form_FalseWord, form_Unit, form_Pair, form_NoneWord, form_Nil, pattern_Cons, pattern_SomeWord, pattern_Symbol, pattern_Name, pattern_Wildcard, pattern_TrueWord, pattern_FalseWord, pattern_Unit, pattern_NoneWord, pattern_Nil, pattern_Pair, type_Judgement, type_Boundary, type_Unit, type_Bool, type_Pair, type_List, type_Opt}
 
 -- Types and patterns.
 

@@ -9,7 +9,7 @@ two = record {
   source = natural_numbers ++ codes "show S (S O)" ∷ [];
   budget = plenty;
   written = natural_numbers_accepted ++ codes "|- S(S(O)) : Nat" ∷ [];
-  status = 0
+  status = 0;
 }
 
 -- no command
@@ -18,7 +18,7 @@ empty = record {
   source = [];
   budget = plenty;
   written = [];
-  status = 0
+  status = 0;
 }
 
 -- a rule of the name of an earlier one
@@ -27,7 +27,7 @@ repeated_rule = record {
   source = codes "rule Nat type" ∷ codes "rule Nat type" ∷ [];
   budget = plenty;
   written = codes "accepted Nat" ∷ codes "error 2:6 rule Nat declared twice" ∷ [];
-  status = 9
+  status = 9;
 }
 
 -- a budget that suffices
@@ -36,7 +36,7 @@ six_units = record {
   source = natural_numbers ++ codes "show S (S O)" ∷ [];
   budget = 6;
   written = natural_numbers_accepted ++ codes "|- S(S(O)) : Nat" ∷ [];
-  status = 0
+  status = 0;
 }
 
 -- a unit less
@@ -45,7 +45,7 @@ five_units = record {
   source = natural_numbers ++ codes "show S (S O)" ∷ [];
   budget = 5;
   written = natural_numbers_accepted ++ codes "error 4:11 budget spent" ∷ [];
-  status = 13
+  status = 13;
 }
 
 -- a budget that is spent in a conclusion
@@ -54,7 +54,7 @@ two_units = record {
   source = natural_numbers ++ codes "show S (S O)" ∷ [];
   budget = 2;
   written = codes "accepted Nat" ∷ codes "accepted O" ∷ codes "error 3:20 budget spent" ∷ [];
-  status = 13
+  status = 13;
 }
 
 -- and in a premise
@@ -63,7 +63,7 @@ one_unit = record {
   source = natural_numbers ++ codes "show S (S O)" ∷ [];
   budget = 1;
   written = codes "accepted Nat" ∷ codes "accepted O" ∷ codes "error 3:13 budget spent" ∷ [];
-  status = 13
+  status = 13;
 }
 
 -- a type where a term belongs is to be coerced
@@ -72,7 +72,7 @@ type_for_term = record {
   source = natural_numbers ++ codes "show S Nat" ∷ [];
   budget = plenty;
   written = natural_numbers_accepted ++ codes "error 4:8 unhandled coerce" ∷ [];
-  status = 10
+  status = 10;
 }
 
 -- a term as a type
@@ -81,7 +81,7 @@ term_for_type = record {
   source = codes "rule Nat type" ∷ codes "rule O : Nat" ∷ codes "rule P : O" ∷ [];
   budget = plenty;
   written = codes "accepted Nat" ∷ codes "accepted O" ∷ codes "error 3:8 refused WrongForm" ∷ [];
-  status = 11
+  status = 11;
 }
 
 -- a rule without its argument
@@ -90,7 +90,7 @@ too_few = record {
   source = natural_numbers ++ codes "show S" ∷ [];
   budget = plenty;
   written = natural_numbers_accepted ++ codes "error 4:6 S takes 1, given 0" ∷ [];
-  status = 8
+  status = 8;
 }
 
 -- a rule with an argument too many
@@ -99,7 +99,7 @@ too_many = record {
   source = codes "rule Nat type" ∷ codes "show Nat Nat" ∷ [];
   budget = plenty;
   written = codes "accepted Nat" ∷ codes "error 2:6 Nat takes 0, given 1" ∷ [];
-  status = 8
+  status = 8;
 }
 
 -- a name without a meaning
@@ -108,7 +108,7 @@ unbound = record {
   source = codes "show x" ∷ [];
   budget = plenty;
   written = codes "error 1:6 unbound x" ∷ [];
-  status = 8
+  status = 8;
 }
 
 -- two premises of one name
@@ -117,7 +117,7 @@ premise_twice = record {
   source = codes "rule C (A type) (A type) type" ∷ [];
   budget = plenty;
   written = codes "error 1:18 A declared twice" ∷ [];
-  status = 8
+  status = 8;
 }
 
 abbrev pub applications : List Row

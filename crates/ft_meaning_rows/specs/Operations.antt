@@ -9,7 +9,7 @@ leaked = record {
   source = codes "rule A type" ∷ codes "operation leak judgement : judgement" ∷ codes "let y = handle {x : A} perform leak x with | leak z -> z end" ∷ codes "show y" ∷ codes "rule C (a : typeof y) type" ∷ [];
   budget = plenty;
   written = codes "accepted A" ∷ codes "x#0 : A |- x#0 : A" ∷ codes "error 5:8 premise 1 keeps x#0" ∷ [];
-  status = 9
+  status = 9;
 }
 
 -- a variable on which another rests is not bound
@@ -18,7 +18,7 @@ dependent = record {
   source = codes "rule Nat type" ∷ codes "rule Vec (n : Nat) type" ∷ codes "operation leak judgement : judgement" ∷ codes "show {x : Nat} handle {y : Vec x} perform leak y with | leak z -> z end" ∷ [];
   budget = plenty;
   written = codes "accepted Nat" ∷ codes "accepted Vec" ∷ codes "error 4:6 refused DependentVariable: y#0" ∷ [];
-  status = 11
+  status = 11;
 }
 
 -- a set without an occurrence
@@ -27,7 +27,7 @@ set_kept = record {
   source = codes "rule Nat type" ∷ codes "rule Bool type" ∷ codes "rule Empty type" ∷ codes "rule O : Nat" ∷ codes "rule absurd (a : Empty) : Nat == Bool" ∷ codes "operation leak judgement : judgement" ∷ codes "show handle {a : Empty} perform leak (convert O (absurd a)) with | leak z -> z end" ∷ [];
   budget = plenty;
   written = codes "accepted Nat" ∷ codes "accepted Bool" ∷ codes "accepted Empty" ∷ codes "accepted O" ∷ codes "accepted absurd" ∷ codes "a#0 : Empty |- O : Bool" ∷ [];
-  status = 0
+  status = 0;
 }
 
 -- a choice, with the value of its body
@@ -36,7 +36,7 @@ both_picked = record {
   source = natural_numbers ++ codes "operation pick unit : bool" ∷ codes "show handle (if perform pick () then O else S O) with | val x -> x :: nil judgement | pick u -> O :: S O :: nil judgement end" ∷ [];
   budget = plenty;
   written = natural_numbers_accepted ++ codes "|- O : Nat" ∷ codes "|- S(O) : Nat" ∷ [];
-  status = 0
+  status = 0;
 }
 
 -- an operation that is declared again
@@ -45,7 +45,7 @@ declared_again = record {
   source = codes "operation coerce unit : unit" ∷ [];
   budget = plenty;
   written = codes "error 1:11 coerce declared twice" ∷ [];
-  status = 8
+  status = 8;
 }
 
 -- an operation says nothing
@@ -54,7 +54,7 @@ quiet = record {
   source = codes "rule Nat type" ∷ codes "operation p unit : bool" ∷ [];
   budget = plenty;
   written = codes "accepted Nat" ∷ [];
-  status = 0
+  status = 0;
 }
 
 abbrev pub operations : List Row

@@ -9,7 +9,7 @@ beta = record {
   source = natural_numbers ++ functions ++ codes "show beta Nat ({x : Nat} Nat) ({x : Nat} S x) O" ∷ [];
   budget = plenty;
   written = natural_numbers_accepted ++ functions_accepted ++ codes "|- app(Nat, {@0} Nat, lam(Nat, {@0} Nat, {@0} S(@0)), O) == S(O) : Nat" ∷ [];
-  status = 0
+  status = 0;
 }
 
 -- a judgement under a domain
@@ -18,7 +18,7 @@ abstracted = record {
   source = natural_numbers ++ codes "show {x : Nat} S x" ∷ [];
   budget = plenty;
   written = natural_numbers_accepted ++ codes "|- {@0 : Nat} S(@0) : Nat" ∷ [];
-  status = 0
+  status = 0;
 }
 
 -- sixteen applications by doubling
@@ -27,7 +27,7 @@ doubled = record {
   source = natural_numbers ++ codes "let f1 = {x : Nat} S x" ∷ codes "let f2 = {x : Nat} f1{f1{x}}" ∷ codes "let f4 = {x : Nat} f2{f2{x}}" ∷ codes "let f8 = {x : Nat} f4{f4{x}}" ∷ codes "let f16 = {x : Nat} f8{f8{x}}" ∷ codes "show f16{O}" ∷ [];
   budget = plenty;
   written = natural_numbers_accepted ++ codes "|- S(S(S(S(S(S(S(S(S(S(S(S(S(S(S(S(O)))))))))))))))) : Nat" ∷ [];
-  status = 0
+  status = 0;
 }
 
 -- a value takes none
@@ -36,7 +36,7 @@ value_with_arguments = record {
   source = natural_numbers ++ codes "let x = O" ∷ codes "show x O" ∷ [];
   budget = plenty;
   written = natural_numbers_accepted ++ codes "error 5:6 x takes 0, given 1" ∷ [];
-  status = 8
+  status = 8;
 }
 
 -- no case matches
@@ -45,7 +45,7 @@ no_case = record {
   source = codes "rule Nat type" ∷ codes "show match none judgement with | some e -> e end" ∷ [];
   budget = plenty;
   written = codes "accepted Nat" ∷ codes "error 2:6 no match" ∷ [];
-  status = 12
+  status = 12;
 }
 
 -- a truth value is not shown
@@ -54,7 +54,7 @@ truth_shown = record {
   source = codes "show true" ∷ [];
   budget = plenty;
   written = codes "error 1:6 type bool, wanted judgement" ∷ [];
-  status = 8
+  status = 8;
 }
 
 -- a name twice in a pattern
@@ -63,7 +63,7 @@ twice_in_pattern = record {
   source = codes "show match ((), ()) with | (a, a) -> a end" ∷ [];
   budget = plenty;
   written = codes "error 1:32 a declared twice" ∷ [];
-  status = 8
+  status = 8;
 }
 
 -- a pair against a truth value
@@ -72,7 +72,7 @@ wanted_pair = record {
   source = codes "show match true with | (a, b) -> a end" ∷ [];
   budget = plenty;
   written = codes "error 1:24 type bool, wanted pair" ∷ [];
-  status = 8
+  status = 8;
 }
 
 -- the text of a type
@@ -81,7 +81,7 @@ inner_pair = record {
   source = codes "show ((), (true, ()))" ∷ [];
   budget = plenty;
   written = codes "error 1:6 type unit * (bool * unit), wanted judgement" ∷ [];
-  status = 8
+  status = 8;
 }
 
 -- an application is matched, and its argument taken
@@ -90,7 +90,7 @@ matched = record {
   source = natural_numbers ++ codes "show match S (S O) with | @O -> O | @S n -> n end" ∷ [];
   budget = plenty;
   written = natural_numbers_accepted ++ codes "|- S(O) : Nat" ∷ [];
-  status = 0
+  status = 0;
 }
 
 -- equal arguments
@@ -99,7 +99,7 @@ congruent = record {
   source = natural_numbers ++ codes "show congruence S (O :: nil judgement) (refl O :: nil judgement)" ∷ [];
   budget = plenty;
   written = natural_numbers_accepted ++ codes "|- S(O) == S(O) : Nat" ∷ [];
-  status = 0
+  status = 0;
 }
 
 -- a list and an option are shown
@@ -108,7 +108,7 @@ members = record {
   source = natural_numbers ++ codes "show O :: Nat :: nil judgement" ∷ codes "show some (natural O)" ∷ codes "show none judgement" ∷ [];
   budget = plenty;
   written = natural_numbers_accepted ++ codes "|- O : Nat" ∷ codes "|- Nat type" ∷ codes "|- Nat == Nat" ∷ codes "none" ∷ [];
-  status = 0
+  status = 0;
 }
 
 abbrev pub programs : List Row

@@ -20,9 +20,13 @@ pub record Row : Type 0 where
 abbrev pub plenty : ℕ
 plenty = 1000000
 
--- at the stage, what the row says is a transcript of its source
+-- at the stage the source has a transcript within the budget, of this text and this status
+abbrev pub Writes : Stage → Text → ℕ → Text → ℕ → Type 0
+Writes B source budget text status = (t : Transcript) × IsTranscriptAt B source budget t × (t.text ≡ text) × (t.status ≡ status)
+
+-- the source of the row has a transcript of its lines and its status
 abbrev pub HoldsAt : Stage → Row → Type 0
-HoldsAt B r = (t : Transcript) × IsTranscriptAt B (lines r.source) r.budget t × (t.text ≡ lines r.written) × (t.status ≡ r.status)
+HoldsAt B r = Writes B (lines r.source) r.budget (lines r.written) r.status
 
 -- the same for the whole language
 abbrev pub Holds : Row → Type 0
@@ -33,6 +37,7 @@ abbrev pub AllHold : List Row → Type 0
 AllHold [] = Unit {0}
 AllHold (r ∷ rs) = Holds r × AllHold rs
 
--- the row holds, and its transcript uses so many units
-abbrev pub Uses : Row → ℕ → Type 0
-Uses r units = (t : Transcript) × IsTranscriptAt all_built (lines r.source) r.budget t × (t.text ≡ lines r.written) × (t.status ≡ r.status) × (t.units ≡ units)
+-- the row holds, by a transcript that uses so many units
+abbrev pub HoldsWith : Row → ℕ → Type 0
+HoldsWith r units =
+    (t : Transcript) × IsTranscriptAt all_built (lines r.source) r.budget t × (t.text ≡ lines r.written) × (t.status ≡ r.status) × (t.units ≡ units)

@@ -3,6 +3,7 @@ pub mod Trees
 pub mod Running
 pub mod Applications
 pub mod Programs
+pub mod Words
 pub mod Operations
 pub mod Equality
 pub mod Deep

@@ -24,9 +24,15 @@ empty = record {
 -- a rule of the name of an earlier one
 abbrev pub repeated_rule : Row
 repeated_rule = record {
-  source = codes "rule Nat type" ∷ codes "rule Nat type" ∷ [];
+  source =
+      codes "rule Nat type" ∷
+      codes "rule Nat type" ∷
+      [];
   budget = plenty;
-  written = codes "accepted Nat" ∷ codes "error 2:6 rule Nat declared twice" ∷ [];
+  written =
+      codes "accepted Nat" ∷
+      codes "error 2:6 rule Nat declared twice" ∷
+      [];
   status = 9;
 }
 
@@ -53,7 +59,11 @@ abbrev pub two_units : Row
 two_units = record {
   source = natural_numbers ++ codes "show S (S O)" ∷ [];
   budget = 2;
-  written = codes "accepted Nat" ∷ codes "accepted O" ∷ codes "error 3:20 budget spent" ∷ [];
+  written =
+      codes "accepted Nat" ∷
+      codes "accepted O" ∷
+      codes "error 3:20 budget spent" ∷
+      [];
   status = 13;
 }
 
@@ -62,7 +72,11 @@ abbrev pub one_unit : Row
 one_unit = record {
   source = natural_numbers ++ codes "show S (S O)" ∷ [];
   budget = 1;
-  written = codes "accepted Nat" ∷ codes "accepted O" ∷ codes "error 3:13 budget spent" ∷ [];
+  written =
+      codes "accepted Nat" ∷
+      codes "accepted O" ∷
+      codes "error 3:13 budget spent" ∷
+      [];
   status = 13;
 }
 
@@ -78,9 +92,17 @@ type_for_term = record {
 -- a term as a type
 abbrev pub term_for_type : Row
 term_for_type = record {
-  source = codes "rule Nat type" ∷ codes "rule O : Nat" ∷ codes "rule P : O" ∷ [];
+  source =
+      codes "rule Nat type" ∷
+      codes "rule O : Nat" ∷
+      codes "rule P : O" ∷
+      [];
   budget = plenty;
-  written = codes "accepted Nat" ∷ codes "accepted O" ∷ codes "error 3:8 refused WrongForm" ∷ [];
+  written =
+      codes "accepted Nat" ∷
+      codes "accepted O" ∷
+      codes "error 3:8 refused WrongForm" ∷
+      [];
   status = 11;
 }
 
@@ -96,9 +118,15 @@ too_few = record {
 -- a rule with an argument too many
 abbrev pub too_many : Row
 too_many = record {
-  source = codes "rule Nat type" ∷ codes "show Nat Nat" ∷ [];
+  source =
+      codes "rule Nat type" ∷
+      codes "show Nat Nat" ∷
+      [];
   budget = plenty;
-  written = codes "accepted Nat" ∷ codes "error 2:6 Nat takes 0, given 1" ∷ [];
+  written =
+      codes "accepted Nat" ∷
+      codes "error 2:6 Nat takes 0, given 1" ∷
+      [];
   status = 8;
 }
 

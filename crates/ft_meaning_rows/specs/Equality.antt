@@ -42,7 +42,12 @@ wrong_conversion = record {
 -- 1 + 1 == 2 by computation
 abbrev pub one_and_one : Row
 one_and_one = record {
-  source = addition ++ codes "computation plusO" ∷ codes "computation plusS" ∷ codes "show equal (plus (S O) (S O)) (S (S O))" ∷ [];
+  source =
+      addition ++
+      codes "computation plusO" ∷
+      codes "computation plusS" ∷
+      codes "show equal (plus (S O) (S O)) (S (S O))" ∷
+      [];
   budget = plenty;
   written = addition_accepted ++ codes "|- plus(S(O), S(O)) == S(S(O)) : Nat" ∷ [];
   status = 0;
@@ -51,7 +56,11 @@ one_and_one = record {
 -- not without the second rule
 abbrev pub without_a_rule : Row
 without_a_rule = record {
-  source = addition ++ codes "computation plusO" ∷ codes "show equal (plus (S O) (S O)) (S (S O))" ∷ [];
+  source =
+      addition ++
+      codes "computation plusO" ∷
+      codes "show equal (plus (S O) (S O)) (S (S O))" ∷
+      [];
   budget = plenty;
   written = addition_accepted ++ codes "none" ∷ [];
   status = 0;
@@ -60,7 +69,12 @@ without_a_rule = record {
 -- the sides are those given
 abbrev pub turned : Row
 turned = record {
-  source = addition ++ codes "computation plusO" ∷ codes "computation plusS" ∷ codes "show equal (S (S O)) (plus (S O) (S O))" ∷ [];
+  source =
+      addition ++
+      codes "computation plusO" ∷
+      codes "computation plusS" ∷
+      codes "show equal (S (S O)) (plus (S O) (S O))" ∷
+      [];
   budget = plenty;
   written = addition_accepted ++ codes "|- S(S(O)) == plus(S(O), S(O)) : Nat" ∷ [];
   status = 0;
@@ -69,27 +83,65 @@ turned = record {
 -- an extensionality rule
 abbrev pub eta : Row
 eta = record {
-  source = codes "rule Unit type" ∷ codes "rule eta (x : Unit) (y : Unit) : x == y : Unit" ∷ codes "extensionality eta" ∷ codes "show {a : Unit} {b : Unit} match equal a b with | some e -> e end" ∷ [];
+  source =
+      codes "rule Unit type" ∷
+      codes "rule eta (x : Unit) (y : Unit) : x == y : Unit" ∷
+      codes "extensionality eta" ∷
+      codes "show {a : Unit} {b : Unit} match equal a b with | some e -> e end" ∷
+      [];
   budget = plenty;
-  written = codes "accepted Unit" ∷ codes "accepted eta" ∷ codes "|- {@0 : Unit} {@1 : Unit} @0 == @1 : Unit" ∷ [];
+  written =
+      codes "accepted Unit" ∷
+      codes "accepted eta" ∷
+      codes "|- {@0 : Unit} {@1 : Unit} @0 == @1 : Unit" ∷
+      [];
   status = 0;
 }
 
 -- types are compared where they differ
 abbrev pub computed_under_types : Row
 computed_under_types = record {
-  source = codes "rule U type" ∷ codes "rule T type" ∷ codes "rule eq : U == T" ∷ codes "rule t : T" ∷ codes "computation eq" ∷ [] ++ functions ++ codes "computation beta" ∷ codes "show match equal (Pi U ({x : U} T)) (Pi T ({x : T} T)) with | some e -> normal (app T ({x : T} T) (convert (lam U ({x : U} T) ({x : U} t)) e) t) end" ∷ [];
+  source =
+      codes "rule U type" ∷
+      codes "rule T type" ∷
+      codes "rule eq : U == T" ∷
+      codes "rule t : T" ∷
+      codes "computation eq" ∷
+      [] ++
+      functions ++
+      codes "computation beta" ∷
+      codes "show match equal (Pi U ({x : U} T)) (Pi T ({x : T} T)) with | some e -> normal (app T ({x : T} T) (convert (lam U ({x : U} T) ({x : U} t)) e) t) end" ∷
+      [];
   budget = plenty;
-  written = codes "accepted U" ∷ codes "accepted T" ∷ codes "accepted eq" ∷ codes "accepted t" ∷ [] ++ functions_accepted ++ codes "|- app(T, {@0} T, lam(U, {@0} T, {@0} t), t) == t : T" ∷ [];
+  written =
+      codes "accepted U" ∷
+      codes "accepted T" ∷
+      codes "accepted eq" ∷
+      codes "accepted t" ∷
+      [] ++
+      functions_accepted ++
+      codes "|- app(T, {@0} T, lam(U, {@0} T, {@0} t), t) == t : T" ∷
+      [];
   status = 0;
 }
 
 -- a rule that never ends
 abbrev pub endless : Row
 endless = record {
-  source = codes "rule Nat type" ∷ codes "rule l : Nat" ∷ codes "rule ll : l == l : Nat" ∷ codes "computation ll" ∷ codes "show normal l" ∷ [];
+  source =
+      codes "rule Nat type" ∷
+      codes "rule l : Nat" ∷
+      codes "rule ll : l == l : Nat" ∷
+      codes "computation ll" ∷
+      codes "show normal l" ∷
+      [];
   budget = 1000;
-  written = codes "accepted Nat" ∷ codes "accepted l" ∷ codes "accepted ll" ∷ codes "error 5:6 budget spent" ∷ [];
+  written =
+      codes "accepted Nat" ∷
+      codes "accepted l" ∷
+      codes "accepted ll" ∷
+      codes "error 5:6 budget spent" ∷
+      [];
   status = 13;
 }
 
@@ -105,9 +157,17 @@ unequal = record {
 -- a symbol's rule does not compute
 abbrev pub no_equation : Row
 no_equation = record {
-  source = codes "rule Nat type" ∷ codes "rule O : Nat" ∷ codes "computation O" ∷ [];
+  source =
+      codes "rule Nat type" ∷
+      codes "rule O : Nat" ∷
+      codes "computation O" ∷
+      [];
   budget = plenty;
-  written = codes "accepted Nat" ∷ codes "accepted O" ∷ codes "error 3:13 shape: not an equation" ∷ [];
+  written =
+      codes "accepted Nat" ∷
+      codes "accepted O" ∷
+      codes "error 3:13 shape: not an equation" ∷
+      [];
   status = 14;
 }
 

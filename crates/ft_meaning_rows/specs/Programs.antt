@@ -24,7 +24,15 @@ abstracted = record {
 -- sixteen applications by doubling
 abbrev pub doubled : Row
 doubled = record {
-  source = natural_numbers ++ codes "let f1 = {x : Nat} S x" ∷ codes "let f2 = {x : Nat} f1{f1{x}}" ∷ codes "let f4 = {x : Nat} f2{f2{x}}" ∷ codes "let f8 = {x : Nat} f4{f4{x}}" ∷ codes "let f16 = {x : Nat} f8{f8{x}}" ∷ codes "show f16{O}" ∷ [];
+  source =
+      natural_numbers ++
+      codes "let f1 = {x : Nat} S x" ∷
+      codes "let f2 = {x : Nat} f1{f1{x}}" ∷
+      codes "let f4 = {x : Nat} f2{f2{x}}" ∷
+      codes "let f8 = {x : Nat} f4{f4{x}}" ∷
+      codes "let f16 = {x : Nat} f8{f8{x}}" ∷
+      codes "show f16{O}" ∷
+      [];
   budget = plenty;
   written = natural_numbers_accepted ++ codes "|- S(S(S(S(S(S(S(S(S(S(S(S(S(S(S(S(O)))))))))))))))) : Nat" ∷ [];
   status = 0;
@@ -33,7 +41,11 @@ doubled = record {
 -- a value takes none
 abbrev pub value_with_arguments : Row
 value_with_arguments = record {
-  source = natural_numbers ++ codes "let x = O" ∷ codes "show x O" ∷ [];
+  source =
+      natural_numbers ++
+      codes "let x = O" ∷
+      codes "show x O" ∷
+      [];
   budget = plenty;
   written = natural_numbers_accepted ++ codes "error 5:6 x takes 0, given 1" ∷ [];
   status = 8;
@@ -42,9 +54,15 @@ value_with_arguments = record {
 -- no case matches
 abbrev pub no_case : Row
 no_case = record {
-  source = codes "rule Nat type" ∷ codes "show match none judgement with | some e -> e end" ∷ [];
+  source =
+      codes "rule Nat type" ∷
+      codes "show match none judgement with | some e -> e end" ∷
+      [];
   budget = plenty;
-  written = codes "accepted Nat" ∷ codes "error 2:6 no match" ∷ [];
+  written =
+      codes "accepted Nat" ∷
+      codes "error 2:6 no match" ∷
+      [];
   status = 12;
 }
 
@@ -105,9 +123,20 @@ congruent = record {
 -- a list and an option are shown
 abbrev pub members : Row
 members = record {
-  source = natural_numbers ++ codes "show O :: Nat :: nil judgement" ∷ codes "show some (natural O)" ∷ codes "show none judgement" ∷ [];
+  source =
+      natural_numbers ++
+      codes "show O :: Nat :: nil judgement" ∷
+      codes "show some (natural O)" ∷
+      codes "show none judgement" ∷
+      [];
   budget = plenty;
-  written = natural_numbers_accepted ++ codes "|- O : Nat" ∷ codes "|- Nat type" ∷ codes "|- Nat == Nat" ∷ codes "none" ∷ [];
+  written =
+      natural_numbers_accepted ++
+      codes "|- O : Nat" ∷
+      codes "|- Nat type" ∷
+      codes "|- Nat == Nat" ∷
+      codes "none" ∷
+      [];
   status = 0;
 }
 

@@ -22,16 +22,32 @@ in_parentheses n = codes "show " ++ repeat n (codes "(") ++ codes "O" ++ repeat 
 -- as many as are allowed
 abbrev pub nested : Row
 nested = record {
-  source = codes "rule Nat type" ∷ codes "rule O : Nat" ∷ in_parentheses 199 ∷ [];
+  source =
+      codes "rule Nat type" ∷
+      codes "rule O : Nat" ∷
+      in_parentheses
+      199
+      ∷
+      [];
   budget = plenty;
-  written = codes "accepted Nat" ∷ codes "accepted O" ∷ codes "|- O : Nat" ∷ [];
+  written =
+      codes "accepted Nat" ∷
+      codes "accepted O" ∷
+      codes "|- O : Nat" ∷
+      [];
   status = 0;
 }
 
 -- one more
 abbrev pub nested_too_deeply : Row
 nested_too_deeply = record {
-  source = codes "rule Nat type" ∷ codes "rule O : Nat" ∷ in_parentheses 200 ∷ [];
+  source =
+      codes "rule Nat type" ∷
+      codes "rule O : Nat" ∷
+      in_parentheses
+      200
+      ∷
+      [];
   budget = plenty;
   written = codes "error 3:206 nested too deeply" ∷ [];
   status = 7;

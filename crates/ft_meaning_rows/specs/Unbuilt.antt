@@ -33,7 +33,10 @@ premise_unbuilt = record {
 -- an operation, before they are built
 abbrev pub operation_unbuilt : Row
 operation_unbuilt = record {
-  source = codes "rule Nat type" ∷ codes "operation p unit : bool" ∷ [];
+  source =
+      codes "rule Nat type" ∷
+      codes "operation p unit : bool" ∷
+      [];
   budget = plenty;
   written = codes "error 2:1 not yet" ∷ [];
   status = 7;

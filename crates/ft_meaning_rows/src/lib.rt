@@ -6,6 +6,7 @@ ghost use Rattle.ft_meaning_rows.specs.Written.{AllHold, HoldsAt, HoldsWith};
 ghost use Rattle.ft_meaning_rows.specs.Syntax.{syntax, TooLong};
 ghost use Rattle.ft_meaning_rows.specs.Applications.{applications};
 ghost use Rattle.ft_meaning_rows.specs.Programs.{programs};
+ghost use Rattle.ft_meaning_rows.specs.Words.{words};
 ghost use Rattle.ft_meaning_rows.specs.Operations.{operations};
 ghost use Rattle.ft_meaning_rows.specs.Equality.{equality};
 ghost use Rattle.ft_meaning_rows.specs.Deep.{depth, ShowsDeepest};
@@ -26,6 +27,11 @@ pub fn worked_applications()
 /// Binders, substitution, matching, and what is shown.
 pub fn worked_programs()
     ensures rows { AllHold programs }
+{}
+
+/// Each word and each pattern.
+pub fn worked_words()
+    ensures rows { AllHold words }
 {}
 
 /// Operations and their handlers.

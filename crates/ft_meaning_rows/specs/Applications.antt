@@ -148,5 +148,9 @@ premise_twice = record {
   status = 8;
 }
 
+-- the rows
 abbrev pub applications : List Row
-applications = two ∷ empty ∷ repeated_rule ∷ six_units ∷ five_units ∷ two_units ∷ one_unit ∷ type_for_term ∷ term_for_type ∷ too_few ∷ too_many ∷ unbound ∷ premise_twice ∷ []
+applications =
+    two ∷ empty ∷ repeated_rule ∷ six_units ∷ five_units ∷ two_units ∷
+    one_unit ∷ type_for_term ∷ term_for_type ∷ too_few ∷ too_many ∷ unbound ∷
+    premise_twice ∷ []

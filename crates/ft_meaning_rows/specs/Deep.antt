@@ -43,6 +43,7 @@ too_deep = record {
   status = 11;
 }
 
+-- the rows
 abbrev pub depth : List Row
 depth = deep ∷ too_deep ∷ []
 

@@ -180,5 +180,9 @@ type_and_term = record {
   status = 11;
 }
 
+-- the rows
 abbrev pub equality : List Row
-equality = not_coerced ∷ coerced ∷ coerced_again ∷ wrong_conversion ∷ one_and_one ∷ without_a_rule ∷ turned ∷ eta ∷ computed_under_types ∷ endless ∷ unequal ∷ no_equation ∷ type_and_term ∷ []
+equality =
+    not_coerced ∷ coerced ∷ coerced_again ∷ wrong_conversion ∷ one_and_one ∷ without_a_rule ∷
+    turned ∷ eta ∷ computed_under_types ∷ endless ∷ unequal ∷ no_equation ∷
+    type_and_term ∷ []

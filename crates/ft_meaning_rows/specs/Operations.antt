@@ -102,5 +102,6 @@ quiet = record {
   status = 0;
 }
 
+-- the rows
 abbrev pub operations : List Row
 operations = leaked ∷ dependent ∷ set_kept ∷ both_picked ∷ declared_again ∷ quiet ∷ []

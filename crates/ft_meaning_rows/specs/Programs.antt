@@ -140,5 +140,9 @@ members = record {
   status = 0;
 }
 
+-- the rows
 abbrev pub programs : List Row
-programs = beta ∷ abstracted ∷ doubled ∷ value_with_arguments ∷ no_case ∷ truth_shown ∷ twice_in_pattern ∷ wanted_pair ∷ inner_pair ∷ matched ∷ congruent ∷ members ∷ []
+programs =
+    beta ∷ abstracted ∷ doubled ∷ value_with_arguments ∷ no_case ∷ truth_shown ∷
+    twice_in_pattern ∷ wanted_pair ∷ inner_pair ∷ matched ∷ congruent ∷ members ∷
+    []

@@ -19,15 +19,13 @@ misspelled = record {
 abbrev pub in_parentheses : ℕ → Text
 in_parentheses n = codes "show " ++ repeat n (codes "(") ++ codes "O" ++ repeat n (codes ")")
 
--- as many as are allowed
+-- as many parentheses as are allowed
 abbrev pub nested : Row
 nested = record {
   source =
       codes "rule Nat type" ∷
       codes "rule O : Nat" ∷
-      in_parentheses
-      199
-      ∷
+      in_parentheses 199 ∷
       [];
   budget = plenty;
   written =
@@ -44,9 +42,7 @@ nested_too_deeply = record {
   source =
       codes "rule Nat type" ∷
       codes "rule O : Nat" ∷
-      in_parentheses
-      200
-      ∷
+      in_parentheses 200 ∷
       [];
   budget = plenty;
   written = codes "error 3:206 nested too deeply" ∷ [];
@@ -62,6 +58,7 @@ not_text = record {
   status = 6;
 }
 
+-- the rows
 abbrev pub syntax : List Row
 syntax = misspelled ∷ nested ∷ nested_too_deeply ∷ not_text ∷ []
 

@@ -129,5 +129,6 @@ equation_premise = record {
   status = 0;
 }
 
+-- the rows
 abbrev pub words : List Row
 words = equations ∷ parts ∷ conversions ∷ local ∷ patterns ∷ equation_premise ∷ []

@@ -6,6 +6,7 @@ pub mod Programs
 pub mod Words
 pub mod Operations
 pub mod Equality
+pub mod Shapes
 pub mod Deep
 pub mod Unbuilt
 pub mod Counted

@@ -8,6 +8,10 @@ leaked : Holds row.leaked
 unfolding running
 leaked = holds row.leaked refl
 
+leaked_in_conclusion : Holds row.leaked_in_conclusion
+unfolding running
+leaked_in_conclusion = holds row.leaked_in_conclusion refl
+
 dependent : Holds row.dependent
 unfolding running
 dependent = holds row.dependent refl
@@ -29,4 +33,4 @@ unfolding running
 quiet = holds row.quiet refl
 
 pub each_holds : AllHold row.operations
-each_holds = (leaked, (dependent, (set_kept, (both_picked, (declared_again, (quiet, tt))))))
+each_holds = (leaked, (leaked_in_conclusion, (dependent, (set_kept, (both_picked, (declared_again, (quiet, tt)))))))

@@ -24,6 +24,10 @@ nested_too_deeply : Holds row.nested_too_deeply
 unfolding running
 nested_too_deeply = holds_too_nested row.nested_too_deeply 232 refl
 
+wide_name : Holds row.wide_name
+unfolding running
+wide_name = holds row.wide_name refl
+
 -- the bytes of the row that is no text, with those before the fault and those after it taken so far
 abbrev bytes : List ℕ
 bytes = lines (row.not_text).source
@@ -52,4 +56,4 @@ pub too_long : row.TooLong
 too_long B s budget long = (transcript_of B s budget source.too_long, (source.too_long, long, refl), refl, refl)
 
 pub each_holds : AllHold row.syntax
-each_holds = (misspelled, (nested, (nested_too_deeply, (not_text, tt))))
+each_holds = (misspelled, (nested, (nested_too_deeply, (wide_name, (not_text, tt)))))

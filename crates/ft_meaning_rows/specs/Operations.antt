@@ -22,6 +22,23 @@ leaked = record {
   status = 9;
 }
 
+-- and is refused in a conclusion too
+abbrev pub leaked_in_conclusion : Row
+leaked_in_conclusion = record {
+  source =
+      codes "rule A type" ∷
+      codes "operation leak judgement : judgement" ∷
+      codes "let y = handle {x : A} perform leak x with | leak z -> z end" ∷
+      codes "rule C : typeof y" ∷
+      [];
+  budget = plenty;
+  written =
+      codes "accepted A" ∷
+      codes "error 4:8 conclusion keeps x#0" ∷
+      [];
+  status = 9;
+}
+
 -- a variable on which another rests is not bound
 abbrev pub dependent : Row
 dependent = record {
@@ -104,4 +121,4 @@ quiet = record {
 
 -- the rows
 abbrev pub operations : List Row
-operations = leaked ∷ dependent ∷ set_kept ∷ both_picked ∷ declared_again ∷ quiet ∷ []
+operations = leaked ∷ leaked_in_conclusion ∷ dependent ∷ set_kept ∷ both_picked ∷ declared_again ∷ quiet ∷ []

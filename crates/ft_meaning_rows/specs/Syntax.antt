@@ -1,5 +1,5 @@
--- Worked rows: sources that are no text, or that are not in the grammar or just in it.
-use Rattle.std.specs.Prelude.{ℕ, ◌<◌, List, [], ◌∷◌, ◌++◌, length, codes}
+-- Worked rows: sources that are no text, or not in the grammar, and two that are in it.
+use Rattle.std.specs.Prelude.{ℕ, ◌<◌, List, [], ◌∷◌, ◌++◌, length, codes, encode_utf8_all}
 use Rattle.std.specs.List.{repeat}
 use Rattle.ft_meaning.specs.Texts.{Text}
 use Rattle.ft_meaning.specs.Sources.{greatest_length}
@@ -49,6 +49,21 @@ nested_too_deeply = record {
   status = 7;
 }
 
+-- a name that is not ASCII; columns count characters
+abbrev pub wide_name : Row
+wide_name = record {
+  source =
+      encode_utf8_all (codes "rule ℕ type") ∷
+      encode_utf8_all (codes "show (ℕ, x)") ∷
+      [];
+  budget = plenty;
+  written =
+      encode_utf8_all (codes "accepted ℕ") ∷
+      codes "error 2:10 unbound x" ∷
+      [];
+  status = 8;
+}
+
 -- seven spaces, and a byte that no UTF-8 has
 abbrev pub not_text : Row
 not_text = record {
@@ -60,7 +75,7 @@ not_text = record {
 
 -- the rows
 abbrev pub syntax : List Row
-syntax = misspelled ∷ nested ∷ nested_too_deeply ∷ not_text ∷ []
+syntax = misspelled ∷ nested ∷ nested_too_deeply ∷ wide_name ∷ not_text ∷ []
 
 -- any source with more bytes than a source may have, whatever is in it, at any stage
 abbrev pub TooLong : Type 0

@@ -9,11 +9,12 @@ ghost use Rattle.ft_meaning_rows.specs.Programs.{programs};
 ghost use Rattle.ft_meaning_rows.specs.Words.{words};
 ghost use Rattle.ft_meaning_rows.specs.Operations.{operations};
 ghost use Rattle.ft_meaning_rows.specs.Equality.{equality};
+ghost use Rattle.ft_meaning_rows.specs.Shapes.{shapes};
 ghost use Rattle.ft_meaning_rows.specs.Deep.{depth, ShowsDeepest};
 ghost use Rattle.ft_meaning_rows.specs.Counted.{one_numeral, two_numerals, seven_numerals, one_sum, two_sums};
 ghost use Rattle.ft_meaning_rows.specs.Unbuilt.{value_unbuilt, binder_unbuilt, premise_unbuilt, operation_unbuilt, equality_unbuilt};
 
-/// Sources that are no text or not in the grammar, and one that is just in it.
+/// Sources that are no text or not in the grammar, and two that are in it.
 pub fn worked_syntax()
     ensures rows { AllHold syntax }
     ensures too_long { TooLong }
@@ -29,7 +30,7 @@ pub fn worked_programs()
     ensures rows { AllHold programs }
 {}
 
-/// Each word and each pattern.
+/// Words before judgements, local values, conditions and patterns.
 pub fn worked_words()
     ensures rows { AllHold words }
 {}
@@ -42,6 +43,11 @@ pub fn worked_operations()
 /// The equality checker.
 pub fn worked_equality()
     ensures rows { AllHold equality }
+{}
+
+/// Rules that the equality checker does not take.
+pub fn worked_shapes()
+    ensures rows { AllHold shapes }
 {}
 
 /// Many applications, up to the limit of depth and past it.

@@ -1,4 +1,4 @@
--- Worked rows: each word and each pattern.
+-- Worked rows: words on judgements, local values, conditions and patterns.
 use Rattle.std.specs.Prelude.{List, [], ◌∷◌, ◌++◌, codes}
 use Rattle.ft_meaning_rows.specs.Theories.{natural_numbers, natural_numbers_accepted, addition, addition_accepted, two_types, two_types_accepted}
 use Rattle.ft_meaning_rows.specs.Written.{Row, plenty}

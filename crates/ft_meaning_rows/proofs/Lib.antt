@@ -1,0 +1,13 @@
+pub mod Reader
+pub mod Trees
+pub mod Running
+pub mod Applications
+pub mod Programs
+pub mod Words
+pub mod Operations
+pub mod Equality
+pub mod Shapes
+pub mod Deep
+pub mod Unbuilt
+pub mod Counted
+pub mod Syntax

@@ -8,14 +8,15 @@ use Rattle.ft_reference.specs.Nucleus as reference
 use Rattle.ft_equality.specs.Shapes.{ShapeFault, EqualityRules, add_computation, add_extensionality}
 use Rattle.ft_grammar.specs.declared.syntax.Named.{Named}
 use Rattle.ft_meaning.specs.Trees.{Binder, Body, type_body, term_body, types_body, terms_body, Premise, Command, rule_command, let_command, operation_command, computation_command, extensionality_command, show_command}
-use Rattle.ft_meaning.specs.Values.{Value, judgement, nil, cons, none, some, Environment, State, Unhandled, OfRule, OfShape, Halt, fails, stuck, performs, halts, Outcome, Run, ◌>>=◌, ◌>>◌, pure, halt, nucleus, declared, declare, the_rule, as_judgement, as_judgements}
+use Rattle.ft_meaning.specs.Values.{Value, judgement, nil, cons, none, some, Environment, State, Unhandled, OfRule, OfShape, Halt, fails, stuck, performs, halts, Outcome, Run, ◌>>=◌, ◌>>◌, pure, halt, nucleus, after_declaration, declare, the_rule, as_judgement, as_judgements}
 use Rattle.ft_meaning.specs.Forms.{meaning, judgement_of, make_variable}
 
 -- Rules.
 
 -- a variable of a premise, with the place of its name
-abbrev pub Bound : Type 0
-Bound = ℕ × (ℕ × Annotation)
+pub record Bound : Type 0 where
+  pub at : ℕ
+  pub variable : ℕ × Annotation
 
 -- binders in turn: the named values after them, and their variables, the last first
 abbrev pub bind_all : List Binder → Environment → List Bound → Run (Environment × List Bound)
@@ -24,7 +25,7 @@ bind_all (b ∷ bs) G xs = do
   A ← judgement_of b.domain G
   x ← make_variable b.name.at b.name.name A
   j ← nucleus b.name.at (λ W. reference.variable W x)
-  bind_all bs ((b.name.name, judgement j) ∷ G) ((b.name.at, x) ∷ xs)
+  bind_all bs ((b.name.name, judgement j) ∷ G) (record { at = b.name.at; variable = x } ∷ xs)
 
 -- the boundary that a body states; a refusal of it stands at the place
 abbrev pub boundary_by : ℕ → Body → Environment → Run Assertion
@@ -45,15 +46,15 @@ boundary_by at (terms_body e f g) G = do
 -- the variables bound in turn, each as a new first domain
 abbrev pub abstract_all : List Bound → Assertion → Run Assertion
 abstract_all [] b = pure b
-abstract_all (x ∷ xs) b = nucleus x.0 (λ W. reference.abstract_variable W x.1 b) >>= abstract_all xs
+abstract_all (x ∷ xs) b = nucleus x.at (λ W. reference.abstract_variable W x.variable b) >>= abstract_all xs
 
 -- what a premise of the draft leaves and answers: its metavariable, and the draft after it; a refusal becomes a fault at the place
-abbrev pub declared_premise : ℕ → Declaration (Store × Draft) (ℕ × Declared) RuleFault → Run ((ℕ × Declared) × Draft)
-declared_premise at o = declared OfRule at o.after.0 o.answer >>= λ M. pure (M, o.after.1)
+abbrev pub after_premise : ℕ → Declaration (Store × Draft) (ℕ × Declared) RuleFault → Run ((ℕ × Declared) × Draft)
+after_premise at o = after_declaration OfRule at o.after.0 o.answer >>= λ M. pure (M, o.after.1)
 
 -- a further premise of the draft
 abbrev pub add_premise : ℕ → Draft → Name → Assertion → Run ((ℕ × Declared) × Draft)
-add_premise at d n b = λ s. declared_premise at (premise s.store d n b) s
+add_premise at d n b = λ s. after_premise at (premise s.store d n b) s
 
 -- premises in turn: the draft and the named values after them
 abbrev pub declare_premises : List Premise → Draft → Environment → Run (Draft × Environment)
@@ -79,33 +80,32 @@ declare_rule n ps at c G = do
 
 -- the equality rules after a declaration; a fault of shape stands at the place
 abbrev pub shaped : ℕ → Result EqualityRules ShapeFault → Run (Unit {0})
-shaped at (Ok E) = λ s. (Ok tt, record s { rules = E })
+shaped at (Ok E) = λ s. (Ok tt, record s { equality_rules = E })
 shaped at (Err e) = halt (fails (OfShape e) at)
 
 -- a rule is declared as one of the equality checker
 abbrev pub declare_equality : (EqualityRules → ℕ → Rule → Result EqualityRules ShapeFault) → Named → Run (Unit {0})
 declare_equality add n = do
   r ← the_rule n.name
-  (λ s. shaped n.at (add s.rules r.0 r.1) s)
+  (λ s. shaped n.at (add s.equality_rules r.0 r.1) s)
 
 -- Commands.
 
--- What a command has to tell: a rule is accepted; one judgement is shown; those of a list; an option that has none (`Nothing`); or
--- there is nothing to tell (`Quiet`).
+-- What a command has to tell: a rule is accepted; judgements are shown, in their order; an option is shown that has none; or there
+-- is nothing to tell.
 pub data Done : Type 0 where
   Accepted : Name → Rule → Done
-  One : Assertion → Done
-  Many : List Assertion → Done
-  Nothing : Done
+  Shown : List Assertion → Done
+  ShownNone : Done
   Quiet : Done
 
 -- what a value shows
 abbrev pub shown : Value → Run Done
-shown (judgement j) = pure (One j)
-shown (some v) = as_judgement v >>= λ j. pure (One j)
-shown none = pure Nothing
-shown nil = pure (Many [])
-shown (cons v w) = as_judgements (cons v w) >>= λ js. pure (Many js)
+shown (judgement j) = pure (Shown (j ∷ []))
+shown (some v) = as_judgement v >>= λ j. pure (Shown (j ∷ []))
+shown none = pure ShownNone
+shown nil = pure (Shown [])
+shown (cons v w) = as_judgements (cons v w) >>= λ js. pure (Shown js)
 shown v = halt stuck
 
 -- what a command tells, and the named values after it

@@ -4,9 +4,11 @@ use Rattle.std.specs.Prelude.{ℕ, ◌≡◌, Option, Some, None, List, [], ◌�
 use Rattle.ft_theory.specs.Rules.{Rule}
 use Rattle.ft_theory.specs.Steps.{Sequent}
 use Rattle.ft_items.specs.Item.{Name, Item, variable, metavariable, rule, entry, shown}
-use Rattle.ft_items.specs.Store.{Assertion, Declared, Store, each, entry_named, metavariable_named, premises_of, claim_in, sequent_in, Derivable, add, empty_store}
+use Rattle.ft_items.specs.Store.{Assertion, Declared, Store, each, entry_named, metavariable_named, sequent_in, Derivable, add, empty_store}
 use Rattle.ft_items.specs.Good.{Good}
-use Rattle.ft_meaning.specs.Commands.{Done, Accepted, One, Many, Nothing, Quiet}
+use Rattle.ft_reference.specs.Declare.{declared_rule}
+use Rattle.ft_meaning.specs.Commands.{Done, Accepted, ShownNone, Quiet}
+use Rattle.ft_meaning.specs.Commands as command
 
 -- An event: a rule is accepted, or a judgement is shown over the store at that moment, which has the rules accepted before.
 pub data Event : Type 0 where
@@ -16,9 +18,8 @@ pub data Event : Type 0 where
 -- the events of a command, over the store after it
 abbrev pub events_of : Store → Done → List Event
 events_of W (Accepted n R) = accepts n R ∷ []
-events_of W (One j) = shows W j ∷ []
-events_of W (Many js) = map (shows W) js
-events_of W Nothing = []
+events_of W (command.Shown js) = map (shows W) js
+events_of W ShownNone = []
 events_of W Quiet = []
 
 -- a judgement that is shown, with the store at that moment
@@ -62,7 +63,7 @@ told_by_event (shows W j) = states W.rules (sequent_in W j.statement j.set)
 abbrev pub told_rule : Name → Option (List (ℕ × Declared)) → Option Assertion → List Told
 told_rule n None p = []
 told_rule n (Some ms) None = []
-told_rule n (Some ms) (Some p) = declares n (record { premises = premises_of ms; conclusion = claim_in p.statement }) ∷ []
+told_rule n (Some ms) (Some p) = declares n (declared_rule ms p) ∷ []
 
 -- the sequent of an entry, where it is there
 abbrev pub told_shown : Store → Option Assertion → List Told

@@ -1,17 +1,16 @@
 -- What a form gives over named values: a value, or how it ends. Each form spends a unit first, and its parts are evaluated in
 -- the order of the text.
-use Rattle.std.specs.Prelude.{ℕ, Bool, true, false, cond, Some, None, List, [], ◌∷◌, ◌++◌, Result, Ok, Err, codes}
+use Rattle.std.specs.Prelude.{ℕ, Bool, true, false, cond, Option, Some, None, List, [], ◌∷◌, ◌++◌, Result, Ok, Err, codes}
 use Rattle.ft_theory.specs.Rules.{Rule}
 use Rattle.ft_theory.specs.Statements.{is_type, has_type, equal_types, equal_terms, Statement, plain}
 use Rattle.ft_items.specs.Sets.{union}
 use Rattle.ft_items.specs.Item.{Name}
 use Rattle.ft_items.specs.Store.{Assertion, Annotation, Store}
 use Rattle.ft_items.specs.Good.{equal_names}
-use Rattle.ft_reference.specs.Refusals.{Refusal, WrongForm, TooBig}
+use Rattle.ft_reference.specs.Refusals.{Refusal, WrongForm}
 use Rattle.ft_reference.specs.Declare.{new_variable}
 use Rattle.ft_reference.specs.Nucleus.{fits_boundary}
 use Rattle.ft_reference.specs.Nucleus as reference
-use Rattle.ft_equality.specs.Programs.{Answer, Spent, NotSmall}
 use Rattle.ft_equality.specs.Equality.{types_are_equal, terms_are_equal, normal_form}
 use Rattle.ft_grammar.specs.declared.form.OneForm.{OneForm}
 use Rattle.ft_grammar.specs.declared.form.OneForm.TheVariants.{Refl, Sym, Left, Right, Typeof, Domain, Natural, Normal, Boundaryof, SomeWord}
@@ -19,8 +18,8 @@ use Rattle.ft_grammar.specs.declared.form.TwoForm.{TwoForm}
 use Rattle.ft_grammar.specs.declared.form.TwoForm.TheVariants.{Trans, Convert, Equal, Widen, Rewrite, Fill}
 use Rattle.ft_meaning.specs.Names.{named}
 use Rattle.ft_meaning.specs.Trees.{Form, let_in, if_then, match_with, handle_with, abstraction, cons_of, one, two, argument, congruence, perform, call, substitution, truth_of, unit_of, pair_of, none_of, nil_of, Forms, no_forms, and_form, Cases, no_cases, and_case, ValueCase, no_value_case, value_case, Handlers, no_handlers, and_handler, place}
-use Rattle.ft_meaning.specs.Values.{Value, judgement, boundary, unit, truth, pair, nil, cons, none, some, Environment, State, Refused, NoMatch, fails, spent, stuck, performs, halts, Outcome, Run, ◌>>=◌, ◌>>◌, pure, end, halt, spend, nucleus, declare, the_rule, as_judgement, as_judgements}
-use Rattle.ft_meaning.specs.Matching.{matches}
+use Rattle.ft_meaning.specs.Values.{Value, judgement, boundary, unit, truth, pair, nil, cons, none, some, Environment, Refused, NoMatch, fails, stuck, performs, halts, Outcome, Run, ◌>>=◌, ◌>>◌, pure, end, halt, spend, checker, nucleus, declare, the_rule, as_judgement, as_statement, as_judgements}
+use Rattle.ft_meaning.specs.Matching.{if_found, matches}
 
 -- Calls of the nucleus as values.
 
@@ -58,12 +57,6 @@ substitute_value at v t = halt stuck
 
 -- Equality.
 
--- an answer of the equality checker, with its stops at the place
-abbrev pub settled : {A : Type 0} → ℕ → State → Answer A → Outcome A
-settled at s (Ok a, u) = (Ok a, record s { units = u })
-settled at s (Err Spent, u) = (Err (halts (spent at)), record s { units = u })
-settled at s (Err NotSmall, u) = (Err (halts (fails (Refused TooBig) at)), record s { units = u })
-
 -- the equation, where the answer is yes
 abbrev pub equation_if : Bool → Statement → Assertion → Assertion → Value
 equation_if true x j k = some (judgement (record { statement = x; set = union j.set k.set }))
@@ -73,17 +66,17 @@ equation_if false x j k = none
 -- where they are not. What has another form is refused.
 abbrev pub compare : ℕ → Assertion → Assertion → Statement → Statement → Run Value
 compare at j k (plain (is_type A)) (plain (is_type B)) =
-    (λ s. settled at s (types_are_equal s.store s.rules A B s.units)) >>= λ b. pure (equation_if b (plain (equal_types A B)) j k)
+    checker at (λ W E. types_are_equal W E A B) >>= λ b. pure (equation_if b (plain (equal_types A B)) j k)
 compare at j k (plain (has_type t A)) (plain (has_type u B)) =
-    (λ s. settled at s (terms_are_equal s.store s.rules t A u B s.units)) >>= λ b. pure (equation_if b (plain (equal_terms t u A)) j k)
+    checker at (λ W E. terms_are_equal W E t A u B) >>= λ b. pure (equation_if b (plain (equal_terms t u A)) j k)
 compare at j k x y = halt (fails (Refused WrongForm) at)
 
 -- the equation of a plain type or term with its normal form; what has another form is refused
 abbrev pub normalise : ℕ → Assertion → Statement → Run Value
 normalise at j (plain (is_type A)) =
-    (λ s. settled at s (normal_form s.store s.rules A s.units)) >>= λ N. pure (judgement (record { statement = plain (equal_types A N); set = j.set }))
+    checker at (λ W E. normal_form W E A) >>= λ N. pure (judgement (record { statement = plain (equal_types A N); set = j.set }))
 normalise at j (plain (has_type t A)) =
-    (λ s. settled at s (normal_form s.store s.rules t s.units)) >>= λ u. pure (judgement (record { statement = plain (equal_terms t u A); set = j.set }))
+    checker at (λ W E. normal_form W E t) >>= λ u. pure (judgement (record { statement = plain (equal_terms t u A); set = j.set }))
 normalise at j x = halt (fails (Refused WrongForm) at)
 
 -- Words.
@@ -97,14 +90,10 @@ conversion x W d e = reference.convert W d e
 abbrev pub word_at : ℕ → OneForm → Value → Run Value
 word_at at Refl (judgement j) = judged at (λ W. reference.refl W j)
 word_at at Sym (judgement j) = judged at (λ W. reference.sym W j)
-word_at at Left (judgement j) = judged at (λ W. reference.left_side W j)
-word_at at Left (boundary b) = judged at (λ W. reference.left_side W b)
-word_at at Right (judgement j) = judged at (λ W. reference.right_side W j)
-word_at at Right (boundary b) = judged at (λ W. reference.right_side W b)
-word_at at Typeof (judgement j) = judged at (λ W. reference.type_part W j)
-word_at at Typeof (boundary b) = judged at (λ W. reference.type_part W b)
-word_at at Domain (judgement j) = judged at (λ W. reference.first_domain W j)
-word_at at Domain (boundary b) = judged at (λ W. reference.first_domain W b)
+word_at at Left v = as_statement v >>= λ p. judged at (λ W. reference.left_side W p)
+word_at at Right v = as_statement v >>= λ p. judged at (λ W. reference.right_side W p)
+word_at at Typeof v = as_statement v >>= λ p. judged at (λ W. reference.type_part W p)
+word_at at Domain v = as_statement v >>= λ p. judged at (λ W. reference.first_domain W p)
 word_at at Natural (judgement j) = judged at (λ W. reference.natural W j)
 word_at at Normal (judgement j) = normalise at j j.statement
 word_at at Boundaryof (judgement j) = bounded at (λ W. reference.boundary W j)
@@ -130,10 +119,17 @@ handled value operation (Err (halts h), s) = (Err (halts h), s)
 
 -- Forms.
 
--- the value of a name, which takes no arguments
-abbrev pub alone : Value → Forms → Run Value
-alone v no_forms = pure v
-alone v (and_form e es) = halt stuck
+-- what a condition chooses
+abbrev pub branch : Value → Run Value → Run Value → Run Value
+branch (truth true) m n = m
+branch (truth false) m n = n
+branch v m n = halt stuck
+
+-- the value of a name, which takes no arguments; where the name has none, what its rule gives
+abbrev pub value_or_rule : Option Value → Forms → Run Value → Run Value
+value_or_rule (Some v) no_forms rule = pure v
+value_or_rule (Some v) (and_form e es) rule = halt stuck
+value_or_rule None es rule = rule
 
 abbrev mutual
   -- what a form gives
@@ -145,7 +141,7 @@ abbrev mutual
   meaning (if_then at e f g) G = do
     spend at
     v ← meaning e G
-    elim v as (λ _. Run Value) [ truth b ↦ elim b as (λ _. Run Value) [ true ↦ meaning f G | false ↦ meaning g G ] | _ ↦ halt stuck ]
+    branch v (meaning f G) (meaning g G)
   meaning (match_with at e cs) G = do
     spend at
     v ← meaning e G
@@ -190,10 +186,9 @@ abbrev mutual
     spend at
     v ← meaning e G
     end (performs op.name v at)
-  meaning (call at x es) G = spend at >> elim (named G x.name) as (λ _. Run Value) [
-    | Some v ↦ alone v es
-    | None ↦ the_rule x.name >>= λ r. applied at r es G []
-  ]
+  meaning (call at x es) G = do
+    spend at
+    value_or_rule (named G x.name) es (the_rule x.name >>= λ r. applied at r es G [])
   meaning (substitution at e es) G = do
     spend at
     v ← meaning e G
@@ -230,10 +225,9 @@ abbrev mutual
   -- the first case whose pattern matches
   pub first_match : ℕ → Cases → Value → Environment → Run Value
   first_match at no_cases v G = halt (fails NoMatch at)
-  first_match at (and_case p e cs) v G = matches at p v G >>= λ found. elim found as (λ _. Run Value) [
-    | None ↦ first_match at cs v G
-    | Some H ↦ meaning e H
-  ]
+  first_match at (and_case p e cs) v G = do
+    found ← matches at p v G
+    if_found found (meaning e) (first_match at cs v G)
 
   -- the case for a value; without one the value stays
   pub of_value : ValueCase → Value → Environment → Run Value

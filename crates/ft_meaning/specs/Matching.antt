@@ -14,10 +14,15 @@ is_applied s (plain (is_type (symbol r a))) = nat_eq s r
 is_applied s (plain (has_type (symbol r a) A)) = nat_eq s r
 is_applied s x = false
 
--- what follows where a pattern matches
-abbrev pub and_also : Option Environment → (Environment → Run (Option Environment)) → Run (Option Environment)
-and_also None next = pure None
-and_also (Some G) next = next G
+-- what follows where a pattern matches, and what where it doesn't
+abbrev pub if_found : {A : Type 0} → Option Environment → (Environment → Run A) → Run A → Run A
+if_found (Some G) next other = next G
+if_found None next other = other
+
+infixl 10 ◌and_also◌
+-- a match, and then a further one over what the first names; it matches where both do
+abbrev pub ◌and_also◌ : Run (Option Environment) → (Environment → Run (Option Environment)) → Run (Option Environment)
+◌and_also◌ m next = m >>= λ found. if_found found next (pure None)
 
 -- the test that two truth values are the same
 abbrev pub same_truth : Bool → Bool → Bool
@@ -29,7 +34,7 @@ same_truth false false = true
 -- of the match. The arguments of a symbol are taken one by one, each matched before the next.
 abbrev mutual
   pub matches : ℕ → Pattern → Value → Environment → Run (Option Environment)
-  matches at (cons_pattern a p q) (cons v w) G = matches at p v G >>= λ found. and_also found (matches at q w)
+  matches at (cons_pattern a p q) (cons v w) G = matches at p v G and_also matches at q w
   matches at (cons_pattern a p q) nil G = pure None
   matches at (some_pattern a p) (some v) G = matches at p v G
   matches at (some_pattern a p) none G = pure None
@@ -43,7 +48,7 @@ abbrev mutual
   matches at (none_pattern a) (some v) G = pure None
   matches at (nil_pattern a) nil G = pure (Some G)
   matches at (nil_pattern a) (cons v w) G = pure None
-  matches at (pair_pattern a p q) (pair v w) G = matches at p v G >>= λ found. and_also found (matches at q w)
+  matches at (pair_pattern a p q) (pair v w) G = matches at p v G and_also matches at q w
   matches at p v G = halt stuck
 
   -- patterns against the arguments of an application, from the i-th on
@@ -51,5 +56,4 @@ abbrev mutual
   match_arguments at no_patterns j i G = pure (Some G)
   match_arguments at (and_pattern p ps) j i G = do
     a ← nucleus at (λ W. reference.argument W i j)
-    found ← matches at p (judgement a) G
-    and_also found (match_arguments at ps j (suc i))
+    matches at p (judgement a) G and_also match_arguments at ps j (suc i)

@@ -15,11 +15,11 @@ named (p ∷ ps) n = cond (equal_names p.0 n) (Some p.1) (named ps n)
 abbrev pub is_among : List Name → Name → Bool
 is_among ns n = list_any (equal_names n) ns
 
--- the place of the name, counted from 0
-abbrev pub place_of : List Name → Name → Option ℕ
-place_of [] n = None
-place_of (m ∷ ms) n = cond (equal_names m n) (Some zero) (option_map suc (place_of ms n))
+-- the number of the name in the list, counted from 0
+abbrev pub number_of : List Name → Name → Option ℕ
+number_of [] n = None
+number_of (m ∷ ms) n = cond (equal_names m n) (Some zero) (option_map suc (number_of ms n))
 
 -- the rule of the name, with its number
 abbrev pub rule_of_name : Store → Name → Option (ℕ × Rule)
-rule_of_name W n = option_and_then (rule_named W) (place_of W.names n)
+rule_of_name W n = option_and_then (rule_named W) (number_of W.names n)

@@ -41,9 +41,9 @@ IsProgram tokens cs = (trees : List Tree) × IsSource nesting trees tokens × (c
 
 -- The bytes have this content. Where the tokens are those of no commands, the place is the one at which reading them by the rules of
 -- the grammar ends: which part is nested too deeply is not told by the lists of tokens that are in the grammar alone.
-abbrev pub Has : Text → Content → Type 0
-Has source too_long = greatest_length < length source
-Has source (no_text n) = (length source ≤ greatest_length) × IsValidUpTo source n
-Has source (unexpected at) = IsText source × (parse (source_tokens source) ≡ Err (Unexpected at))
-Has source (too_nested at) = IsText source × (parse (source_tokens source) ≡ Err (TooNested at))
-Has source (commands cs) = IsText source × IsProgram (source_tokens source) cs
+abbrev pub HasContent : Text → Content → Type 0
+HasContent source too_long = greatest_length < length source
+HasContent source (no_text n) = (length source ≤ greatest_length) × IsValidUpTo source n
+HasContent source (unexpected at) = IsText source × (parse (source_tokens source) ≡ Err (Unexpected at))
+HasContent source (too_nested at) = IsText source × (parse (source_tokens source) ≡ Err (TooNested at))
+HasContent source (commands cs) = IsText source × IsProgram (source_tokens source) cs

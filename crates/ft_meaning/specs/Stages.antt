@@ -1,6 +1,6 @@
 -- Stages: which parts of the language are built. Where a source has a part that is not, nothing is run, and the first such part is
 -- told.
-use Rattle.std.specs.Prelude.{ℕ, Bool, true, false, cond, Option, Some, None, List, [], ◌∷◌, ◌++◌}
+use Rattle.std.specs.Prelude.{ℕ, Bool, true, false, cond, Option, Some, None, List, [], ◌∷◌, ◌++◌, flat_map}
 use Rattle.ft_items.specs.Item.{Name}
 use Rattle.ft_grammar.specs.declared.form.OneForm.{OneForm}
 use Rattle.ft_grammar.specs.declared.form.OneForm.TheVariants as single
@@ -111,8 +111,7 @@ module _ (premises : List Name) where
 
   -- of binders
   abbrev pub binder_parts : List Binder → List SourcePart
-  binder_parts [] = []
-  binder_parts (b ∷ bs) = (programs, b.at) ∷ parts b.domain ++ binder_parts bs
+  binder_parts = flat_map (λ b. (programs, b.at) ∷ parts b.domain)
 
 -- of the premises and the conclusion of a rule
 abbrev pub rule_parts : List Name → List Premise → ℕ → Body → List SourcePart
@@ -130,8 +129,7 @@ command_parts (show_command at e) = (applications, at) ∷ parts [] e
 
 -- of the commands of a source
 abbrev pub source_parts : List Command → List SourcePart
-source_parts [] = []
-source_parts (c ∷ cs) = command_parts c ++ source_parts cs
+source_parts = flat_map command_parts
 
 -- the place of the first part that is not built
 abbrev pub first_not_built : Stage → List SourcePart → Option ℕ

@@ -13,7 +13,7 @@ use Rattle.ft_meaning.specs.Faults.{fault_text, fault_status, type_why_text}
 use Rattle.ft_meaning.specs.Lines.{line, error_line, done_lines}
 use Rattle.ft_meaning.specs.Events.{Event, events_of}
 use Rattle.ft_meaning.specs.Stages.{Stage, all_built, first_unbuilt}
-use Rattle.ft_meaning.specs.Sources.{Content, too_long, no_text, unexpected, too_nested, commands, Has}
+use Rattle.ft_meaning.specs.Sources.{Content, too_long, no_text, unexpected, too_nested, commands, HasContent}
 
 -- the lines, the status, the events in their order, and the units used
 pub record Transcript : Type 0 where
@@ -63,7 +63,7 @@ transcript_from source (c ∷ cs) scope G s =
 
 -- the state before the first command
 abbrev pub start : ℕ → State
-start budget = record { store = empty_store; rules = no_rules; units = record { used = 0; left = budget } }
+start budget = record { store = empty_store; equality_rules = no_rules; units = record { used = 0; left = budget } }
 
 -- the run, where every part is built; else the first part that is not is told
 abbrev pub unless_unbuilt : Text → ℕ → List Command → Option ℕ → Transcript
@@ -80,7 +80,7 @@ transcript_of B source budget (commands cs) = unless_unbuilt source budget cs (f
 
 -- a transcript of the source within the budget, at a stage
 abbrev pub IsTranscriptAt : Stage → Text → ℕ → Transcript → Type 0
-IsTranscriptAt B source budget t = (content : Content) × Has source content × (t ≡ transcript_of B source budget content)
+IsTranscriptAt B source budget t = (content : Content) × HasContent source content × (t ≡ transcript_of B source budget content)
 
 -- a transcript of the source within the budget, in the whole language
 abbrev pub IsTranscript : Text → ℕ → Transcript → Type 0

@@ -1,12 +1,12 @@
 -- Values, the state of a run, how an evaluation ends, and evaluations in a row.
-use Rattle.std.specs.Prelude.{ℕ, zero, suc, Bool, Option, Some, None, List, [], ◌∷◌, Result, Ok, Err}
+use Rattle.std.specs.Prelude.{ℕ, Bool, Option, Some, None, List, [], ◌∷◌, Result, Ok, Err}
 use Rattle.ft_theory.specs.Rules.{Rule}
 use Rattle.ft_items.specs.Item.{Name}
 use Rattle.ft_items.specs.Store.{Assertion, Store}
-use Rattle.ft_reference.specs.Refusals.{Refusal}
+use Rattle.ft_reference.specs.Refusals.{Refusal, TooBig}
 use Rattle.ft_reference.specs.Declare.{Outcome as Declaration, RuleFault}
 use Rattle.ft_equality.specs.Shapes.{ShapeFault, EqualityRules}
-use Rattle.ft_equality.specs.Programs.{Units}
+use Rattle.ft_equality.specs.Programs.{Units, Answer, Spent, NotSmall, spend as spend_unit}
 use Rattle.ft_meaning.specs.Names.{rule_of_name}
 
 -- A value: a judgement or a boundary with the set that it rests on, the unit, a truth value, a pair, a list, an option.
@@ -28,7 +28,7 @@ Environment = List (Name × Value)
 -- the state of a run: the store of the nucleus, whose list of entries stays empty; the equality rules declared; and the units
 pub record State : Type 0 where
   pub store : Store
-  pub rules : EqualityRules
+  pub equality_rules : EqualityRules
   pub units : Units
 
 -- Why a run ends: an operation has no case; the nucleus refuses; no case matches; a rule or an equality rule is not declared.
@@ -91,14 +91,19 @@ abbrev pub the : {A : Type 0} → Option A → Run A
 the (Some a) = pure a
 the None = halt stuck
 
--- one more unit of so many used and left
-abbrev pub spend_from : ℕ → ℕ → ℕ → Run (Unit {0})
-spend_from at used zero = halt (spent at)
-spend_from at used (suc left) = λ s. (Ok tt, record s { units = record { used = suc used; left = left } })
+-- an answer that is counted in units, with its stops at the place
+abbrev pub settled : {A : Type 0} → ℕ → State → Answer A → Outcome A
+settled at s (Ok a, u) = (Ok a, record s { units = u })
+settled at s (Err Spent, u) = (Err (halts (spent at)), record s { units = u })
+settled at s (Err NotSmall, u) = (Err (halts (fails (Refused TooBig) at)), record s { units = u })
 
--- a unit is spent at a place
+-- a unit is spent at a place, as the equality checker spends one
 abbrev pub spend : ℕ → Run (Unit {0})
-spend at = λ s. spend_from at s.units.used s.units.left s
+spend at = λ s. settled at s (spend_unit s.units (λ u. (Ok tt, u)))
+
+-- a call of the equality checker over the store, the equality rules and the units, made at a place
+abbrev pub checker : {A : Type 0} → ℕ → (Store → EqualityRules → Units → Answer A) → Run A
+checker at ask = λ s. settled at s (ask s.store s.equality_rules s.units)
 
 -- an answer of the nucleus; a refusal is a fault at the place
 abbrev pub answered : {A : Type 0} → ℕ → Result A Refusal → Run A
@@ -110,13 +115,13 @@ abbrev pub nucleus : {A : Type 0} → ℕ → (Store → Result A Refusal) → R
 nucleus at ask = λ s. answered at (ask s.store) s
 
 -- what a declaration leaves and answers; a refusal becomes a fault at the place
-abbrev pub declared : {A E : Type 0} → (E → Fault) → ℕ → Store → Result A E → Run A
-declared fault at W (Ok a) = λ s. (Ok a, record s { store = W })
-declared fault at W (Err e) = halt (fails (fault e) at)
+abbrev pub after_declaration : {A E : Type 0} → (E → Fault) → ℕ → Store → Result A E → Run A
+after_declaration fault at W (Ok a) = λ s. (Ok a, record s { store = W })
+after_declaration fault at W (Err e) = halt (fails (fault e) at)
 
 -- a declaration over the store, made at a place
 abbrev pub declare : {A E : Type 0} → (E → Fault) → ℕ → (Store → Declaration Store A E) → Run A
-declare fault at d = λ s. declared fault at (d s.store).after (d s.store).answer s
+declare fault at d = λ s. after_declaration fault at (d s.store).after (d s.store).answer s
 
 -- the rule of a name
 abbrev pub the_rule : Name → Run (ℕ × Rule)
@@ -126,6 +131,12 @@ the_rule n = λ s. the (rule_of_name s.store n) s
 abbrev pub as_judgement : Value → Run Assertion
 as_judgement (judgement j) = pure j
 as_judgement v = halt stuck
+
+-- the value is a judgement or a boundary
+abbrev pub as_statement : Value → Run Assertion
+as_statement (judgement j) = pure j
+as_statement (boundary b) = pure b
+as_statement v = halt stuck
 
 -- the value is a list of judgements
 abbrev pub as_judgements : Value → Run (List Assertion)

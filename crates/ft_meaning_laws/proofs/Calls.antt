@@ -18,8 +18,9 @@ use Rattle.ft_reference.specs.Refusals.{Refusal, WrongForm}
 use Rattle.ft_reference.specs.Calls.{answer}
 use Rattle.ft_reference.specs.Declare.{outcome, refused_unless, declared_variable, new_variable}
 use Rattle.ft_nucleus_laws.proofs.Calls.{answers_its_row, answer_gives}
-use Rattle.ft_meaning.specs.Names.{place_of, rule_of_name}
-use Rattle.ft_meaning.specs.Values.{Value, judgement, boundary, State, Refused, stuck, pure, the, spend_from, answered, nucleus, declared, declare, the_rule}
+use Rattle.ft_equality.specs.Programs.{spend_from}
+use Rattle.ft_meaning.specs.Names.{number_of, rule_of_name}
+use Rattle.ft_meaning.specs.Values.{Value, judgement, boundary, State, Refused, stuck, pure, the, settled, answered, nucleus, after_declaration, declare, the_rule}
 use Rattle.ft_meaning.specs.Stages.{Stage}
 use Rattle.ft_meaning.specs.Values as values
 use Rattle.ft_meaning.specs.Forms.{judged, bounded, make_variable}
@@ -97,7 +98,7 @@ rule_there W r R h = go (rule_at W.rules r) refl h
     go (Some S) q e = subst (λ (z : ℕ × Rule). rule_at W.rules z.0 ≡ Some z.1) (same_Some (r, S) R e) q
 
 rule_of_name_there : (W : Store) (n : Name) (R : ℕ × Rule) → rule_of_name W n ≡ Some R → rule_at W.rules R.0 ≡ Some R.1
-rule_of_name_there W n R h = go (place_of W.names n) h
+rule_of_name_there W n R h = go (number_of W.names n) h
   where
     go : (o : Option ℕ) → option_and_then (rule_named W) o ≡ Some R → rule_at W.rules R.0 ≡ Some R.1
     go None e = none_some e
@@ -180,8 +181,8 @@ module _ (B : Stage) where
       there : IsVariable (items ++ (i ∷ [])) x
       there = subst (λ (z : Store). look_up z.variables v ≡ Some x.1) (sym (store_last empty_store items i ∙ named)) (look_new W.variables v x.1 h.next)
 
-      made : (t : State) → t.store ≡ s.store → t.rules ≡ s.rules → t.units.used ≡ suc v → (b : Bool) → is_plain_type A.statement ≡ b
-          → Kept B (ℕ × Annotation) IsVariable items (declared Refused at (outcome (refused_unless b WrongForm) t.store (add_variable t.store v n (Some A)) x).after (outcome (refused_unless b WrongForm) t.store (add_variable t.store v n (Some A)) x).answer t)
+      made : (t : State) → t.store ≡ s.store → t.equality_rules ≡ s.equality_rules → t.units.used ≡ suc v → (b : Bool) → is_plain_type A.statement ≡ b
+          → Kept B (ℕ × Annotation) IsVariable items (after_declaration Refused at (outcome (refused_unless b WrongForm) t.store (add_variable t.store v n (Some A)) x).after (outcome (refused_unless b WrongForm) t.store (add_variable t.store v n (Some A)) x).answer t)
       made t e r u true k = record {
         later = items ++ (i ∷ []);
         quiet = quiet_last items i refl;
@@ -201,6 +202,6 @@ module _ (B : Stage) where
         gives = tt;
       }
 
-      spends : (left : ℕ) → Kept B (ℕ × Annotation) IsVariable items (values.after (spend_from at v left s) (λ u. declare Refused at (λ Z. new_variable Z v n A)))
-      spends zero = record { later = items; quiet = quiet_self items; holds = h; gives = tt }
+      spends : (left : ℕ) → Kept B (ℕ × Annotation) IsVariable items (values.after (settled {A = Unit {0}} at s (spend_from v left (λ u. (Ok tt, u)))) (λ u. declare Refused at (λ Z. new_variable Z v n A)))
+      spends zero = record { later = items; quiet = quiet_self items; holds = record { list = h.list; equality = h.equality; store = h.store; next = h.next }; gives = tt }
       spends (suc left) = made (record s { units = record { used = suc v; left = left } }) refl refl refl (is_plain_type A.statement) refl

@@ -15,7 +15,7 @@ use Rattle.ft_grammar.specs.Reading.{parse}
 use Rattle.ft_grammar_laws.proofs.Readings.{source_is_read, read_is_source, never_memory, tokens_closed}
 use Rattle.ft_meaning.specs.Trees.{command_of}
 use Rattle.ft_meaning.specs.Texts.{Text}
-use Rattle.ft_meaning.specs.Sources.{Content, too_long, no_text, unexpected, too_nested, commands, greatest_length, source_tokens, IsText, Has}
+use Rattle.ft_meaning.specs.Sources.{Content, too_long, no_text, unexpected, too_nested, commands, greatest_length, source_tokens, IsText, HasContent}
 use Rattle.ft_meaning.specs.Transcript.{transcript_of}
 use Rattle.ft_meaning_laws.specs.Runs.{OneContent, OneTranscript}
 
@@ -83,7 +83,7 @@ of_text source t =
 not_utf8 : (source : Text) (n : ℕ) → IsValidUpTo source n → is_utf8 source ≡ false
 not_utf8 source n v = by_test (is_utf8 source) (λ e. absurd (v.longest (length source) v.short (subst IsUtf8 (sym (take-length source)) (IsUtf8-from_is_utf8 source e)))) (λ e. e)
 
-is_content : (source : Text) (c : Content) → Has source c → content_of source ≡ c
+is_content : (source : Text) (c : Content) → HasContent source c → content_of source ≡ c
 is_content source too_long h = ap (λ b. content_by b (is_utf8 source) (utf8_valid_len source) (parse (source_tokens source))) (lt-ltb greatest_length (length source) h)
 is_content source (no_text n) h =
     ap (λ b. content_by b (is_utf8 source) (utf8_valid_len source) (parse (source_tokens source))) (not_long (length source) h.0)
@@ -94,20 +94,20 @@ is_content source (too_nested at) h = of_text source h.0 ∙ ap read_content h.1
 is_content source (commands cs) h = of_text source h.0 ∙ ap read_content (source_is_read h.1.0 (source_tokens source) h.1.1) ∙ ap commands (sym h.1.2)
 
 -- and that one is its content
-has_content : (source : Text) → Has source (content_of source)
+has_content : (source : Text) → HasContent source (content_of source)
 has_content source = long (nat_lt greatest_length (length source)) refl
   where
-    read : IsText source → (r : Result (List Tree) SyntaxFault) → parse (source_tokens source) ≡ r → Has source (read_content r)
+    read : IsText source → (r : Result (List Tree) SyntaxFault) → parse (source_tokens source) ≡ r → HasContent source (read_content r)
     read t (Ok trees) e = (t, (trees, read_is_source trees (source_tokens source) (tokens_closed (chars source)) e, refl))
     read t (Err (Unexpected at)) e = (t, e)
     read t (Err (TooNested at)) e = (t, e)
     read t (Err Memory) e = absurd (never_memory (source_tokens source) e)
 
-    text : length source ≤ greatest_length → (b : Bool) → is_utf8 source ≡ b → Has source (content_by false b (utf8_valid_len source) (parse (source_tokens source)))
+    text : length source ≤ greatest_length → (b : Bool) → is_utf8 source ≡ b → HasContent source (content_by false b (utf8_valid_len source) (parse (source_tokens source)))
     text l true e = read (l, IsUtf8-from_is_utf8 source e) (parse (source_tokens source)) refl
     text l false e = (l, valid_up_to source e)
 
-    long : (b : Bool) → nat_lt greatest_length (length source) ≡ b → Has source (content_by b (is_utf8 source) (utf8_valid_len source) (parse (source_tokens source)))
+    long : (b : Bool) → nat_lt greatest_length (length source) ≡ b → HasContent source (content_by b (is_utf8 source) (utf8_valid_len source) (parse (source_tokens source)))
     long true e = ltb-true greatest_length (length source) e
     long false e = text (ltb-false greatest_length (length source) e) (is_utf8 source) refl
 

@@ -24,8 +24,8 @@ use Rattle.ft_equality_laws.proofs.Accepted.{flat_of}
 use Rattle.ft_equality_laws.proofs.Stores.{next_more, below_next, declared_in}
 use Rattle.ft_reference.specs.Refusals.{WrongForm}
 use Rattle.ft_meaning.specs.Stages.{Stage, equality}
-use Rattle.ft_meaning.specs.Values.{Value, judgement, none, some, State, ◌>>=◌, Refused, fails, pure}
-use Rattle.ft_meaning.specs.Forms.{settled, equation_if, compare, normalise}
+use Rattle.ft_meaning.specs.Values.{Value, judgement, none, some, State, ◌>>=◌, Refused, fails, pure, settled}
+use Rattle.ft_meaning.specs.Forms.{equation_if, compare, normalise}
 use Rattle.ft_meaning_laws.proofs.Bare.{bare}
 use Rattle.ft_meaning_laws.proofs.Grows.{quiet_self, quiet_last}
 use Rattle.ft_meaning_laws.proofs.Lists.{told_entry, sound_valid, AreAccepted, all_compute, all_compare}
@@ -129,19 +129,19 @@ module _ (B : Stage) (built : B equality ≡ true) (items : List Item) (at : ℕ
       (λ xs q N v. keeps_valid xs (record { statement = x N; set = S }) (judgement (record { statement = x N; set = S })) v (t N) (λ later m. m))
 
   pub keeps_compare : (j k : Assertion) (x y : Statement) → IsThesis items j → IsThesis items k → j.statement ≡ x → k.statement ≡ y → Keeps B Value IsMade items (compare at j k x y)
-  keeps_compare j k (plain (is_type A)) (plain (is_type C)) p q e f = keeps_answer (λ s. types_are_equal s.store s.rules A C s.units) (plain (equal_types A C)) j k refl
-      (λ s h. subst (λ z. Came s.units.used (λ b. If b (Valid (store_of items) (plain (equal_types A C)) (union j.set k.set))) (types_are_equal z s.rules A C s.units)) (sym h.store)
-      (types_valid (store_of items) h.list.well s.rules h.equality s.units h.next j.set k.set A C (says j (plain (is_type A)) p e s h) (says k (plain (is_type C)) q f s h)))
-  keeps_compare j k (plain (has_type t A)) (plain (has_type u C)) p q e f = keeps_answer (λ s. terms_are_equal s.store s.rules t A u C s.units) (plain (equal_terms t u A)) j k refl
-      (λ s h. subst (λ z. Came s.units.used (λ b. If b (Valid (store_of items) (plain (equal_terms t u A)) (union j.set k.set))) (terms_are_equal z s.rules t A u C s.units)) (sym h.store)
-      (terms_valid (store_of items) h.list.well s.rules h.equality s.units h.next j.set k.set t A u C (says j (plain (has_type t A)) p e s h) (says k (plain (has_type u C)) q f s h)))
+  keeps_compare j k (plain (is_type A)) (plain (is_type C)) p q e f = keeps_answer (λ s. types_are_equal s.store s.equality_rules A C s.units) (plain (equal_types A C)) j k refl
+      (λ s h. subst (λ z. Came s.units.used (λ b. If b (Valid (store_of items) (plain (equal_types A C)) (union j.set k.set))) (types_are_equal z s.equality_rules A C s.units)) (sym h.store)
+      (types_valid (store_of items) h.list.well s.equality_rules h.equality s.units h.next j.set k.set A C (says j (plain (is_type A)) p e s h) (says k (plain (is_type C)) q f s h)))
+  keeps_compare j k (plain (has_type t A)) (plain (has_type u C)) p q e f = keeps_answer (λ s. terms_are_equal s.store s.equality_rules t A u C s.units) (plain (equal_terms t u A)) j k refl
+      (λ s h. subst (λ z. Came s.units.used (λ b. If b (Valid (store_of items) (plain (equal_terms t u A)) (union j.set k.set))) (terms_are_equal z s.equality_rules t A u C s.units)) (sym h.store)
+      (terms_valid (store_of items) h.list.well s.equality_rules h.equality s.units h.next j.set k.set t A u C (says j (plain (has_type t A)) p e s h) (says k (plain (has_type u C)) q f s h)))
   keeps_compare j k x y p q e f = keeps_halt B Value IsMade items (fails (Refused WrongForm) at)
 
   pub keeps_normalise : (j : Assertion) (x : Statement) → IsThesis items j → j.statement ≡ x → Keeps B Value IsMade items (normalise at j x)
-  keeps_normalise j (plain (is_type A)) p e = keeps_form (λ s. normal_form s.store s.rules A s.units) (λ N. plain (equal_types A N)) j.set (λ N. refl)
-      (λ s h. subst (λ z. Came s.units.used (λ N. Valid (store_of items) (plain (equal_types A N)) j.set) (normal_form z s.rules A s.units)) (sym h.store)
-      (normal_valid (store_of items) h.list.well s.rules h.equality s.units h.next j.set type_goal A tt (says j (plain (is_type A)) p e s h)))
-  keeps_normalise j (plain (has_type t A)) p e = keeps_form (λ s. normal_form s.store s.rules t s.units) (λ u. plain (equal_terms t u A)) j.set (λ u. refl)
-      (λ s h. subst (λ z. Came s.units.used (λ u. Valid (store_of items) (plain (equal_terms t u A)) j.set) (normal_form z s.rules t s.units)) (sym h.store)
-      (normal_valid (store_of items) h.list.well s.rules h.equality s.units h.next j.set (term_goal A) t tt (says j (plain (has_type t A)) p e s h)))
+  keeps_normalise j (plain (is_type A)) p e = keeps_form (λ s. normal_form s.store s.equality_rules A s.units) (λ N. plain (equal_types A N)) j.set (λ N. refl)
+      (λ s h. subst (λ z. Came s.units.used (λ N. Valid (store_of items) (plain (equal_types A N)) j.set) (normal_form z s.equality_rules A s.units)) (sym h.store)
+      (normal_valid (store_of items) h.list.well s.equality_rules h.equality s.units h.next j.set type_goal A tt (says j (plain (is_type A)) p e s h)))
+  keeps_normalise j (plain (has_type t A)) p e = keeps_form (λ s. normal_form s.store s.equality_rules t s.units) (λ u. plain (equal_terms t u A)) j.set (λ u. refl)
+      (λ s h. subst (λ z. Came s.units.used (λ u. Valid (store_of items) (plain (equal_terms t u A)) j.set) (normal_form z s.equality_rules t s.units)) (sym h.store)
+      (normal_valid (store_of items) h.list.well s.equality_rules h.equality s.units h.next j.set (term_goal A) t tt (says j (plain (has_type t A)) p e s h)))
   keeps_normalise j x p e = keeps_halt B Value IsMade items (fails (Refused WrongForm) at)

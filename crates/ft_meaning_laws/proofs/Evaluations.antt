@@ -8,14 +8,14 @@ use Rattle.ft_reference.specs.Calls.{answer}
 use Rattle.ft_meaning.specs.Names.{named}
 use Rattle.ft_meaning.specs.Trees.{Form, let_in, if_then, match_with, handle_with, abstraction, cons_of, one, two, argument, congruence, perform, call, substitution, truth_of, unit_of, pair_of, none_of, nil_of, Forms, no_forms, and_form, Cases, no_cases, and_case, ValueCase, no_value_case, value_case, Handlers, no_handlers, and_handler, place}
 use Rattle.ft_meaning.specs.Stages.{Stage, programs, operations, word_feature, word_feature_of_two, call_feature, parts, all_parts, case_parts, value_parts, handler_parts}
-use Rattle.ft_meaning.specs.Values.{Value, judgement, unit, truth, pair, nil, cons, none, Environment, NoMatch, fails, stuck, performs, halts, Outcome, Run, ◌>>=◌, pure, end, halt, nucleus, the_rule, as_judgement, as_judgements}
+use Rattle.ft_meaning.specs.Values.{Value, judgement, unit, truth, pair, nil, cons, none, Environment, NoMatch, fails, stuck, performs, halts, Outcome, Run, ◌>>=◌, pure, end, nucleus, the_rule, as_judgement, as_judgements}
 use Rattle.ft_meaning.specs.Matching.{matches}
-use Rattle.ft_meaning.specs.Forms.{judged, fitting, make_variable, abstract_value, substitute_value, word_at, word_at_two, handled, alone, meaning, applied, substituted, first_match, of_value, of_operation}
+use Rattle.ft_meaning.specs.Forms.{judged, fitting, make_variable, abstract_value, substitute_value, word_at, word_at_two, handled, branch, value_or_rule, meaning, applied, substituted, first_match, of_value, of_operation}
 use Rattle.ft_meaning_laws.proofs.Grows.{Quiet, quiet_then}
 use Rattle.ft_meaning_laws.proofs.Built.{AllBuilt, here_built, rest_built, left_built, right_built}
 use Rattle.ft_meaning_laws.proofs.Made.{IsThesis, AllTheses, IsMade, AreMade, IfMade, ValueIsMade, thesis_later, theses_later, made_later, are_made_later, named_is_made, Kept, Keeps, keeps_bind, keeps_spending, keeps_pure, keeps_end, keeps_halt, keeps_cond, keeps_judgement, keeps_judgements}
 use Rattle.ft_meaning_laws.proofs.Calls.{Answers, keeps_nucleus, keeps_judged, named_one, each_entry, IsRule, IsVariable, rule_resolved, variable_resolved, keeps_rule, keeps_make}
-use Rattle.ft_meaning_laws.proofs.Words.{keeps_fitting, keeps_abstract, keeps_substitute, keeps_word, keeps_word_two, keeps_match}
+use Rattle.ft_meaning_laws.proofs.Words.{keeps_fitting, keeps_abstract, keeps_substitute, keeps_word, keeps_word_two, keeps_found, keeps_match}
 
 -- what stays
 pub rule_later : (xs ys : List Item) → Quiet xs ys → (r : ℕ × Rule) → IsRule xs r → IsRule ys r
@@ -30,23 +30,14 @@ theses_last items (j ∷ js) k h l = (h.0, theses_last items js k h.1 l)
 
 module _ (B : Stage) where
   -- choices
-  keeps_choice : (items : List Item) (v : Value) (m n : Run Value) → Keeps B Value IsMade items m → Keeps B Value IsMade items n
-      → Keeps B Value IsMade items (elim v as (λ _. Run Value) [ truth b ↦ elim b as (λ _. Run Value) [ true ↦ m | false ↦ n ] | _ ↦ halt stuck ])
-  keeps_choice items (truth true) m n k l = k
-  keeps_choice items (truth false) m n k l = l
-  keeps_choice items v m n k l = keeps_halt B Value IsMade items stuck
+  keeps_branch : (items : List Item) (v : Value) (m n : Run Value) → Keeps B Value IsMade items m → Keeps B Value IsMade items n → Keeps B Value IsMade items (branch v m n)
+  keeps_branch items (truth true) m n k l = k
+  keeps_branch items (truth false) m n k l = l
+  keeps_branch items v m n k l = keeps_halt B Value IsMade items stuck
 
-  keeps_found : (items : List Item) (found : Option Environment) (m : Run Value) (f : Environment → Run Value) → IfMade items found → Keeps B Value IsMade items m → ((G : Environment) → AreMade items G → Keeps B Value IsMade items (f G))
-      → Keeps B Value IsMade items (elim found as (λ _. Run Value) [ None ↦ m | Some G ↦ f G ])
-  keeps_found items None m f h k l = k
-  keeps_found items (Some G) m f h k l = l G h
-
-  keeps_alone : (items : List Item) (v : Value) (es : Forms) → IsMade items v → Keeps B Value IsMade items (alone v es)
-  keeps_alone items v no_forms h = keeps_pure B Value IsMade items v h
-  keeps_alone items v (and_form e es) h = keeps_halt B Value IsMade items stuck
-
-  keeps_named : (items : List Item) (o : Option Value) (es : Forms) (m : Run Value) → ValueIsMade items o → Keeps B Value IsMade items m → Keeps B Value IsMade items (elim o as (λ _. Run Value) [ Some v ↦ alone v es | None ↦ m ])
-  keeps_named items (Some v) es m h k = keeps_alone items v es h
+  keeps_named : (items : List Item) (o : Option Value) (es : Forms) (m : Run Value) → ValueIsMade items o → Keeps B Value IsMade items m → Keeps B Value IsMade items (value_or_rule o es m)
+  keeps_named items (Some v) no_forms m h k = keeps_pure B Value IsMade items v h
+  keeps_named items (Some v) (and_form e es) m h k = keeps_halt B Value IsMade items stuck
   keeps_named items None es m h k = k
 
   kept_handled : (items : List Item) (value : Value → Run Value) (operation : Name → Value → ℕ → Run Value) (o : Outcome Value) → Kept B Value IsMade items o
@@ -81,7 +72,7 @@ module _ (B : Stage) where
           let l : AllBuilt B (parts ns e ++ parts ns f) = left_built B _ _ k in
           keeps_spending B Value IsMade items at _ (λ xs q.
           then_value xs (meaning e G) _ (keeps_meaning e (left_built B _ _ l) xs G (are_made_later items xs q G g)) (λ ys r v m.
-          keeps_choice ys v (meaning f G) (meaning h G)
+          keeps_branch ys v (meaning f G) (meaning h G)
           (keeps_meaning f (right_built B _ _ l) ys G (are_made_later items ys (quiet_then items xs ys q r) G g))
           (keeps_meaning h (right_built B _ _ k) ys G (are_made_later items ys (quiet_then items xs ys q r) G g))))
       keeps_meaning (match_with at e cs) u items G g =
@@ -192,8 +183,8 @@ module _ (B : Stage) where
       keeps_first no_cases u items at v G h g = keeps_halt B Value IsMade items (fails NoMatch at)
       keeps_first (and_case p e cs) u items at v G h g =
           keeps_bind B (Option Environment) Value IfMade IsMade items (matches at p v G) _ (keeps_match B items at p v G h g) (λ xs q found m.
-          keeps_found xs found (first_match at cs v G) (meaning e) m (keeps_first cs (right_built B _ _ u) xs at v G (made_later items xs q v h) (are_made_later items xs q G g))
-          (λ H l. keeps_meaning e (left_built B _ _ u) xs H l))
+          keeps_found B Value IsMade xs found (meaning e) (first_match at cs v G) m (keeps_meaning e (left_built B _ _ u) xs)
+          (keeps_first cs (right_built B _ _ u) xs at v G (made_later items xs q v h) (are_made_later items xs q G g)))
 
       pub keeps_value : (c : ValueCase) → AllBuilt B (value_parts ns c) → (items : List Item) (v : Value) (G : Environment) → IsMade items v → AreMade items G → Keeps B Value IsMade items (of_value c v G)
       keeps_value no_value_case u items v G h g = keeps_pure B Value IsMade items v h

@@ -5,7 +5,8 @@ use Rattle.ft_items.specs.Item.{Name, Item}
 use Rattle.ft_items.specs.Store.{Assertion, Store, nth, add, empty_store, store_of}
 use Rattle.ft_items.specs.Good.{is_next}
 use Rattle.ft_items.proofs.Lists.{store_last}
-use Rattle.ft_meaning.specs.Values.{Value, judgement, boundary, unit, truth, pair, nil, cons, none, some, Environment, State, End, performs, halts, Halt, stuck, Outcome, Run, ◌>>=◌, ◌>>◌, pure, end, halt, the, spend_from, spend, as_judgement, as_judgements}
+use Rattle.ft_equality.specs.Programs.{spend_from}
+use Rattle.ft_meaning.specs.Values.{Value, judgement, boundary, unit, truth, pair, nil, cons, none, some, Environment, State, End, performs, halts, Halt, stuck, Outcome, Run, ◌>>=◌, ◌>>◌, pure, end, halt, the, settled, spend, as_judgement, as_judgements}
 use Rattle.ft_meaning.specs.Stages.{Stage}
 use Rattle.ft_meaning.specs.Values as values
 use Rattle.ft_meaning.specs.Names.{named}
@@ -116,16 +117,16 @@ module _ (B : Stage) where
   -- numbers of its variables.
   pub record Holds (items : List Item) (s : State) : Type 0 where
     pub list : IsSound B items
-    pub equality : AreAccepted (store_of items).rules s.rules
+    pub equality : AreAccepted (store_of items).rules s.equality_rules
     pub store : s.store ≡ bare (store_of items)
     pub next : is_next (store_of items).variables s.units.used ≡ true
 
   -- one more item, and the state with it
-  pub holds_last : (items : List Item) (i : Item) (s t : State) → Holds items s → IsSound B (items ++ (i ∷ [])) → t.rules ≡ s.rules → t.store ≡ bare (add (store_of items) i)
+  pub holds_last : (items : List Item) (i : Item) (s t : State) → Holds items s → IsSound B (items ++ (i ∷ [])) → t.equality_rules ≡ s.equality_rules → t.store ≡ bare (add (store_of items) i)
       → is_next (add (store_of items) i).variables t.units.used ≡ true → Holds (items ++ (i ∷ [])) t
   holds_last items i s t h l r e n = record {
     list = l;
-    equality = subst (AreAccepted (store_of (items ++ (i ∷ []))).rules) (sym r) (accepted_later (store_of items).rules (store_of (items ++ (i ∷ []))).rules s.rules (grows_last items i).rules h.equality);
+    equality = subst (AreAccepted (store_of (items ++ (i ∷ []))).rules) (sym r) (accepted_later (store_of items).rules (store_of (items ++ (i ∷ []))).rules s.equality_rules (grows_last items i).rules h.equality);
     store = e ∙ ap bare (sym (store_last empty_store items i));
     next = subst (λ (z : Store). is_next z.variables t.units.used ≡ true) (sym (store_last empty_store items i)) n;
   }
@@ -178,8 +179,8 @@ module _ (B : Stage) where
   pub keeps_spend : (items : List Item) (at : ℕ) → Keeps (Unit {0}) Any items (spend at)
   keeps_spend items at s h = go s.units.left
     where
-      go : (left : ℕ) → Kept (Unit {0}) Any items (spend_from at s.units.used left s)
-      go zero = record { later = items; quiet = quiet_self items; holds = h; gives = tt }
+      go : (left : ℕ) → Kept (Unit {0}) Any items (settled at s (spend_from s.units.used left (λ u. (Ok tt, u))))
+      go zero = record { later = items; quiet = quiet_self items; holds = record { list = h.list; equality = h.equality; store = h.store; next = h.next }; gives = tt }
       go (suc left) = record {
         later = items;
         quiet = quiet_self items;

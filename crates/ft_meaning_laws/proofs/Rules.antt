@@ -18,9 +18,9 @@ use Rattle.ft_nucleus_laws.specs.Laws.{numbers, IsDraft}
 use Rattle.ft_nucleus_laws.proofs.Declaring.{map_none, drafts_grow}
 use Rattle.ft_meaning.specs.Trees.{Form, Binder, Body, type_body, term_body, types_body, terms_body, Premise}
 use Rattle.ft_meaning.specs.Stages.{Stage, applications, programs, parts, binder_parts, body_parts, rule_parts}
-use Rattle.ft_meaning.specs.Values.{Value, judgement, Environment, OfRule, nucleus, declared, declare, as_judgement}
+use Rattle.ft_meaning.specs.Values.{Value, judgement, Environment, OfRule, nucleus, after_declaration, declare, as_judgement}
 use Rattle.ft_meaning.specs.Forms.{meaning, judgement_of, make_variable}
-use Rattle.ft_meaning.specs.Commands.{Bound, bind_all, boundary_by, abstract_all, declared_premise, add_premise, declare_premises}
+use Rattle.ft_meaning.specs.Commands.{Bound, bind_all, boundary_by, abstract_all, after_premise, add_premise, declare_premises}
 use Rattle.ft_meaning_laws.proofs.Bare.{bare}
 use Rattle.ft_meaning_laws.proofs.Grows.{as_before, Quiet, quiet_self, quiet_then, quiet_last}
 use Rattle.ft_meaning_laws.proofs.Lists.{sound_last}
@@ -48,11 +48,11 @@ plain_terms x y z w e = none_some e
 -- variables of a premise
 abbrev pub AllBound : List Item → List Bound → Type 0
 AllBound items [] = Unit {0}
-AllBound items (x ∷ xs) = IsVariable items x.1 × AllBound items xs
+AllBound items (x ∷ xs) = IsVariable items x.variable × AllBound items xs
 
 all_bound_later : (xs ys : List Item) → Quiet xs ys → (vs : List Bound) → AllBound xs vs → AllBound ys vs
 all_bound_later xs ys q [] h = tt
-all_bound_later xs ys q (v ∷ vs) h = (variable_later xs ys q v.1 h.0, all_bound_later xs ys q vs h.1)
+all_bound_later xs ys q (v ∷ vs) h = (variable_later xs ys q v.variable h.0, all_bound_later xs ys q vs h.1)
 
 abbrev pub AreBound : List Item → Environment × List Bound → Type 0
 AreBound items p = AreMade items p.0 × AllBound items p.1
@@ -119,7 +119,7 @@ module _ (B : Stage) where
       Added X Z = (nth X.metavariables (length Z.metavariables) ≡ Some (declared_metavariable n b)) × IsDraft X (with_more Z)
 
       go : (o : Option RuleFault) → option_map (OpenPremise (suc (length d.premises))) (first_outside (atoms d.premises) b.set) ≡ o
-          → Kept B ((ℕ × Declared) × Draft) (PremiseAdded name) items (declared_premise at (done o s.store) s)
+          → Kept B ((ℕ × Declared) × Draft) (PremiseAdded name) items (after_premise at (done o s.store) s)
       go None e =
           let grown : IsDraft (premise W d n b).after.0 (premise W d n b).after.1 = drafts_grow.1 W d n b (next_metavariable W n b) i.0 (ap (λ z. (done z W).answer) e) in
           let here : Added (add_metavariable W n (Some b)) W = (nth_end W.metavariables (declared_metavariable n b), subst (λ z. IsDraft (done z W).after.0 (done z W).after.1) e grown) in
@@ -138,7 +138,7 @@ module _ (B : Stage) where
   pub keeps_begin : (items : List Item) (at : ℕ) (n : Name) → Keeps B Draft (HasDraft n) items (declare OfRule at (λ W. begin W n))
   keeps_begin items at n s h = go (name_fault s.store n)
     where
-      go : (o : Option RuleFault) → Kept B Draft (HasDraft n) items (declared OfRule at (outcome {A = Draft} o s.store s.store (record { name = n; premises = [] })).after (outcome {A = Draft} o s.store s.store (record { name = n; premises = [] })).answer s)
+      go : (o : Option RuleFault) → Kept B Draft (HasDraft n) items (after_declaration OfRule at (outcome {A = Draft} o s.store s.store (record { name = n; premises = [] })).after (outcome {A = Draft} o s.store s.store (record { name = n; premises = [] })).answer s)
       go None = record { later = items; quiet = quiet_self items; holds = record { list = h.list; equality = h.equality; store = h.store; next = h.next }; gives = (record { named = refl; different = refl; ordered = refl }, refl) }
       go (Some e) = record { later = items; quiet = quiet_self items; holds = h; gives = tt }
 
@@ -153,7 +153,7 @@ module _ (B : Stage) where
       keeps_bind B (ℕ × Annotation) (Environment × List Bound) IsVariable AreBound xs (make_variable b.name.at b.name.name A) _ (keeps_make B xs b.name.at b.name.name A a.0) (λ ys r x i.
       keeps_bind B Assertion (Environment × List Bound) (Answers (by_var x)) AreBound ys (nucleus b.name.at (λ W. answer W (by_var x))) _ (keeps_nucleus B ys b.name.at (by_var x) (by_var x.0, ap (with_one by_var) (variable_resolved ys x i))) (λ zs t j p.
       let here : Quiet items zs = quiet_then items xs zs q (quiet_then xs ys zs r t) in
-      keeps_binders ns bs (right_built B _ _ k) zs ((b.name.name, judgement j) ∷ G) ((b.name.at, x) ∷ vs) (p, are_made_later items zs here G g) (variable_later ys zs t x i, all_bound_later items zs here vs h))))
+      keeps_binders ns bs (right_built B _ _ k) zs ((b.name.name, judgement j) ∷ G) (record { at = b.name.at; variable = x } ∷ vs) (p, are_made_later items zs here G g) (variable_later ys zs t x i, all_bound_later items zs here vs h))))
 
   pub keeps_boundary : (ns : List Name) (at : ℕ) (b : Body) → AllBuilt B (body_parts ns at b) → (items : List Item) (G : Environment) → AreMade items G → Keeps B Assertion IsPlainBoundary items (boundary_by at b G)
   keeps_boundary ns at type_body u items G g = keeps_former items at by_btype (by_btype, refl) refl (λ x e. ap is_plain (sym (same_Some _ x e)))
@@ -179,8 +179,8 @@ module _ (B : Stage) where
   keeps_abstract_all : (vs : List Bound) (items : List Item) (b : Assertion) → AllBound items vs → IsBoundary items b → Keeps B Assertion IsBoundary items (abstract_all vs b)
   keeps_abstract_all [] items b h k = keeps_pure B Assertion IsBoundary items b k
   keeps_abstract_all (x ∷ vs) items b h k =
-      keeps_bind B Assertion Assertion (Answers (by_abs x.1 b)) IsBoundary items (nucleus x.0 (λ W. answer W (by_abs x.1 b))) (abstract_all vs)
-      (keeps_nucleus B items x.0 (by_abs x.1 b) (by_abs x.1.0 k.0.0, ap₂ (with_two by_abs) (variable_resolved items x.1 h.0) k.0.1)) (λ xs q c p.
+      keeps_bind B Assertion Assertion (Answers (by_abs x.variable b)) IsBoundary items (nucleus x.at (λ W. answer W (by_abs x.variable b))) (abstract_all vs)
+      (keeps_nucleus B items x.at (by_abs x.variable b) (by_abs x.variable.0 k.0.0, ap₂ (with_two by_abs) (variable_resolved items x.variable h.0) k.0.1)) (λ xs q c p.
       keeps_abstract_all vs xs c (all_bound_later items xs q vs h.1) (p.0, p.1 ∙ k.1))
 
   pub keeps_premises : (name : Name) (ns : List Name) (ps : List Premise) (c_at : ℕ) (body : Body) → AllBuilt B (rule_parts ns ps c_at body) → (items : List Item) (d : Draft) (G : Environment) → HasDraft name items d → AreMade items G → Keeps B (Draft × Environment) (DraftMade name) items (declare_premises ps d G)

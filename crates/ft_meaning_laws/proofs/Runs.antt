@@ -13,13 +13,13 @@ use Rattle.ft_nucleus_laws.specs.Laws.{drafted}
 use Rattle.ft_nucleus_laws.proofs.Declaring.{finishes_allowed}
 use Rattle.ft_meaning.specs.Trees.{Body, Premise, Command, rule_command, let_command, operation_command, computation_command, extensionality_command, show_command}
 use Rattle.ft_meaning.specs.Stages.{Stage, applications, programs, body_parts, rule_parts, command_parts}
-use Rattle.ft_meaning.specs.Values.{Value, judgement, boundary, unit, truth, pair, nil, cons, none, some, Environment, OfRule, State, End, performs, halts, Halt, stuck, Outcome, Run, ◌>>=◌, ◌>>◌, pure, declared, declare, the_rule, as_judgement, as_judgements}
+use Rattle.ft_meaning.specs.Values.{Value, judgement, boundary, unit, truth, pair, nil, cons, none, some, Environment, OfRule, State, End, performs, halts, Halt, stuck, Outcome, Run, ◌>>=◌, ◌>>◌, pure, after_declaration, declare, the_rule, as_judgement, as_judgements}
 use Rattle.ft_meaning.specs.Values as values
 use Rattle.ft_meaning.specs.Forms.{meaning}
 use Rattle.ft_meaning.specs.Commands as commands
 use Rattle.ft_grammar.specs.declared.syntax.Named.{Named}
 use Rattle.ft_equality.specs.Shapes.{ShapeFault, EqualityRules, add_computation, add_extensionality}
-use Rattle.ft_meaning.specs.Commands.{shaped, declare_equality, boundary_by, declare_premises, declare_rule, Done, Accepted, One, Many, Nothing, Quiet, done, ended, run_command}
+use Rattle.ft_meaning.specs.Commands.{shaped, declare_equality, boundary_by, declare_premises, declare_rule, Done, Accepted, ShownNone, Quiet, done, ended, run_command}
 use Rattle.ft_meaning.specs.Events.{Event, shows, EachShown, events_of, shown_in, IsDerivable, Shown, Told, declares, states, told_by_event, told_rule, told_shown, told_from}
 use Rattle.ft_meaning_laws.specs.Derivability.{HasContext}
 use Rattle.ft_meaning_laws.proofs.Bare.{bare, sequent_bare, derivable_bare, members_bare}
@@ -58,9 +58,8 @@ NamesMade items (Err e) = Unit {0}
 -- what is shown of a list
 abbrev DoneMade : List Item → Done → Type 0
 DoneMade items (Accepted n R) = ⊥
-DoneMade items (One j) = IsThesis items j
-DoneMade items (Many js) = AllTheses items js
-DoneMade items Nothing = Unit {0}
+DoneMade items (commands.Shown js) = AllTheses items js
+DoneMade items ShownNone = Unit {0}
 DoneMade items Quiet = Unit {0}
 
 abbrev CommandMade : List Item → Done × Environment → Type 0
@@ -120,7 +119,7 @@ module _ (B : Stage) where
       named : add W item ≡ made W
       named = ap₂ (add_rule W d.name) i.0.named k.0.0.1
 
-      go : (o : Option RuleFault) → fault s.store ≡ o → RuleRan n items (values.after (declared OfRule at (result o s.store).after (result o s.store).answer s) (λ S. pure S.1))
+      go : (o : Option RuleFault) → fault s.store ≡ o → RuleRan n items (values.after (after_declaration OfRule at (result o s.store).after (result o s.store).answer s) (λ S. pure S.1))
       go None e =
           let none : fault W ≡ None = subst (λ z. fault z ≡ None) h.store e in
           let okay : (finish W d b).answer ≡ Ok (next_rule W d.premises b) = ap (λ z. (result z W).answer) none in
@@ -179,33 +178,30 @@ module _ (B : Stage) where
 
   quiet_ran : (items : List Item) (o : Outcome (Done × Environment)) → Kept B (Done × Environment) CommandMade items o → CommandRan End items o
   quiet_ran items (Ok (Accepted n R, G), s) k = absurd k.gives.0
-  quiet_ran items (Ok (One j, G), s) k =
-      let m : Longer k.later s (map told_by_event (shows s.store j ∷ [])) × EachShown IsWell (shown_in (shows s.store j ∷ [])) = mark (j ∷ []) k.later s k.holds (k.gives.0, tt) in
-      record { longer = longer_then items s s [] (map told_by_event (shows s.store j ∷ [])) (longer_quiet _ CommandMade items _ k) m.0; names = are_made_grown k.later m.0.later m.0.grows G k.gives.1; derivable = m.1 }
-  quiet_ran items (Ok (Many js, G), s) k =
+  quiet_ran items (Ok (commands.Shown js, G), s) k =
       let m : Longer k.later s (map told_by_event (map (shows s.store) js)) × EachShown IsWell (shown_in (map (shows s.store) js)) = mark js k.later s k.holds k.gives.0 in
       record { longer = longer_then items s s [] (map told_by_event (map (shows s.store) js)) (longer_quiet _ CommandMade items _ k) m.0; names = are_made_grown k.later m.0.later m.0.grows G k.gives.1; derivable = m.1 }
-  quiet_ran items (Ok (Nothing, G), s) k = record { longer = longer_quiet _ CommandMade items _ k; names = k.gives.1; derivable = tt }
+  quiet_ran items (Ok (ShownNone, G), s) k = record { longer = longer_quiet _ CommandMade items _ k; names = k.gives.1; derivable = tt }
   quiet_ran items (Ok (Quiet, G), s) k = record { longer = longer_quiet _ CommandMade items _ k; names = k.gives.1; derivable = tt }
   quiet_ran items (Err e, s) k = record { longer = longer_quiet _ CommandMade items _ k; names = tt; derivable = tt }
 
   -- what a value shows
   keeps_shown : (items : List Item) (v : Value) → IsMade items v → Keeps B Done DoneMade items (commands.shown v)
-  keeps_shown items (judgement j) h = keeps_pure B Done DoneMade items (One j) h
-  keeps_shown items (some v) h = keeps_bind B Assertion Done IsThesis DoneMade items (as_judgement v) (λ j. pure (One j)) (keeps_judgement B items v h) (λ xs q j p. keeps_pure B Done DoneMade xs (One j) p)
-  keeps_shown items none h = keeps_pure B Done DoneMade items Nothing tt
-  keeps_shown items nil h = keeps_pure B Done DoneMade items (Many []) tt
-  keeps_shown items (cons v w) h = keeps_bind B (List Assertion) Done AllTheses DoneMade items (as_judgements (cons v w)) (λ js. pure (Many js)) (keeps_judgements B items (cons v w) h) (λ xs q js p. keeps_pure B Done DoneMade xs (Many js) p)
+  keeps_shown items (judgement j) h = keeps_pure B Done DoneMade items (commands.Shown (j ∷ [])) (h, tt)
+  keeps_shown items (some v) h = keeps_bind B Assertion Done IsThesis DoneMade items (as_judgement v) (λ j. pure (commands.Shown (j ∷ []))) (keeps_judgement B items v h) (λ xs q j p. keeps_pure B Done DoneMade xs (commands.Shown (j ∷ [])) (p, tt))
+  keeps_shown items none h = keeps_pure B Done DoneMade items ShownNone tt
+  keeps_shown items nil h = keeps_pure B Done DoneMade items (commands.Shown []) tt
+  keeps_shown items (cons v w) h = keeps_bind B (List Assertion) Done AllTheses DoneMade items (as_judgements (cons v w)) (λ js. pure (commands.Shown js)) (keeps_judgements B items (cons v w) h) (λ xs q js p. keeps_pure B Done DoneMade xs (commands.Shown js) p)
   keeps_shown items v h = keeps_halt B Done DoneMade items stuck
 
   -- an equality rule
   keeps_equality : (items : List Item) (add : EqualityRules → ℕ → Rule → Result EqualityRules ShapeFault) (n : Named)
       → ((T : List Rule) (E D : EqualityRules) (r : ℕ) (R : Rule) → rule_at T r ≡ Some R → add E r R ≡ Ok D → AreAccepted T E → AreAccepted T D) → Keeps B (Unit {0}) Any items (declare_equality add n)
-  keeps_equality items add n f = keeps_bind B (ℕ × Rule) (Unit {0}) IsRule Any items (the_rule n.name) (λ r s. shaped n.at (add s.rules r.0 r.1) s) (keeps_rule B items n.name)
-      (λ xs q r k s h. go xs r k s h (add s.rules r.0 r.1) refl)
+  keeps_equality items add n f = keeps_bind B (ℕ × Rule) (Unit {0}) IsRule Any items (the_rule n.name) (λ r s. shaped n.at (add s.equality_rules r.0 r.1) s) (keeps_rule B items n.name)
+      (λ xs q r k s h. go xs r k s h (add s.equality_rules r.0 r.1) refl)
     where
-      go : (xs : List Item) (r : ℕ × Rule) → IsRule xs r → (s : State) → Holds B xs s → (o : Result EqualityRules ShapeFault) → add s.rules r.0 r.1 ≡ o → Kept B (Unit {0}) Any xs (shaped n.at o s)
-      go xs r k s h (Ok D) e = record { later = xs; quiet = quiet_self xs; holds = record { list = h.list; equality = f (store_of xs).rules s.rules D r.0 r.1 k e h.equality; store = h.store; next = h.next }; gives = tt }
+      go : (xs : List Item) (r : ℕ × Rule) → IsRule xs r → (s : State) → Holds B xs s → (o : Result EqualityRules ShapeFault) → add s.equality_rules r.0 r.1 ≡ o → Kept B (Unit {0}) Any xs (shaped n.at o s)
+      go xs r k s h (Ok D) e = record { later = xs; quiet = quiet_self xs; holds = record { list = h.list; equality = f (store_of xs).rules s.equality_rules D r.0 r.1 k e h.equality; store = h.store; next = h.next }; gives = tt }
       go xs r k s h (Err x) e = record { later = xs; quiet = quiet_self xs; holds = h; gives = tt }
 
   -- an operation that no case took

@@ -23,7 +23,7 @@ use Rattle.ft_meaning.specs.Typing.{Scope, with_value, wanted, ensure_new, type_
 use Rattle.ft_meaning.specs.CommandTyping.{is_judgement, binders_scope, body_typed, premise_typed, premises_scope, makes_symbol}
 use Rattle.ft_meaning.specs.Values.{Value, judgement, Environment, OfRule, fails, halts, nucleus, as_judgement}
 use Rattle.ft_meaning.specs.Forms.{meaning, judgement_of, make_variable}
-use Rattle.ft_meaning.specs.Commands.{Bound, bind_all, boundary_by, abstract_all, declared_premise, add_premise, declare_premises}
+use Rattle.ft_meaning.specs.Commands.{Bound, bind_all, boundary_by, abstract_all, after_premise, add_premise, declare_premises}
 use Rattle.ft_meaning_laws.specs.Fits.{HasType, HaveTypes, CanCoerce}
 use Rattle.ft_meaning_laws.proofs.Typed.{ground, Safe, IsSafe, Any, safe_here, safe_bind, safe_pure, safe_asked, safe_nucleus, safe_make, safe_judgement, ok_then, ok_both, wanted_is}
 use Rattle.ft_meaning_laws.proofs.SafeWords.{Of}
@@ -50,7 +50,7 @@ safe_binders (b ∷ bs) sc inner u G xs g c =
     safe_bind Assertion (Environment × List Bound) (ground sc) Any (BindersTyped inner) (judgement_of b.domain G) _ (safe_judgement_of b.domain sc k.0.0 k.0.1 G g c) (λ A p.
     safe_bind (ℕ × Annotation) (Environment × List Bound) (ground sc) Any (BindersTyped inner) (make_variable b.name.at b.name.name A) _ (safe_make (ground sc) b.name.at b.name.name A) (λ x q.
     safe_bind Assertion (Environment × List Bound) (ground sc) Any (BindersTyped inner) (nucleus b.name.at (λ W. reference.variable W x)) _ (safe_nucleus (ground sc) b.name.at (λ W. reference.variable W x)) (λ j r.
-    safe_binders bs (with_value b.name.name type.judgement sc) inner k.1 ((b.name.name, judgement j) ∷ G) ((b.name.at, x) ∷ xs) (refl, tt, g) c)))
+    safe_binders bs (with_value b.name.name type.judgement sc) inner k.1 ((b.name.name, judgement j) ∷ G) (record { at = b.name.at; variable = x } ∷ xs) (refl, tt, g) c)))
 
 -- what a call answers is what its row concludes
 answered_is : (o : Option Refusal) (p : Option Assertion) (a : Assertion) → answered o p ≡ Ok a → p ≡ Some a
@@ -119,7 +119,7 @@ premise_body n before (terms_body e f h) sc x u = (ok_both (body_typed (terms_bo
 
 safe_abstract_all : (sc : Scope) (xs : List Bound) (b : Assertion) → IsSafe Assertion sc Any (abstract_all xs b)
 safe_abstract_all sc [] b = safe_pure Assertion sc Any b tt
-safe_abstract_all sc (x ∷ xs) b = safe_bind Assertion Assertion sc Any Any (nucleus x.0 (λ W. reference.abstract_variable W x.1 b)) (abstract_all xs) (safe_nucleus sc x.0 (λ W. reference.abstract_variable W x.1 b)) (λ c p. safe_abstract_all sc xs c)
+safe_abstract_all sc (x ∷ xs) b = safe_bind Assertion Assertion sc Any Any (nucleus x.at (λ W. reference.abstract_variable W x.variable b)) (abstract_all xs) (safe_nucleus sc x.at (λ W. reference.abstract_variable W x.variable b)) (λ c p. safe_abstract_all sc xs c)
 
 -- a premise is added
 abbrev pub OneMore : Draft → (ℕ × Declared) × Draft → Type 0
@@ -137,7 +137,7 @@ safe_premise sc at d n b s f = go (option_map (OpenPremise (suc (length d.premis
     more : length (d.premises ++ (M ∷ [])) ≡ suc (length d.premises)
     more = length-append d.premises (M ∷ []) ∙ omega arith
 
-    go : (o : Option RuleFault) → Safe ((ℕ × Declared) × Draft) sc (OneMore d) s (declared_premise at (result o) s)
+    go : (o : Option RuleFault) → Safe ((ℕ × Declared) × Draft) sc (OneMore d) s (after_premise at (result o) s)
     go None = record { names = refl; rules = refl; units = f.units; allows = (refl, more) }
     go (Some w) = safe_here ((ℕ × Declared) × Draft) sc (OneMore d) s f (Err (halts (fails (OfRule w) at))) tt
 

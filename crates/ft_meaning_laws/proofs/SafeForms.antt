@@ -14,28 +14,22 @@ use Rattle.ft_meaning.specs.Names.{named}
 use Rattle.ft_meaning.specs.Trees.{ValueType, Form, let_in, if_then, match_with, handle_with, abstraction, cons_of, one, two, argument, congruence, perform, call, substitution, truth_of, unit_of, pair_of, none_of, nil_of, Forms, no_forms, and_form, Cases, no_cases, and_case, ValueCase, no_value_case, value_case, Handlers, no_handlers, and_handler, place}
 use Rattle.ft_meaning.specs.Trees as type
 use Rattle.ft_meaning.specs.Typing.{TypeFault, fault_at, Arity, RuleType, Scope, with_value, meant_by, wanted, either_wanted, ensure_arity, ensure_new, Bindings, bindings, case_scope, word_type, first_wanted, word_type_of_two, form_count, type_of, are_judgements, type_of_cases, cases_have, type_of_value, handlers_have}
-use Rattle.ft_meaning.specs.Values.{Value, judgement, unit, truth, pair, nil, cons, none, Environment, NoMatch, State, fails, stuck, performs, halts, Outcome, Run, ◌>>=◌, pure, halt, nucleus, the_rule, as_judgement, as_judgements}
+use Rattle.ft_meaning.specs.Values.{Value, judgement, unit, truth, pair, nil, cons, none, Environment, NoMatch, State, fails, performs, halts, Outcome, Run, ◌>>=◌, pure, nucleus, the_rule, as_judgement, as_judgements}
 use Rattle.ft_meaning.specs.Matching.{matches}
-use Rattle.ft_meaning.specs.Forms.{judged, fitting, make_variable, abstract_value, substitute_value, word_at, word_at_two, handled, alone, meaning, applied, substituted, first_match, of_value, of_operation}
+use Rattle.ft_meaning.specs.Forms.{judged, fitting, make_variable, abstract_value, substitute_value, word_at, word_at_two, handled, branch, value_or_rule, meaning, applied, substituted, first_match, of_value, of_operation}
 use Rattle.ft_meaning_laws.specs.Fits.{HasType, HaveTypes, CanCoerce}
 use Rattle.ft_meaning_laws.proofs.Typed.{ground, Safe, IsSafe, Ready, Any, safe_later, ready_after, safe_bind, safe_pure, safe_end, safe_halt, safe_cond_when, same_operation, suc_zero, fault, safe_spending, safe_nucleus, safe_rule, safe_make, safe_judgement, safe_judgements, NamedHasType, named_has_type, okay, ok_then, ok_both, not_ok, wanted_is, meant_is}
-use Rattle.ft_meaning_laws.proofs.SafeWords.{Of, as_type, safe_judged, safe_fitting, either_is, safe_abstract, safe_substitute, safe_word, safe_word_two, IfTyped, Found, safe_match}
+use Rattle.ft_meaning_laws.proofs.SafeWords.{Of, as_type, safe_judged, safe_fitting, either_is, safe_abstract, safe_substitute, safe_word, safe_word_two, Found, safe_found, safe_match}
 
 -- choices
-safe_choice : (sc : Scope) (P : Value → Type 0) (v : Value) (m n : Run Value) → HasType v type.bool → IsSafe Value sc P m → IsSafe Value sc P n
-    → IsSafe Value sc P (elim v as (λ _. Run Value) [ truth b ↦ elim b as (λ _. Run Value) [ true ↦ m | false ↦ n ] | _ ↦ halt stuck ])
-safe_choice sc P (truth true) m n h k l = k
-safe_choice sc P (truth false) m n h k l = l
-safe_choice sc P v m n h k l = absurd h
+safe_branch : (sc : Scope) (P : Value → Type 0) (v : Value) (m n : Run Value) → HasType v type.bool → IsSafe Value sc P m → IsSafe Value sc P n → IsSafe Value sc P (branch v m n)
+safe_branch sc P (truth true) m n h k l = k
+safe_branch sc P (truth false) m n h k l = l
+safe_branch sc P v m n h k l = absurd h
 
-safe_found : (sc : Scope) (P : Value → Type 0) (vs : List (Name × ValueType)) (found : Option Environment) (m : Run Value) (f : Environment → Run Value) → IfTyped vs found → IsSafe Value sc P m → ((G : Environment) → HaveTypes G vs → IsSafe Value sc P (f G))
-    → IsSafe Value sc P (elim found as (λ _. Run Value) [ None ↦ m | Some G ↦ f G ])
-safe_found sc P vs None m f h k l = k
-safe_found sc P vs (Some G) m f h k l = l G h
-
-safe_alone : (sc : Scope) (v : Value) (A C : ValueType) (n : Named) (es : Forms) → HasType v A → results.◌>>◌ (ensure_arity n zero (form_count es)) (okay A) ≡ okay C → IsSafe Value sc (Of C) (alone v es)
-safe_alone sc v A C n no_forms h u = as_type sc A C (pure v) u (safe_pure Value sc (Of A) v h)
-safe_alone sc v A C n (and_form e es) h u = not_ok _ C (sym (refuse (nat_eq (suc (form_count es)) zero) (suc_zero (form_count es))) ∙ u)
+safe_alone : (sc : Scope) (v : Value) (A C : ValueType) (n : Named) (es : Forms) (m : Run Value) → HasType v A → results.◌>>◌ (ensure_arity n zero (form_count es)) (okay A) ≡ okay C → IsSafe Value sc (Of C) (value_or_rule (Some v) es m)
+safe_alone sc v A C n no_forms m h u = as_type sc A C (pure v) u (safe_pure Value sc (Of A) v h)
+safe_alone sc v A C n (and_form e es) m h u = not_ok _ C (sym (refuse (nat_eq (suc (form_count es)) zero) (suc_zero (form_count es))) ∙ u)
   where
     refuse : (b : Bool) → b ≡ false → results.◌>>◌ (results.ensure b (fault_at n.at (Arity n.name zero (suc (form_count es))))) (okay A) ≡ fault (fault_at n.at (Arity n.name zero (suc (form_count es))))
     refuse true e = true_false e
@@ -65,8 +59,8 @@ safe_named : (gr sc : Scope) (C : ValueType) (x : Named) (es : Forms) (o : Optio
       | None ↦ results.◌>>=◌ (meant_by sc.rules x) (λ r. results.◌>>◌ (results.◌>>◌ (ensure_arity x r.premises (form_count es)) (are_judgements es sc)) (Ok type.judgement))
     ] ≡ Ok C → (m : Run Value)
     → (((r : RuleType) × (named sc.rules x.name ≡ Some r)) × ((y : Unit {0}) × (are_judgements es sc ≡ Ok y)) × (okay type.judgement ≡ okay C) → IsSafe Value gr (Of C) m)
-    → IsSafe Value gr (Of C) (elim o as (λ _. Run Value) [ Some v ↦ alone v es | None ↦ m ])
-safe_named gr sc C x es (Some v) (Some A) h u m f = safe_alone gr v A C x es h u
+    → IsSafe Value gr (Of C) (value_or_rule o es m)
+safe_named gr sc C x es (Some v) (Some A) h u m f = safe_alone gr v A C x es m h u
 safe_named gr sc C x es None None h u m f =
     let r : (r : RuleType) × ((meant_by sc.rules x ≡ Ok r) × (_ ≡ Ok C)) = ok_then (meant_by sc.rules x) _ C u in
     let k : ((y : Unit {0}) × (results.◌>>◌ (ensure_arity x r.0.premises (form_count es)) (are_judgements es sc) ≡ Ok y)) × (okay type.judgement ≡ okay C) = ok_both (results.◌>>◌ (ensure_arity x r.0.premises (form_count es)) (are_judgements es sc)) (okay type.judgement) C r.1.1 in
@@ -88,7 +82,7 @@ mutual
       let n : (D : ValueType) × ((type_of h sc ≡ Ok D) × (_ ≡ Ok C)) = ok_then (type_of h sc) _ C m.1.1 in
       let o : ((x : Unit {0}) × (wanted (place h) m.0 n.0 ≡ Ok x)) × (okay m.0 ≡ okay C) = ok_both (wanted (place h) m.0 n.0) _ C n.1.1 in
       safe_spending Value (ground sc) (Of C) at _ (then_value (ground sc) k.0 C (meaning e G) _ (safe_meaning e sc G k.0 k.1.0 g c) (λ v p.
-      safe_choice (ground sc) (Of C) v (meaning f G) (meaning h G) (subst (HasType v) (wanted_is (place e) type.bool k.0 l.0.0 l.0.1) p)
+      safe_branch (ground sc) (Of C) v (meaning f G) (meaning h G) (subst (HasType v) (wanted_is (place e) type.bool k.0 l.0.0 l.0.1) p)
       (as_type (ground sc) m.0 C (meaning f G) o.1 (safe_meaning f sc G m.0 m.1.0 g c))
       (as_type (ground sc) m.0 C (meaning h G) o.1 (subst (λ z. IsSafe Value (ground sc) (Of z) (meaning h G)) (wanted_is (place h) m.0 n.0 o.0.0 o.0.1) (safe_meaning h sc G n.0 n.1.0 g c)))))
   safe_meaning (match_with at e cs) sc G C u g c =
@@ -207,8 +201,9 @@ mutual
       let l : ((x : Unit {0}) × (cases_have cs A k.0 sc ≡ Ok x)) × (okay k.0 ≡ okay C) = ok_both (cases_have cs A k.0 sc) _ C k.1.1 in
       as_type (ground sc) k.0 C (first_match at (and_case p e cs) v G) l.1
       (safe_bind (Option Environment) Value (ground sc) (Found sc b.0) (Of k.0) (matches at p v G) _ (safe_match sc at p A [] b.0 v G b.1.0 h g) (λ found m.
-      safe_found (ground sc) (Of k.0) (b.0 ++ sc.values) found (first_match at cs v G) (meaning e) m (safe_further cs sc A k.0 l.0.0 l.0.1 at v G h g c)
-      (λ H n. safe_meaning e (record sc { values = b.0 ++ sc.values }) H k.0 (ap (type_of e) (ok_ok _ i.0 b.1.1) ∙ k.1.0) n c)))
+      safe_found Value (ground sc) (Of k.0) (b.0 ++ sc.values) found (meaning e) (first_match at cs v G) m
+      (λ H n. safe_meaning e (record sc { values = b.0 ++ sc.values }) H k.0 (ap (type_of e) (ok_ok _ i.0 b.1.1) ∙ k.1.0) n c)
+      (safe_further cs sc A k.0 l.0.0 l.0.1 at v G h g c)))
 
   safe_further : (cs : Cases) (sc : Scope) (A B : ValueType) (x : Unit {0}) → cases_have cs A B sc ≡ Ok x → (at : ℕ) (v : Value) (G : Environment) → HasType v A → HaveTypes G sc.values → CanCoerce (ground sc) → IsSafe Value (ground sc) (Of B) (first_match at cs v G)
   safe_further no_cases sc A B x u at v G h g c = safe_halt Value (ground sc) (Of B) (fails NoMatch at) tt
@@ -218,8 +213,9 @@ mutual
       let k : (D : ValueType) × ((type_of e i.0 ≡ Ok D) × (_ ≡ Ok x)) = ok_then (type_of e i.0) _ x i.1.1 in
       let l : ((y : Unit {0}) × (wanted (place e) B k.0 ≡ Ok y)) × (cases_have cs A B sc ≡ Ok x) = ok_both (wanted (place e) B k.0) _ x k.1.1 in
       safe_bind (Option Environment) Value (ground sc) (Found sc b.0) (Of B) (matches at p v G) _ (safe_match sc at p A [] b.0 v G b.1.0 h g) (λ found m.
-      safe_found (ground sc) (Of B) (b.0 ++ sc.values) found (first_match at cs v G) (meaning e) m (safe_further cs sc A B x l.1 at v G h g c)
-      (λ H n. subst (λ z. IsSafe Value (ground sc) (Of z) (meaning e H)) (wanted_is (place e) B k.0 l.0.0 l.0.1) (safe_meaning e (record sc { values = b.0 ++ sc.values }) H k.0 (ap (type_of e) (ok_ok _ i.0 b.1.1) ∙ k.1.0) n c)))
+      safe_found Value (ground sc) (Of B) (b.0 ++ sc.values) found (meaning e) (first_match at cs v G) m
+      (λ H n. subst (λ z. IsSafe Value (ground sc) (Of z) (meaning e H)) (wanted_is (place e) B k.0 l.0.0 l.0.1) (safe_meaning e (record sc { values = b.0 ++ sc.values }) H k.0 (ap (type_of e) (ok_ok _ i.0 b.1.1) ∙ k.1.0) n c))
+      (safe_further cs sc A B x l.1 at v G h g c))
 
   safe_value : (d : ValueCase) (sc : Scope) (A B : ValueType) → type_of_value d A sc ≡ Ok B → (v : Value) (G : Environment) → HasType v A → HaveTypes G sc.values → CanCoerce (ground sc) → IsSafe Value (ground sc) (Of B) (of_value d v G)
   safe_value no_value_case sc A B u v G h g c = as_type (ground sc) A B (pure v) u (safe_pure Value (ground sc) (Of A) v h)

@@ -15,36 +15,36 @@ use Rattle.ft_items.proofs.Names.{same_name}
 use Rattle.ft_reference.specs.Declare.{Outcome as Declaration, outcome, first_of, refused_unless, RuleFault, Duplicate, OpenConclusion, Draft, name_fault, first_outside, begin, next_rule, finish}
 use Rattle.ft_nucleus_laws.proofs.Declaring.{unless_true, both_none}
 use Rattle.ft_grammar.specs.declared.syntax.Named.{Named}
-use Rattle.ft_meaning.specs.Names.{named, place_of, rule_of_name}
+use Rattle.ft_meaning.specs.Names.{named, number_of, rule_of_name}
 use Rattle.ft_meaning.specs.Trees.{Body, Premise}
 use Rattle.ft_meaning.specs.Typing.{RuleType, Scope}
 use Rattle.ft_meaning.specs.CommandTyping.{body_typed, premises_scope, makes_symbol}
-use Rattle.ft_meaning.specs.Values.{Environment, OfRule, State, fails, halts, Outcome, Run, ◌>>=◌, pure, declared, declare}
+use Rattle.ft_meaning.specs.Values.{Environment, OfRule, State, fails, halts, Outcome, Run, ◌>>=◌, pure, after_declaration, declare}
 use Rattle.ft_meaning.specs.Values as values
 use Rattle.ft_meaning.specs.Commands.{boundary_by, declare_premises, declare_rule}
 use Rattle.ft_meaning_laws.specs.Fits.{HaveTypes, RuleHasType, SameRule, RulesFit, CanCoerce, CountsPast}
 use Rattle.ft_meaning_laws.proofs.Typed.{ground, EndIsTyped, Ready, Safe, IsSafe, safe_here, ready_after}
 use Rattle.ft_meaning_laws.proofs.SafeCommands.{HasKind, safe_body, PremisesTyped, premises_ground, safe_premises}
 
--- the place of a name after one more name
-place_last : (ns : List Name) (n m : Name) → is_new ns n ≡ true → place_of (ns ++ (n ∷ [])) m ≡ cond (equal_names n m) (Some (length ns)) (place_of ns m)
-place_last [] n m h = refl
-place_last (k ∷ ns) n m h =
+-- the number of a name after one more name
+number_last : (ns : List Name) (n m : Name) → is_new ns n ≡ true → number_of (ns ++ (n ∷ [])) m ≡ cond (equal_names n m) (Some (length ns)) (number_of ns m)
+number_last [] n m h = refl
+number_last (k ∷ ns) n m h =
     let p : (not (equal_names k n) ≡ true) × (is_new ns n ≡ true) = and_parts (not (equal_names k n)) (is_new ns n) h in
-    ap (λ o. cond (equal_names k m) (Some zero) (option_map suc o)) (place_last ns n m p.1) ∙ go (equal_names k m) refl (equal_names n m) refl (not-true (equal_names k n) p.0)
+    ap (λ o. cond (equal_names k m) (Some zero) (option_map suc o)) (number_last ns n m p.1) ∙ go (equal_names k m) refl (equal_names n m) refl (not-true (equal_names k n) p.0)
   where
     go : (a : Bool) → equal_names k m ≡ a → (b : Bool) → equal_names n m ≡ b → equal_names k n ≡ false
-        → cond a (Some zero) (option_map suc (cond b (Some (length ns)) (place_of ns m))) ≡ cond b (Some (suc (length ns))) (cond a (Some zero) (option_map suc (place_of ns m)))
+        → cond a (Some zero) (option_map suc (cond b (Some (length ns)) (number_of ns m))) ≡ cond b (Some (suc (length ns))) (cond a (Some zero) (option_map suc (number_of ns m)))
     go true q true r h = true_false (sym (subst (λ z. equal_names k z ≡ true) (sym (same_name n m r)) q) ∙ h)
     go true q false r h = refl
     go false q true r h = refl
     go false q false r h = refl
 
-place_within : (ns : List Name) (m : Name) (i : ℕ) → place_of ns m ≡ Some i → i < length ns
-place_within [] m i e = none_some e
-place_within (k ∷ ns) m i e = go (equal_names k m) e (place_of ns m) refl (place_within ns m)
+number_within : (ns : List Name) (m : Name) (i : ℕ) → number_of ns m ≡ Some i → i < length ns
+number_within [] m i e = none_some e
+number_within (k ∷ ns) m i e = go (equal_names k m) e (number_of ns m) refl (number_within ns m)
   where
-    go : (b : Bool) → cond b (Some zero) (option_map suc (place_of ns m)) ≡ Some i → (o : Option ℕ) → place_of ns m ≡ o → ((j : ℕ) → place_of ns m ≡ Some j → j < length ns) → i < suc (length ns)
+    go : (b : Bool) → cond b (Some zero) (option_map suc (number_of ns m)) ≡ Some i → (o : Option ℕ) → number_of ns m ≡ o → ((j : ℕ) → number_of ns m ≡ Some j → j < length ns) → i < suc (length ns)
     go true e o q ih = let z : zero ≡ i = same_Some zero i e in omega arith
     go false e (Some j) q ih = let z : suc j ≡ i = same_Some (suc j) i (sym (ap (option_map suc) q) ∙ e) in let l : j < length ns = ih j q in omega arith
     go false e None q ih = none_some (sym (ap (option_map suc) q) ∙ e)
@@ -63,18 +63,18 @@ abbrev rule_in : List Rule → Option ℕ → Option (ℕ × Rule)
 rule_in T = option_and_then (λ i. option_map (λ R. (i, R)) (rule_at T i))
 
 rule_last : (ns : List Name) (T : List Rule) (n m : Name) (R : Rule) → length ns ≡ length T → is_new ns n ≡ true
-    → rule_in (T ++ (R ∷ [])) (place_of (ns ++ (n ∷ [])) m) ≡ cond (equal_names n m) (Some (length ns, R)) (rule_in T (place_of ns m))
-rule_last ns T n m R l h = ap (rule_in (T ++ (R ∷ []))) (place_last ns n m h) ∙ go (equal_names n m) (place_of ns m) refl
+    → rule_in (T ++ (R ∷ [])) (number_of (ns ++ (n ∷ [])) m) ≡ cond (equal_names n m) (Some (length ns, R)) (rule_in T (number_of ns m))
+rule_last ns T n m R l h = ap (rule_in (T ++ (R ∷ []))) (number_last ns n m h) ∙ go (equal_names n m) (number_of ns m) refl
   where
-    go : (b : Bool) (o : Option ℕ) → place_of ns m ≡ o → rule_in (T ++ (R ∷ [])) (cond b (Some (length ns)) o) ≡ cond b (Some (length ns, R)) (rule_in T o)
+    go : (b : Bool) (o : Option ℕ) → number_of ns m ≡ o → rule_in (T ++ (R ∷ [])) (cond b (Some (length ns)) o) ≡ cond b (Some (length ns, R)) (rule_in T o)
     go true o q = ap (option_map (λ S. (length ns, S))) (rule_end T R (length ns) l)
-    go false (Some i) q = let w : i < length ns = place_within ns m i q in ap (option_map (λ S. (i, S))) (rule_within T R i (omega arith))
+    go false (Some i) q = let w : i < length ns = number_within ns m i q in ap (option_map (λ S. (i, S))) (rule_within T R i (omega arith))
     go false None q = refl
 
 pub rules_fit_last : (sc : Scope) (W X : Store) (n : Name) (t : RuleType) (R : Rule) → length W.names ≡ length W.rules → is_new W.names n ≡ true → RuleHasType R t → RulesFit sc W
     → X.names ≡ W.names ++ (n ∷ []) → X.rules ≡ W.rules ++ (R ∷ []) → RulesFit (record sc { rules = (n, t) ∷ sc.rules }) X
 rules_fit_last sc W X n t R l h k f p q m =
-    subst (SameRule (cond (equal_names n m) (Some t) (named sc.rules m))) (sym (ap (λ ns. rule_in X.rules (place_of ns m)) p ∙ ap (λ T. rule_in T (place_of (W.names ++ (n ∷ [])) m)) q ∙ rule_last W.names W.rules n m R l h)) (go (equal_names n m))
+    subst (SameRule (cond (equal_names n m) (Some t) (named sc.rules m))) (sym (ap (λ ns. rule_in X.rules (number_of ns m)) p ∙ ap (λ T. rule_in T (number_of (W.names ++ (n ∷ [])) m)) q ∙ rule_last W.names W.rules n m R l h)) (go (equal_names n m))
   where
     go : (b : Bool) → SameRule (cond b (Some t) (named sc.rules m)) (cond b (Some (length W.names, R)) (rule_of_name W m))
     go true = k
@@ -111,7 +111,7 @@ finishing gr n t at d b i l k s f = go (first_of (name_fault s.store d.name) out
     new : name_fault s.store d.name ≡ None → is_new s.store.names n ≡ true
     new e = subst (λ z. is_new s.store.names z ≡ true) i (unless_true (is_new s.store.names d.name) Duplicate (both_none (refused_unless (is_new s.store.names d.name) Duplicate) _ e).0)
 
-    go : (o : Option RuleFault) → first_of (name_fault s.store d.name) outside ≡ o → RuleLeft gr n t s (values.after (declared OfRule at (result o).after (result o).answer s) (λ r. pure r.1))
+    go : (o : Option RuleFault) → first_of (name_fault s.store d.name) outside ≡ o → RuleLeft gr n t s (values.after (after_declaration OfRule at (result o).after (result o).answer s) (λ r. pure r.1))
     go None e = (
       new (both_none (name_fault s.store d.name) outside e).0,
       ap (λ z. s.store.names ++ (z ∷ [])) i,
@@ -130,7 +130,7 @@ safe_begin gr at n s f = go (name_fault s.store n)
     result : Option RuleFault → Declaration Store Draft RuleFault
     result o = outcome o s.store s.store (record { name = n; premises = [] })
 
-    go : (o : Option RuleFault) → Safe Draft gr (Begun n) s (declared OfRule at (result o).after (result o).answer s)
+    go : (o : Option RuleFault) → Safe Draft gr (Begun n) s (after_declaration OfRule at (result o).after (result o).answer s)
     go None = record { names = refl; rules = refl; units = f.units; allows = (refl, refl) }
     go (Some e) = safe_here Draft gr (Begun n) s f (Err (halts (fails (OfRule e) at))) tt
 

@@ -20,7 +20,7 @@ use Rattle.ft_meaning.specs.Values.{Value, judgement, boundary, unit, truth, pai
 use Rattle.ft_meaning.specs.Values as values
 use Rattle.ft_meaning.specs.Forms.{meaning}
 use Rattle.ft_meaning.specs.Commands as commands
-use Rattle.ft_meaning.specs.Commands.{declare_rule, shaped, declare_equality, Done, Accepted, One, Many, Nothing, Quiet, done, ended, run_command}
+use Rattle.ft_meaning.specs.Commands.{declare_rule, shaped, declare_equality, Done, Accepted, Shown, ShownNone, Quiet, done, ended, run_command}
 use Rattle.ft_meaning_laws.specs.Fits.{HasType, HaveTypes, RulesFit, CanCoerce, CountsPast, Fits, Leaves, TypedCommandsFit, FirstStateFits}
 use Rattle.ft_meaning_laws.proofs.Typed.{ground, Ready, Safe, IsSafe, Any, rules_fit, safe_here, safe_bind, safe_then, safe_pure, safe_judgement, safe_judgements, safe_rule, okay, ok_then, ok_both, same_type_true, meant_is, ensured}
 use Rattle.ft_meaning_laws.proofs.SafeWords.{Of, either_or}
@@ -70,17 +70,17 @@ leaves_rule sc G s f n r (Err (halts stuck), t) k = absurd k.0
 
 -- what is shown
 safe_shown_judgement : (gr : Scope) (v : Value) → HasType v type.judgement → IsSafe Done gr Any (commands.shown v)
-safe_shown_judgement gr (judgement j) h = safe_pure Done gr Any (One j) tt
+safe_shown_judgement gr (judgement j) h = safe_pure Done gr Any (Shown (j ∷ [])) tt
 safe_shown_judgement gr v h = absurd h
 
 safe_shown_option : (gr : Scope) (v : Value) → HasType v (type.option type.judgement) → IsSafe Done gr Any (commands.shown v)
-safe_shown_option gr (some v) h = safe_bind Assertion Done gr Any Any (as_judgement v) (λ j. pure (One j)) (safe_judgement gr v h) (λ j p. safe_pure Done gr Any (One j) tt)
-safe_shown_option gr none h = safe_pure Done gr Any Nothing tt
+safe_shown_option gr (some v) h = safe_bind Assertion Done gr Any Any (as_judgement v) (λ j. pure (Shown (j ∷ []))) (safe_judgement gr v h) (λ j p. safe_pure Done gr Any (Shown (j ∷ [])) tt)
+safe_shown_option gr none h = safe_pure Done gr Any ShownNone tt
 safe_shown_option gr v h = absurd h
 
 safe_shown_list : (gr : Scope) (v : Value) → HasType v (type.list type.judgement) → IsSafe Done gr Any (commands.shown v)
-safe_shown_list gr nil h = safe_pure Done gr Any (Many []) tt
-safe_shown_list gr (cons v w) h = safe_bind (List Assertion) Done gr Any Any (as_judgements (cons v w)) (λ js. pure (Many js)) (safe_judgements gr (cons v w) h) (λ js p. safe_pure Done gr Any (Many js) tt)
+safe_shown_list gr nil h = safe_pure Done gr Any (Shown []) tt
+safe_shown_list gr (cons v w) h = safe_bind (List Assertion) Done gr Any Any (as_judgements (cons v w)) (λ js. pure (Shown js)) (safe_judgements gr (cons v w) h) (λ js p. safe_pure Done gr Any (Shown js) tt)
 safe_shown_list gr v h = absurd h
 
 safe_shown : (gr : Scope) (A : ValueType) (v : Value) → is_shown A ≡ true → HasType v A → IsSafe Done gr Any (commands.shown v)
@@ -96,7 +96,7 @@ safe_shown gr A v e h = go (either_or (same_type A type.judgement || same_type A
 
 -- equality rules
 safe_equality : (gr : Scope) (add : EqualityRules → ℕ → Rule → Result EqualityRules ShapeFault) (n : Named) (r : RuleType) → named gr.rules n.name ≡ Some r → IsSafe (Unit {0}) gr Any (declare_equality add n)
-safe_equality gr add n r e = safe_bind (ℕ × Rule) (Unit {0}) gr Any Any (values.the_rule n.name) _ (safe_rule gr n.name r e) (λ R p s f. go s f (add s.rules R.0 R.1))
+safe_equality gr add n r e = safe_bind (ℕ × Rule) (Unit {0}) gr Any Any (values.the_rule n.name) _ (safe_rule gr n.name r e) (λ R p s f. go s f (add s.equality_rules R.0 R.1))
   where
     go : (s : State) → Ready gr s → (o : Result EqualityRules ShapeFault) → Safe (Unit {0}) gr Any s (shaped n.at o s)
     go s f (Ok E) = record { names = refl; rules = refl; units = f.units; allows = tt }

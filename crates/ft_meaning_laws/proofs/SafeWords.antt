@@ -10,8 +10,9 @@ use Rattle.ft_reference.specs.Refusals.{Refusal, WrongForm}
 use Rattle.ft_reference.specs.Nucleus.{fits_boundary}
 use Rattle.ft_reference.specs.Nucleus as reference
 use Rattle.ft_equality.specs.Results as results
+use Rattle.ft_equality.specs.Shapes.{EqualityRules}
 use Rattle.ft_theory.specs.Expressions.{Expression}
-use Rattle.ft_equality.specs.Programs.{Answer, Spent, NotSmall}
+use Rattle.ft_equality.specs.Programs.{Units, Answer, Spent, NotSmall}
 use Rattle.ft_equality.specs.Equality.{types_are_equal, terms_are_equal, normal_form}
 use Rattle.ft_grammar.specs.declared.form.OneForm.{OneForm}
 use Rattle.ft_grammar.specs.declared.form.OneForm.TheVariants.{Refl, Sym, Left, Right, Typeof, Domain, Natural, Normal, Boundaryof, SomeWord}
@@ -22,9 +23,9 @@ use Rattle.ft_meaning.specs.Names.{named}
 use Rattle.ft_meaning.specs.Trees.{ValueType, Pattern, cons_pattern, some_pattern, symbol_pattern, name_pattern, wildcard, truth_pattern, unit_pattern, none_pattern, nil_pattern, pair_pattern, Patterns, no_patterns, and_pattern, Form, let_in, if_then, match_with, handle_with, abstraction, cons_of, one, two, argument, congruence, perform, call, substitution, truth_of, unit_of, pair_of, none_of, nil_of, Forms, no_forms, and_form, Cases, no_cases, and_case, ValueCase, no_value_case, value_case, Handlers, no_handlers, and_handler, place}
 use Rattle.ft_meaning.specs.Trees as type
 use Rattle.ft_meaning.specs.Typing.{same_type, RuleType, Scope, meant_by, wanted, either_wanted, ensure_arity, pattern_count, fault_at, Unbound, Twice, Bindings, bindings, all_bindings, word_type, first_wanted, word_type_of_two}
-use Rattle.ft_meaning.specs.Values.{Value, judgement, boundary, unit, truth, pair, nil, cons, none, some, Environment, Refused, State, fails, performs, Run, pure, end, nucleus, the_rule}
-use Rattle.ft_meaning.specs.Matching.{is_applied, and_also, same_truth, matches, match_arguments}
-use Rattle.ft_meaning.specs.Forms.{judged, bounded, fitting, abstract_value, substitute_value, settled, equation_if, compare, normalise, conversion, word_at, word_at_two}
+use Rattle.ft_meaning.specs.Values.{Value, judgement, boundary, unit, truth, pair, nil, cons, none, some, Environment, Refused, fails, performs, Run, pure, end, settled, checker, nucleus, the_rule}
+use Rattle.ft_meaning.specs.Matching.{is_applied, if_found, ◌and_also◌, same_truth, matches, match_arguments}
+use Rattle.ft_meaning.specs.Forms.{judged, bounded, fitting, abstract_value, substitute_value, equation_if, compare, normalise, conversion, word_at, word_at_two}
 use Rattle.ft_equality_laws.specs.Laws.{UsesUnits}
 use Rattle.ft_equality_laws.proofs.Counts.{units_are_kept}
 use Rattle.ft_equality_laws.proofs.Stores.{next_more}
@@ -85,8 +86,8 @@ safe_substitute sc at v t A h (inl e) = of_judgement sc (Of A) (λ v. substitute
 safe_substitute sc at v t A h (inr e) = of_boundary sc (Of A) (λ v. substitute_value at v t) v (subst (HasType v) e h) (λ b. subst (λ z. IsSafe Value sc (Of z) (substitute_value at (boundary b) t)) (sym e) (safe_bounded sc at (λ W. reference.substitute W b t)))
 
 -- equality
-safe_settled : (A : Type 0) (sc : Scope) (at : ℕ) (f : State → Answer A) → ((s : State) → UsesUnits s.units (f s)) → IsSafe A sc Any (λ s. settled at s (f s))
-safe_settled A sc at f uses s r = go (f s) (uses s).1
+safe_checker : (A : Type 0) (sc : Scope) (at : ℕ) (ask : Store → EqualityRules → Units → Answer A) → ((W : Store) (E : EqualityRules) (u : Units) → UsesUnits u (ask W E u)) → IsSafe A sc Any (checker at ask)
+safe_checker A sc at ask uses s r = go (ask s.store s.equality_rules s.units) (uses s.store s.equality_rules s.units).1
   where
     go : (a : Answer A) → s.units.used ≤ a.1.used → Safe A sc Any s (settled at s a)
     go (Ok a, u) h = record { names = refl; rules = refl; units = next_more s.store.variables s.units.used u.used h r.units; allows = tt }
@@ -99,18 +100,18 @@ equation_has_type false x j k = tt
 
 safe_compare : (sc : Scope) (at : ℕ) (j k : Assertion) (x y : Statement) → IsSafe Value sc (Of (type.option type.judgement)) (compare at j k x y)
 safe_compare sc at j k (plain (is_type A)) (plain (is_type B)) =
-    safe_bind Bool Value sc Any (Of (type.option type.judgement)) (λ s. settled at s (types_are_equal s.store s.rules A B s.units)) (λ b. pure (equation_if b (plain (equal_types A B)) j k))
-    (safe_settled Bool sc at (λ s. types_are_equal s.store s.rules A B s.units) (λ s. (units_are_kept s.store s.rules s.units).0 A B)) (λ b p. safe_pure Value sc (Of (type.option type.judgement)) (equation_if b (plain (equal_types A B)) j k) (equation_has_type b (plain (equal_types A B)) j k))
+    safe_bind Bool Value sc Any (Of (type.option type.judgement)) (checker at (λ W E. types_are_equal W E A B)) (λ b. pure (equation_if b (plain (equal_types A B)) j k))
+    (safe_checker Bool sc at (λ W E. types_are_equal W E A B) (λ W E u. (units_are_kept W E u).0 A B)) (λ b p. safe_pure Value sc (Of (type.option type.judgement)) (equation_if b (plain (equal_types A B)) j k) (equation_has_type b (plain (equal_types A B)) j k))
 safe_compare sc at j k (plain (has_type t A)) (plain (has_type u B)) =
-    safe_bind Bool Value sc Any (Of (type.option type.judgement)) (λ s. settled at s (terms_are_equal s.store s.rules t A u B s.units)) (λ b. pure (equation_if b (plain (equal_terms t u A)) j k))
-    (safe_settled Bool sc at (λ s. terms_are_equal s.store s.rules t A u B s.units) (λ s. (units_are_kept s.store s.rules s.units).1 t A u B)) (λ b p. safe_pure Value sc (Of (type.option type.judgement)) (equation_if b (plain (equal_terms t u A)) j k) (equation_has_type b (plain (equal_terms t u A)) j k))
+    safe_bind Bool Value sc Any (Of (type.option type.judgement)) (checker at (λ W E. terms_are_equal W E t A u B)) (λ b. pure (equation_if b (plain (equal_terms t u A)) j k))
+    (safe_checker Bool sc at (λ W E. terms_are_equal W E t A u B) (λ W E w. (units_are_kept W E w).1 t A u B)) (λ b p. safe_pure Value sc (Of (type.option type.judgement)) (equation_if b (plain (equal_terms t u A)) j k) (equation_has_type b (plain (equal_terms t u A)) j k))
 safe_compare sc at j k x y = safe_halt Value sc (Of (type.option type.judgement)) (fails (Refused WrongForm) at) tt
 
 safe_normalise : (sc : Scope) (at : ℕ) (j : Assertion) (x : Statement) → IsSafe Value sc (Of type.judgement) (normalise at j x)
 safe_normalise sc at j (plain (is_type A)) =
-    safe_bind Expression Value sc Any (Of type.judgement) (λ s. settled at s (normal_form s.store s.rules A s.units)) _ (safe_settled Expression sc at (λ s. normal_form s.store s.rules A s.units) (λ s. (units_are_kept s.store s.rules s.units).2 A)) (λ N p. safe_pure Value sc (Of type.judgement) _ tt)
+    safe_bind Expression Value sc Any (Of type.judgement) (checker at (λ W E. normal_form W E A)) _ (safe_checker Expression sc at (λ W E. normal_form W E A) (λ W E u. (units_are_kept W E u).2 A)) (λ N p. safe_pure Value sc (Of type.judgement) _ tt)
 safe_normalise sc at j (plain (has_type t A)) =
-    safe_bind Expression Value sc Any (Of type.judgement) (λ s. settled at s (normal_form s.store s.rules t s.units)) _ (safe_settled Expression sc at (λ s. normal_form s.store s.rules t s.units) (λ s. (units_are_kept s.store s.rules s.units).2 t)) (λ N p. safe_pure Value sc (Of type.judgement) _ tt)
+    safe_bind Expression Value sc Any (Of type.judgement) (checker at (λ W E. normal_form W E t)) _ (safe_checker Expression sc at (λ W E. normal_form W E t) (λ W E u. (units_are_kept W E u).2 t)) (λ N p. safe_pure Value sc (Of type.judgement) _ tt)
 safe_normalise sc at j x = safe_halt Value sc (Of type.judgement) (fails (Refused WrongForm) at) tt
 
 -- words
@@ -154,9 +155,15 @@ abbrev pub IfTyped : List (Name × ValueType) → Option Environment → Type 0
 IfTyped vs None = Unit {0}
 IfTyped vs (Some G) = HaveTypes G vs
 
-safe_and : (sc : Scope) (vs ws : List (Name × ValueType)) (found : Option Environment) (next : Environment → Run (Option Environment)) → IfTyped vs found → ((G : Environment) → HaveTypes G vs → IsSafe (Option Environment) sc (IfTyped ws) (next G)) → IsSafe (Option Environment) sc (IfTyped ws) (and_also found next)
-safe_and sc vs ws None next h f = safe_pure (Option Environment) sc (IfTyped ws) None tt
-safe_and sc vs ws (Some G) next h f = f G h
+pub safe_found : (A : Type 0) (sc : Scope) (P : A → Type 0) (vs : List (Name × ValueType)) (found : Option Environment) (next : Environment → Run A) (other : Run A) → IfTyped vs found
+    → ((G : Environment) → HaveTypes G vs → IsSafe A sc P (next G)) → IsSafe A sc P other → IsSafe A sc P (if_found found next other)
+safe_found A sc P vs (Some G) next other h f k = f G h
+safe_found A sc P vs None next other h f k = k
+
+safe_and : (sc : Scope) (vs ws : List (Name × ValueType)) (m : Run (Option Environment)) (next : Environment → Run (Option Environment)) → IsSafe (Option Environment) sc (IfTyped vs) m
+    → ((G : Environment) → HaveTypes G vs → IsSafe (Option Environment) sc (IfTyped ws) (next G)) → IsSafe (Option Environment) sc (IfTyped ws) (m and_also next)
+safe_and sc vs ws m next k f = safe_bind (Option Environment) (Option Environment) sc (IfTyped vs) (IfTyped ws) m (λ found. if_found found next (pure None)) k (λ found h.
+    safe_found (Option Environment) sc (IfTyped ws) vs found next (pure None) h f (safe_pure (Option Environment) sc (IfTyped ws) None tt))
 
 where_typed : (vs : List (Name × ValueType)) (b : Bool) (G : Environment) → HaveTypes G vs → IfTyped vs (when b G)
 where_typed vs true G h = h
@@ -183,8 +190,7 @@ mutual
   pub safe_match : (sc : Scope) (at : ℕ) (p : Pattern) (A : ValueType) (bs cs : Bindings) (v : Value) (G : Environment) → bindings p sc A bs ≡ Ok cs → HasType v A → HaveTypes G (bs ++ sc.values) → IsSafe (Option Environment) (ground sc) (Found sc cs) (matches at p v G)
   safe_match sc at (cons_pattern a p q) (type.list A) bs cs (cons v w) G u h g =
       let k : (ds : Bindings) × ((bindings p sc A bs ≡ Ok ds) × (bindings q sc (type.list A) ds ≡ Ok cs)) = ok_then (bindings p sc A bs) (bindings q sc (type.list A)) cs u in
-      safe_bind (Option Environment) (Option Environment) (ground sc) (Found sc k.0) (Found sc cs) (matches at p v G) (λ found. and_also found (matches at q w)) (safe_match sc at p A bs k.0 v G k.1.0 h.0 g) (λ found m.
-      safe_and (ground sc) (k.0 ++ sc.values) (cs ++ sc.values) found (matches at q w) m (λ H l. safe_match sc at q (type.list A) k.0 cs w H k.1.1 h.1 l))
+      safe_and (ground sc) (k.0 ++ sc.values) (cs ++ sc.values) (matches at p v G) (matches at q w) (safe_match sc at p A bs k.0 v G k.1.0 h.0 g) (λ H l. safe_match sc at q (type.list A) k.0 cs w H k.1.1 h.1 l)
   safe_match sc at (cons_pattern a p q) (type.list A) bs cs nil G u h g = safe_pure (Option Environment) (ground sc) (Found sc cs) None tt
   safe_match sc at (cons_pattern a p q) (type.list A) bs cs v G u h g = absurd h
   safe_match sc at (cons_pattern a p q) A bs cs v G u h g = not_ok _ cs u
@@ -213,8 +219,7 @@ mutual
   safe_match sc at (nil_pattern a) A bs cs v G u h g = not_ok _ cs u
   safe_match sc at (pair_pattern a p q) (type.pair A B) bs cs (pair v w) G u h g =
       let k : (ds : Bindings) × ((bindings p sc A bs ≡ Ok ds) × (bindings q sc B ds ≡ Ok cs)) = ok_then (bindings p sc A bs) (bindings q sc B) cs u in
-      safe_bind (Option Environment) (Option Environment) (ground sc) (Found sc k.0) (Found sc cs) (matches at p v G) (λ found. and_also found (matches at q w)) (safe_match sc at p A bs k.0 v G k.1.0 h.0 g) (λ found m.
-      safe_and (ground sc) (k.0 ++ sc.values) (cs ++ sc.values) found (matches at q w) m (λ H l. safe_match sc at q B k.0 cs w H k.1.1 h.1 l))
+      safe_and (ground sc) (k.0 ++ sc.values) (cs ++ sc.values) (matches at p v G) (matches at q w) (safe_match sc at p A bs k.0 v G k.1.0 h.0 g) (λ H l. safe_match sc at q B k.0 cs w H k.1.1 h.1 l)
   safe_match sc at (pair_pattern a p q) (type.pair A B) bs cs v G u h g = absurd h
   safe_match sc at (pair_pattern a p q) A bs cs v G u h g = not_ok _ cs u
 
@@ -223,5 +228,4 @@ mutual
   safe_match_arguments sc at (and_pattern p ps) bs cs j i G u g =
       let k : (ds : Bindings) × ((bindings p sc type.judgement bs ≡ Ok ds) × (all_bindings ps sc ds ≡ Ok cs)) = ok_then (bindings p sc type.judgement bs) (all_bindings ps sc) cs u in
       safe_bind Assertion (Option Environment) (ground sc) Any (Found sc cs) (nucleus at (λ W. reference.argument W i j)) _ (safe_nucleus (ground sc) at (λ W. reference.argument W i j)) (λ a x.
-      safe_bind (Option Environment) (Option Environment) (ground sc) (Found sc k.0) (Found sc cs) (matches at p (judgement a) G) (λ found. and_also found (match_arguments at ps j (suc i))) (safe_match sc at p type.judgement bs k.0 (judgement a) G k.1.0 tt g) (λ found m.
-      safe_and (ground sc) (k.0 ++ sc.values) (cs ++ sc.values) found (match_arguments at ps j (suc i)) m (λ H l. safe_match_arguments sc at ps k.0 cs j (suc i) H k.1.1 l)))
+      safe_and (ground sc) (k.0 ++ sc.values) (cs ++ sc.values) (matches at p (judgement a) G) (match_arguments at ps j (suc i)) (safe_match sc at p type.judgement bs k.0 (judgement a) G k.1.0 tt g) (λ H l. safe_match_arguments sc at ps k.0 cs j (suc i) H k.1.1 l))

@@ -14,12 +14,13 @@ use Rattle.ft_items.proofs.Names.{same_name}
 use Rattle.ft_reference.specs.Refusals.{Refusal, WrongForm}
 use Rattle.ft_reference.specs.Declare.{Outcome as Declaration, outcome, refused_unless, declared_variable, new_variable}
 use Rattle.ft_equality.specs.Results as results
+use Rattle.ft_equality.specs.Programs.{spend_from}
 use Rattle.ft_equality_laws.proofs.Stores.{next_more}
 use Rattle.ft_meaning.specs.Names.{named, rule_of_name}
 use Rattle.ft_meaning.specs.Trees.{ValueType}
 use Rattle.ft_meaning.specs.Trees as type
 use Rattle.ft_meaning.specs.Typing.{same_type, TypeFault, RuleType, Scope, fault_at, Unbound, meant_by, wanted}
-use Rattle.ft_meaning.specs.Values.{Value, judgement, boundary, unit, truth, pair, nil, cons, none, some, Environment, State, Refused, Halt, fails, spent, stuck, End, performs, halts, Outcome, Run, ◌>>=◌, ◌>>◌, pure, end, halt, the, declare, spend_from, spend, answered, nucleus, declared, the_rule, as_judgement, as_judgements}
+use Rattle.ft_meaning.specs.Values.{Value, judgement, boundary, unit, truth, pair, nil, cons, none, some, Environment, State, Refused, Halt, fails, spent, stuck, End, performs, halts, Outcome, Run, ◌>>=◌, ◌>>◌, pure, end, halt, the, declare, settled, spend, answered, nucleus, after_declaration, the_rule, as_judgement, as_judgements}
 use Rattle.ft_meaning.specs.Values as values
 use Rattle.ft_meaning.specs.Forms.{make_variable}
 use Rattle.ft_grammar.specs.declared.syntax.Named.{Named}
@@ -114,8 +115,8 @@ next_suc s h = next_more s.store.variables s.units.used (suc s.units.used) (omeg
 pub safe_spend : (scope : Scope) (at : ℕ) → IsSafe (Unit {0}) scope Any (spend at)
 safe_spend scope at s f = go s.units.left
   where
-    go : (left : ℕ) → Safe (Unit {0}) scope Any s (spend_from at s.units.used left s)
-    go zero = safe_here (Unit {0}) scope Any s f (Err (halts (spent at))) tt
+    go : (left : ℕ) → Safe (Unit {0}) scope Any s (settled at s (spend_from s.units.used left (λ u. (Ok tt, u))))
+    go zero = record { names = refl; rules = refl; units = f.units; allows = tt }
     go (suc left) = record { names = refl; rules = refl; units = next_suc s f.units; allows = tt }
 
 pub safe_spending : (A : Type 0) (scope : Scope) (P : A → Type 0) (at : ℕ) (n : Run A) → IsSafe A scope P n → IsSafe A scope P (spend at >> n)
@@ -156,12 +157,12 @@ safe_make scope at n A s f = spends s.units.left
     made : Bool → Declaration Store (ℕ × Annotation) Refusal
     made b = outcome (refused_unless b WrongForm) s.store (add_variable s.store v n (Some A)) (v, declared_variable n A)
 
-    declares : (left : ℕ) (b : Bool) → Safe (ℕ × Annotation) scope Any s (declared Refused at (made b).after (made b).answer (record s { units = record { used = suc v; left = left } }))
+    declares : (left : ℕ) (b : Bool) → Safe (ℕ × Annotation) scope Any s (after_declaration Refused at (made b).after (made b).answer (record s { units = record { used = suc v; left = left } }))
     declares left true = record { names = refl; rules = refl; units = next_last s.store.variables v (declared_variable n A) f.units; allows = tt }
     declares left false = record { names = refl; rules = refl; units = next_suc s f.units; allows = tt }
 
-    spends : (left : ℕ) → Safe (ℕ × Annotation) scope Any s (values.after (spend_from at v left s) (λ u. declare Refused at (λ W. new_variable W v n A)))
-    spends zero = safe_here (ℕ × Annotation) scope Any s f (Err (halts (spent at))) tt
+    spends : (left : ℕ) → Safe (ℕ × Annotation) scope Any s (values.after (settled {A = Unit {0}} at s (spend_from v left (λ u. (Ok tt, u)))) (λ u. declare Refused at (λ W. new_variable W v n A)))
+    spends zero = record { names = refl; rules = refl; units = f.units; allows = tt }
     spends (suc left) = declares left (is_plain_type A.statement)
 
 -- values of a type

@@ -14,9 +14,10 @@ use Rattle.ft_grammar.specs.declared.form.TwoForm.{TwoForm}
 use Rattle.ft_grammar.specs.declared.form.TwoForm.TheVariants.{Trans, Convert, Equal, Widen, Rewrite, Fill}
 use Rattle.ft_meaning.specs.Trees.{Pattern, cons_pattern, some_pattern, symbol_pattern, name_pattern, wildcard, truth_pattern, unit_pattern, none_pattern, nil_pattern, pair_pattern, Patterns, no_patterns, and_pattern}
 use Rattle.ft_meaning.specs.Stages.{Stage, word_feature, word_feature_of_two}
-use Rattle.ft_meaning.specs.Values.{Value, judgement, boundary, unit, truth, pair, nil, cons, none, some, Environment, performs, stuck, Run, ◌>>=◌, pure, end, nucleus, the_rule}
-use Rattle.ft_meaning.specs.Matching.{is_applied, and_also, same_truth, matches, match_arguments}
+use Rattle.ft_meaning.specs.Values.{Value, judgement, boundary, unit, truth, pair, nil, cons, none, some, Environment, performs, stuck, Run, ◌>>=◌, pure, end, nucleus, the_rule, as_statement}
+use Rattle.ft_meaning.specs.Matching.{is_applied, if_found, ◌and_also◌, same_truth, matches, match_arguments}
 use Rattle.ft_meaning.specs.Forms.{fitting, abstract_value, substitute_value, conversion, judged, word_at, word_at_two}
+use Rattle.ft_meaning_laws.proofs.Grows.{Quiet}
 use Rattle.ft_meaning_laws.proofs.Made.{IsEntry, IsThesis, IsBoundary, IsMade, AreMade, IfMade, thesis_later, made_later, are_made_later, Keeps, keeps_bind, keeps_pure, keeps_end, keeps_halt, keeps_cond}
 use Rattle.ft_meaning_laws.proofs.Equal.{keeps_compare, keeps_normalise}
 use Rattle.ft_meaning_laws.proofs.Calls.{Answers, keeps_nucleus, keeps_judged, keeps_bounded, named_one, named_two, IsRule, IsVariable, variable_resolved, keeps_rule}
@@ -43,17 +44,18 @@ module _ (B : Stage) where
   keeps_substitute items at v t h k = keeps_halt B Value IsMade items stuck
 
   -- words
+  keeps_statement : (items : List Item) (v : Value) (next : Assertion → Run Value) → IsMade items v → ((p : Assertion) → IsEntry items p → Keeps B Value IsMade items (next p)) → Keeps B Value IsMade items (as_statement v >>= next)
+  keeps_statement items (judgement j) next h f = f j h.0
+  keeps_statement items (boundary b) next h f = f b h.0
+  keeps_statement items v next h f = keeps_halt B Value IsMade items stuck
+
   pub keeps_word : (items : List Item) (at : ℕ) (w : OneForm) (v : Value) → B (word_feature w) ≡ true → IsMade items v → Keeps B Value IsMade items (word_at at w v)
   keeps_word items at Refl (judgement j) b h = keeps_judged B items at (by_refl j) (named_one items by_refl by_refl (λ n. refl) j h.0) refl
   keeps_word items at Sym (judgement j) b h = keeps_judged B items at (by_sym j) (named_one items by_sym by_sym (λ n. refl) j h.0) refl
-  keeps_word items at Left (judgement j) b h = keeps_judged B items at (by_left j) (named_one items by_left by_left (λ n. refl) j h.0) refl
-  keeps_word items at Left (boundary j) b h = keeps_judged B items at (by_left j) (named_one items by_left by_left (λ n. refl) j h.0) refl
-  keeps_word items at Right (judgement j) b h = keeps_judged B items at (by_right j) (named_one items by_right by_right (λ n. refl) j h.0) refl
-  keeps_word items at Right (boundary j) b h = keeps_judged B items at (by_right j) (named_one items by_right by_right (λ n. refl) j h.0) refl
-  keeps_word items at Typeof (judgement j) b h = keeps_judged B items at (by_typeof j) (named_one items by_typeof by_typeof (λ n. refl) j h.0) refl
-  keeps_word items at Typeof (boundary j) b h = keeps_judged B items at (by_typeof j) (named_one items by_typeof by_typeof (λ n. refl) j h.0) refl
-  keeps_word items at Domain (judgement j) b h = keeps_judged B items at (by_domain j) (named_one items by_domain by_domain (λ n. refl) j h.0) refl
-  keeps_word items at Domain (boundary j) b h = keeps_judged B items at (by_domain j) (named_one items by_domain by_domain (λ n. refl) j h.0) refl
+  keeps_word items at Left v b h = keeps_statement items v (λ p. judged at (λ W. answer W (by_left p))) h (λ p k. keeps_judged B items at (by_left p) (named_one items by_left by_left (λ n. refl) p k) refl)
+  keeps_word items at Right v b h = keeps_statement items v (λ p. judged at (λ W. answer W (by_right p))) h (λ p k. keeps_judged B items at (by_right p) (named_one items by_right by_right (λ n. refl) p k) refl)
+  keeps_word items at Typeof v b h = keeps_statement items v (λ p. judged at (λ W. answer W (by_typeof p))) h (λ p k. keeps_judged B items at (by_typeof p) (named_one items by_typeof by_typeof (λ n. refl) p k) refl)
+  keeps_word items at Domain v b h = keeps_statement items v (λ p. judged at (λ W. answer W (by_domain p))) h (λ p k. keeps_judged B items at (by_domain p) (named_one items by_domain by_domain (λ n. refl) p k) refl)
   keeps_word items at Natural (judgement j) b h = keeps_judged B items at (by_natural j) (named_one items by_natural by_natural (λ n. refl) j h.0) refl
   keeps_word items at Normal (judgement j) b h = keeps_normalise B b items at j j.statement h refl
   keeps_word items at Boundaryof (judgement j) b h = keeps_bounded B items at (by_boundary j) (named_one items by_boundary by_boundary (λ n. refl) j h.0) refl
@@ -75,15 +77,20 @@ module _ (B : Stage) where
   keeps_word_two items at second w v u b h l = keeps_halt B Value IsMade items stuck
 
   -- patterns
-  keeps_and : (items : List Item) (found : Option Environment) (next : Environment → Run (Option Environment)) → IfMade items found → ((G : Environment) → AreMade items G → Keeps B (Option Environment) IfMade items (next G)) → Keeps B (Option Environment) IfMade items (and_also found next)
-  keeps_and items None next h f = keeps_pure B (Option Environment) IfMade items None tt
-  keeps_and items (Some G) next h f = f G h
+  pub keeps_found : (A : Type 0) (P : List Item → A → Type 0) (items : List Item) (found : Option Environment) (next : Environment → Run A) (other : Run A) → IfMade items found
+      → ((G : Environment) → AreMade items G → Keeps B A P items (next G)) → Keeps B A P items other → Keeps B A P items (if_found found next other)
+  keeps_found A P items (Some G) next other h f k = f G h
+  keeps_found A P items None next other h f k = k
+
+  keeps_and : (items : List Item) (m : Run (Option Environment)) (next : Environment → Run (Option Environment)) → Keeps B (Option Environment) IfMade items m
+      → ((later : List Item) → Quiet items later → (G : Environment) → AreMade later G → Keeps B (Option Environment) IfMade later (next G)) → Keeps B (Option Environment) IfMade items (m and_also next)
+  keeps_and items m next k f = keeps_bind B (Option Environment) (Option Environment) IfMade IfMade items m (λ found. if_found found next (pure None)) k (λ xs q found h.
+      keeps_found (Option Environment) IfMade xs found next (pure None) h (f xs q) (keeps_pure B (Option Environment) IfMade xs None tt))
 
   mutual
     pub keeps_match : (items : List Item) (at : ℕ) (p : Pattern) (v : Value) (G : Environment) → IsMade items v → AreMade items G → Keeps B (Option Environment) IfMade items (matches at p v G)
     keeps_match items at (cons_pattern a p q) (cons v w) G h g =
-        keeps_bind B (Option Environment) (Option Environment) IfMade IfMade items (matches at p v G) (λ found. and_also found (matches at q w)) (keeps_match items at p v G h.0 g)
-        (λ xs r found k. keeps_and xs found (matches at q w) k (λ H l. keeps_match xs at q w H (made_later items xs r w h.1) l))
+        keeps_and items (matches at p v G) (matches at q w) (keeps_match items at p v G h.0 g) (λ xs r H l. keeps_match xs at q w H (made_later items xs r w h.1) l)
     keeps_match items at (cons_pattern a p q) nil G h g = keeps_pure B (Option Environment) IfMade items None tt
     keeps_match items at (some_pattern a p) (some v) G h g = keeps_match items at p v G h g
     keeps_match items at (some_pattern a p) none G h g = keeps_pure B (Option Environment) IfMade items None tt
@@ -101,15 +108,13 @@ module _ (B : Stage) where
     keeps_match items at (nil_pattern a) nil G h g = keeps_pure B (Option Environment) IfMade items (Some G) g
     keeps_match items at (nil_pattern a) (cons v w) G h g = keeps_pure B (Option Environment) IfMade items None tt
     keeps_match items at (pair_pattern a p q) (pair v w) G h g =
-        keeps_bind B (Option Environment) (Option Environment) IfMade IfMade items (matches at p v G) (λ found. and_also found (matches at q w)) (keeps_match items at p v G h.0 g)
-        (λ xs r found k. keeps_and xs found (matches at q w) k (λ H l. keeps_match xs at q w H (made_later items xs r w h.1) l))
+        keeps_and items (matches at p v G) (matches at q w) (keeps_match items at p v G h.0 g) (λ xs r H l. keeps_match xs at q w H (made_later items xs r w h.1) l)
     keeps_match items at p v G h g = keeps_halt B (Option Environment) IfMade items stuck
 
     pub keeps_match_arguments : (items : List Item) (at : ℕ) (ps : Patterns) (j : Assertion) (i : ℕ) (G : Environment) → IsThesis items j → AreMade items G → Keeps B (Option Environment) IfMade items (match_arguments at ps j i G)
     keeps_match_arguments items at no_patterns j i G h g = keeps_pure B (Option Environment) IfMade items (Some G) g
     keeps_match_arguments items at (and_pattern p ps) j i G h g =
-        keeps_bind B Assertion (Option Environment) (Answers (by_arg i j)) IfMade items (nucleus at (λ W. answer W (by_arg i j))) (λ a. matches at p (judgement a) G >>= λ found. and_also found (match_arguments at ps j (suc i)))
+        keeps_bind B Assertion (Option Environment) (Answers (by_arg i j)) IfMade items (nucleus at (λ W. answer W (by_arg i j))) (λ a. matches at p (judgement a) G and_also match_arguments at ps j (suc i))
         (keeps_nucleus B items at (by_arg i j) (named_one items (by_arg i) (by_arg i) (λ n. refl) j h.0))
-        (λ xs q a k. keeps_bind B (Option Environment) (Option Environment) IfMade IfMade xs (matches at p (judgement a) G) (λ found. and_also found (match_arguments at ps j (suc i)))
-        (keeps_match xs at p (judgement a) G k (are_made_later items xs q G g))
-        (λ ys r found l. keeps_and ys found (match_arguments at ps j (suc i)) l (λ H m. keeps_match_arguments ys at ps j (suc i) H (thesis_later xs ys r j (thesis_later items xs q j h)) m)))
+        (λ xs q a k. keeps_and xs (matches at p (judgement a) G) (match_arguments at ps j (suc i)) (keeps_match xs at p (judgement a) G k (are_made_later items xs q G g))
+        (λ ys r H m. keeps_match_arguments ys at ps j (suc i) H (thesis_later xs ys r j (thesis_later items xs q j h)) m))

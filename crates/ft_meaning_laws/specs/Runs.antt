@@ -4,7 +4,7 @@ use Rattle.ft_meaning.specs.Trees.{Command}
 use Rattle.ft_meaning.specs.Values.{Environment, State}
 use Rattle.ft_meaning.specs.Typing.{Scope}
 use Rattle.ft_meaning.specs.Texts.{Text}
-use Rattle.ft_meaning.specs.Sources.{commands, Has}
+use Rattle.ft_meaning.specs.Sources.{commands, HasContent}
 use Rattle.ft_meaning.specs.Events.{Event}
 use Rattle.ft_meaning.specs.Stages.{Stage, all_built, first_unbuilt}
 use Rattle.ft_meaning.specs.Transcript.{Transcript, stuck_status, transcript_from, transcript_of, IsTranscriptAt}
@@ -15,7 +15,7 @@ ExactlyOne {A} P = ((a : A) × P a) × ((a b : A) → P a → P b → a ≡ b)
 
 -- The bytes of a source have exactly one content.
 abbrev pub OneContent : Type 0
-OneContent = (source : Text) → ExactlyOne (Has source)
+OneContent = (source : Text) → ExactlyOne (HasContent source)
 
 -- A source has exactly one transcript within a budget, at each stage.
 abbrev pub OneTranscript : Type 0

@@ -60,7 +60,7 @@ Computes B r =
 
 pub has_commands : (s : Text) → leb (length s) greatest_length ≡ true → is_utf8 s ≡ true
     → parse (source_tokens s) ≡ Ok (command_trees (bar_before (source_tokens s) zero) (commands_in (source_tokens s)))
-    → source.Has s (source.commands (commands_in (source_tokens s)))
+    → source.HasContent s (source.commands (commands_in (source_tokens s)))
 has_commands s short text read =
     let ts : List Token = source_tokens s in
     let trees : List Tree = command_trees (bar_before ts zero) (commands_in ts) in (

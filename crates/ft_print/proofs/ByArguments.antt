@@ -10,7 +10,7 @@ use Rattle.std.specs.Prelude.{IfSome}
 use Rattle.ft_syntax.specs.declared.syntax.Node.TheVariants.{Bound, Free, Sym, Meta}
 use Rattle.ft_meaning.specs.Texts.{Text, name_if_any, binders_text, metavariable_text, variable_text, expression_text, argument_texts, term_texts, in_parentheses}
 use Rattle.ft_print.specs.Arguments.{body_text, argument_text, arguments_text, HasRoom}
-use Rattle.ft_print.proofs.Joining.{glue, opened, opened_next}
+use Rattle.ft_print.proofs.Joining.{opened, opened_next, written_more, take_all}
 
 -- a measure of what is below an argument
 abbrev pub body_measure : Option ℕ → ℕ
@@ -81,15 +81,9 @@ pub argument_written : (W : Store) (vs : List ℕ) (n : ℕ) (ps : List Argument
     → out ≡ old ++ opened (map (argument_text W vs n) (take i ps)) → mid ≡ out ++ b → then ≡ mid ++ binders_text n p.0 → new ≡ then ++ body_text W vs (n + p.0) p.1
     → new ≡ old ++ opened (map (argument_text W vs n) (take (suc i) ps))
 argument_written W vs n ps i p b old out mid then new g first next o m t e =
-    Rattle.ft_print.proofs.Joining.written_more old (opened (map (argument_text W vs n) (take i ps))) b (argument_text W vs n p) out mid new (opened (map (argument_text W vs n) (take (suc i) ps)))
+    written_more old (opened (map (argument_text W vs n) (take i ps))) b (argument_text W vs n p) out mid new (opened (map (argument_text W vs n) (take (suc i) ps)))
     (opened_next (argument_text W vs n) ps i p b g first next) o m
     (e ∙ ap (λ z. z ++ body_text W vs (n + p.0) p.1) t ∙ append_assoc mid (binders_text n p.0) (body_text W vs (n + p.0) p.1))
-
-take_all : {A : Type 0} (xs : List A) (i : ℕ) → length xs ≤ i → take i xs ≡ xs
-take_all [] zero l = refl
-take_all [] (suc i) l = refl
-take_all (x ∷ xs) zero l = absurd (omega arith)
-take_all (x ∷ xs) (suc i) l = ap (λ z. x ∷ z) (take_all xs i (omega arith))
 
 -- no argument is left
 pub arguments_closed : (W : Store) (vs : List ℕ) (n : ℕ) (ps : List Argument) (i : ℕ) (old out new : Text) → length ps ≢ 0 → length ps ≤ i

@@ -19,6 +19,7 @@ use Rattle.ft_syntax.specs.declared.syntax.Node.TheVariants.{Free}
 use Rattle.ft_meaning.specs.Texts.{variables}
 use Rattle.ft_meaning.specs.Faults.{variables_of, variables_of_arguments, variables_of_terms}
 use Rattle.ft_print.specs.Mentions.{mentioned, mentioned_by_arguments, mentioned_by_terms}
+use Rattle.ft_print.proofs.Joining.{take_all}
 
 -- numbers as variables
 abbrev as_variables : List ℕ → List Atom
@@ -220,12 +221,6 @@ dummy_next [] i n g = none_some g
 dummy_next (p ∷ ps) zero n g = let same : p ≡ (n, None) = cc in ap (λ p. mentioned_in (p ∷ [])) same
 dummy_next ((m, Some f) ∷ ps) (suc i) n g = ap (λ z. mentioned f ++ z) (dummy_next ps i n g)
 dummy_next ((m, None) ∷ ps) (suc i) n g = dummy_next ps i n g
-
-take_all : {A : Type 0} (xs : List A) (i : ℕ) → length xs ≤ i → take i xs ≡ xs
-take_all [] zero l = refl
-take_all [] (suc i) l = refl
-take_all (x ∷ xs) zero l = absurd (omega arith)
-take_all (x ∷ xs) (suc i) l = ap (λ z. x ∷ z) (take_all xs i (omega arith))
 
 pub all_mentioned : (t : Expression) (i : ℕ) (old out : List ℕ) → ((v : ℕ) → node_of t ≡ Free v → ⊥) → length (arguments_of t) ≤ i → out ≡ old ++ mentioned_in (take i (arguments_of t)) → out ≡ old ++ mentioned t
 all_mentioned t i old out h l o = o ∙ ap (λ ps. old ++ mentioned_in ps) (take_all (arguments_of t) i l) ∙ ap (λ z. old ++ z) (others_mention t h)

@@ -6,7 +6,7 @@ use Rattle.std.proofs.lemmas.Bool.{ltb-true, lt-ltb}
 use Rattle.ft_items.specs.Sets.{Atom, met, var, PrecedesAll, Ascending}
 use Rattle.std.proofs.lemmas.List.{map-append}
 use Rattle.ft_assume.specs.declared.atom.Atom.TheVariants.{Met, Var}
-use Rattle.ft_print.proofs.Joining.{take_next}
+use Rattle.ft_print.proofs.Joining.{take_next, take_all}
 use Rattle.ft_assume.specs.Atoms.{atom_of, atoms_of}
 use Rattle.ft_assume.specs.declared.atom.Atom.{Atom as AtomValue}
 use Rattle.ft_meaning.specs.Texts.{variables}
@@ -75,12 +75,6 @@ variable_next atoms i v a found g e f = ap (λ z. z ++ v ∷ []) f ∙ sym (vari
 pub other_next : (atoms : List AtomValue) (i m : ℕ) (a : AtomValue) (found : List ℕ) → slice_get atoms i ≡ Some a → a ≡ Met m → found ≡ variables (atoms_of (take i atoms)) → found ≡ variables (atoms_of (take (suc i) atoms))
 other_next atoms i m a found g e f =
     f ∙ sym (append-nil (variables (atoms_of (take i atoms)))) ∙ sym (variables_next atoms i a g ∙ ap (λ a. variables (atoms_of (take i atoms)) ++ variables (atom_of a ∷ [])) e)
-
-take_all : {A : Type 0} (xs : List A) (i : ℕ) → length xs ≤ i → take i xs ≡ xs
-take_all [] zero l = refl
-take_all [] (suc i) l = refl
-take_all (x ∷ xs) zero l = absurd (omega arith)
-take_all (x ∷ xs) (suc i) l = ap (λ z. x ∷ z) (take_all xs i (omega arith))
 
 -- all atoms of a set
 pub variables_end : (atoms : List AtomValue) (S : List Atom) (i : ℕ) (vs : List ℕ) → length atoms ≤ i → atoms_of atoms ≡ S → Ascending S → vs ≡ variables (atoms_of (take i atoms)) → IsNonDecreasing vs

@@ -1,5 +1,5 @@
 -- Texts that are joined, one after the other.
-use Rattle.std.proofs.Common.{◌≡◌, ◌≢◌, ◌∙◌, sym, ap, refl, ℕ, zero, suc, ◌<◌, List, [], ◌∷◌, ◌++◌, length, map, take, slice_get, Some, codes, append_assoc, get_or, Result, Ok, Err, OnOk, arith}
+use Rattle.std.proofs.Common.{◌≡◌, ◌≢◌, ◌∙◌, sym, ap, refl, ℕ, zero, suc, ◌<◌, ◌≤◌, List, [], ◌∷◌, ◌++◌, length, map, take, slice_get, Some, codes, append_assoc, get_or, Result, Ok, Err, OnOk, arith}
 use Rattle.std.proofs.lemmas.List.{map-append}
 use Rattle.ft_common.proofs.Options.{none_some}
 use Rattle.ft_meaning.specs.Texts.{Text, joined}
@@ -49,6 +49,13 @@ written_more old done b x out mid new more e o m n = n ∙ ap (λ z. z ++ x) m �
 -- the same without anything before the part
 pub written_next : (old done x out new more : Text) → more ≡ done ++ x → out ≡ old ++ done → new ≡ out ++ x → new ≡ old ++ more
 written_next old done x out new more e o n = n ∙ ap (λ z. z ++ x) o ∙ append_assoc old done x ∙ ap (λ z. old ++ z) (sym e)
+
+-- all of a list
+pub take_all : {A : Type 0} (xs : List A) (i : ℕ) → length xs ≤ i → take i xs ≡ xs
+take_all [] zero l = refl
+take_all [] (suc i) l = refl
+take_all (x ∷ xs) zero l = absurd (omega arith)
+take_all (x ∷ xs) (suc i) l = ap (λ z. x ∷ z) (take_all xs i (omega arith))
 
 -- what is read at a place
 pub read_there : {A : Type 0} (xs : List A) (i : ℕ) (d : A) → i < length xs → slice_get xs i ≡ Some (get_or xs i d)

@@ -1,11 +1,11 @@
 -- The lines of judgements, one after the other.
-use Rattle.std.proofs.Common.{◌≡◌, ◌∙◌, sym, ap, ap₂, refl, ℕ, zero, suc, ◌≤◌, Option, Some, None, option_map, option_and_then, List, [], ◌∷◌, ◌++◌, take, slice_get, length, append_assoc, append-nil, arith}
+use Rattle.std.proofs.Common.{◌≡◌, ◌∙◌, sym, ap, ap₂, refl, ℕ, suc, ◌≤◌, Option, Some, None, option_map, option_and_then, List, [], ◌∷◌, ◌++◌, take, slice_get, length, append_assoc, append-nil}
 use Rattle.std.proofs.lemmas.Option.{same_Some}
 use Rattle.ft_common.proofs.Options.{none_some, some_none}
 use Rattle.ft_items.specs.Store.{Assertion, Store, each}
 use Rattle.ft_meaning.specs.Texts.{Text, sequent_text}
 use Rattle.ft_meaning.specs.Lines.{line, sequent_lines}
-use Rattle.ft_print.proofs.Joining.{take_next}
+use Rattle.ft_print.proofs.Joining.{take_next, take_all}
 
 lines_last : (W : Store) (entries : List Assertion) (a : Assertion) → sequent_lines W (entries ++ a ∷ []) ≡ sequent_lines W entries ++ line (sequent_text W a)
 lines_last W [] a = append-nil (line (sequent_text W a))
@@ -37,12 +37,6 @@ lines_next W f js i j out mid new g o m e =
     let text : new ≡ sequent_lines W (r.0 ++ s.0 ∷ []) =
     e ∙ ap (λ z. z ++ 10 ∷ []) s.2 ∙ append_assoc out (sequent_text W s.0) (10 ∷ []) ∙ ap (λ z. z ++ line (sequent_text W s.0)) r.2 ∙ sym (lines_last W r.0 s.0) in
     ap Some text ∙ sym (ap (option_map (sequent_lines W)) (ap (each f) (take_next js i j g) ∙ each_last f (take i js) j r.0 s.0 r.1 s.1))
-
-take_all : {A : Type 0} (xs : List A) (i : ℕ) → length xs ≤ i → take i xs ≡ xs
-take_all [] zero l = refl
-take_all [] (suc i) l = refl
-take_all (x ∷ xs) zero l = absurd (omega arith)
-take_all (x ∷ xs) (suc i) l = ap (λ z. x ∷ z) (take_all xs i (omega arith))
 
 -- no more judgement
 pub lines_end : (W : Store) (f : ℕ → Option Assertion) (js : List ℕ) (i : ℕ) (out : Text) → length js ≤ i → Some out ≡ option_map (sequent_lines W) (each f (take i js)) → Some out ≡ option_map (sequent_lines W) (each f js)

@@ -1,4 +1,4 @@
--- The texts of domains.
+-- The texts of domains, and which theses are plain types.
 use Rattle.std.specs.Prelude.{ℕ, suc, ◌≡◌, List, [], ◌∷◌, ◌++◌, codes, decimal}
 use Rattle.ft_theory.specs.Expressions.{Expression}
 use Rattle.ft_items.specs.Store.{Store}

@@ -27,7 +27,9 @@ pub fn push_expression(
     requires good { Good k.now.items }
     requires within { e < length k.now.trees }
     requires ascending { IsNonDecreasing variables.now }
-    ensures ok { OnOk result (out.new ≡ out.old ++ expression_text (store_of k.now.items) variables.now n (tree k.now.trees e)) }
+    ensures ok { OnOk result
+        (out.new ≡ out.old ++
+        expression_text (store_of k.now.items) variables.now n (tree k.now.trees e)) }
 {
     push_part(k, variables, u128::from(n), e, out)
 }
@@ -39,7 +41,9 @@ fn push_part(k: &Kernel, variables: &[u64], n: u128, e: E, out: &mut Text) -> Re
     requires within { e < length k.now.trees }
     requires room { HasRoom n e }
     requires ascending { IsNonDecreasing variables.now }
-    ensures ok { OnOk result (out.new ≡ out.old ++ expression_text (store_of k.now.items) variables.now n (tree k.now.trees e)) }
+    ensures ok { OnOk result
+        (out.new ≡ out.old ++
+        expression_text (store_of k.now.items) variables.now n (tree k.now.trees e)) }
 {
     match k.terms().node(e) {
         Node::Bound(i) => push_bound(n, i, out),
@@ -85,7 +89,9 @@ fn push_arguments(
     requires small { IsSmall (tree k.now.trees e) }
     requires room { HasRoom n e }
     requires ascending { IsNonDecreasing variables.now }
-    ensures ok { OnOk result (out.new ≡ out.old ++ arguments_text (store_of k.now.items) variables.now n (arguments_of (tree k.now.trees e))) }
+    ensures ok { OnOk result
+        (out.new ≡ out.old ++ arguments_text (store_of k.now.items) variables.now n (arguments_of
+        (tree k.now.trees e))) }
 {
     let terms = k.terms();
     let count = terms.count(e);
@@ -145,7 +151,9 @@ fn push_body(
     requires below { BodyBelow (length k.now.trees) body }
     requires room { IfSome body (λ e. HasRoom n e) }
     requires ascending { IsNonDecreasing variables.now }
-    ensures ok { OnOk result (out.new ≡ out.old ++ body_text (store_of k.now.items) variables.now n (option_map (tree k.now.trees) body)) }
+    ensures ok { OnOk result
+        (out.new ≡ out.old ++
+        body_text (store_of k.now.items) variables.now n (option_map (tree k.now.trees) body)) }
 {
     match body {
         Some(e) => push_part(k, variables, n, e, out),

@@ -41,7 +41,8 @@ pub fn spent_line(alloc: Global, source: &str, at: u64) -> Result<Text, Memory>
 /// Why a run ends at a call of the nucleus that refuses.
 pub fn refused_text(alloc: Global, k: &Kernel, r: &Refusal) -> Result<Text, Memory>
     requires { RefusalBelow (length k.now.trees) r.now }
-    ensures { IfOk result (λ t. (n : AnyName) →
+    ensures { IfOk result
+        (λ t. (n : AnyName) →
         t ≡ fault_text (store_of k.now.items) n (Refused (refusal_in k.now.trees r.now))) }
 {
     let mut out = Text::new(alloc);
@@ -52,7 +53,8 @@ pub fn refused_text(alloc: Global, k: &Kernel, r: &Refusal) -> Result<Text, Memo
 
 /// Why a run ends at an operation that has no handler.
 pub fn unhandled_text(alloc: Global, operation: &Name) -> Result<Text, Memory>
-    ensures { IfOk result (λ t. (W : Store) (n : AnyName) → t ≡ fault_text W n (Unhandled operation.now)) }
+    ensures { IfOk result
+        (λ t. (W : Store) (n : AnyName) → t ≡ fault_text W n (Unhandled operation.now)) }
 {
     let mut out = Text::new(alloc);
     out.push_str("unhandled ")?;

@@ -26,7 +26,9 @@ pub fn accepted_line(alloc: Global, name: &Name) -> Result<Text, Memory>
 /// The line of a judgement that is shown.
 pub fn sequent_line(alloc: Global, k: &Kernel, j: J) -> Result<Text, Memory>
     requires { IsThesisOf k.now j }
-    ensures { IfOk result (λ t. Some t ≡ option_map (λ a. done_lines (store_of k.now.items) (One a)) (entry_at k.now j)) }
+    ensures { IfOk result
+        (λ t. Some t ≡
+        option_map (λ a. done_lines (store_of k.now.items) (One a)) (entry_at k.now j)) }
 {
     let mut out = Text::new(alloc);
     push_sequent(alloc, k, j, &mut out)?;
@@ -37,7 +39,9 @@ pub fn sequent_line(alloc: Global, k: &Kernel, j: J) -> Result<Text, Memory>
 /// The lines of a list of judgements that is shown, in their order.
 pub fn sequent_lines(alloc: Global, k: &Kernel, js: &[J]) -> Result<Text, Memory>
     requires { All (IsThesisOf k.now) js.now }
-    ensures { IfOk result (λ t. Some t ≡ option_map (λ entries. done_lines (store_of k.now.items) (Many entries)) (each (entry_at k.now) js.now)) }
+    ensures { IfOk result
+        (λ t. Some t ≡ option_map (λ entries. done_lines (store_of k.now.items) (Many entries))
+        (each (entry_at k.now) js.now)) }
 {
     let mut out = Text::new(alloc);
     for j in js {

@@ -15,7 +15,9 @@ use std::alloc::Global;
 // The free variables of two expressions, ascending.
 pub fn variables_mentioned(alloc: Global, terms: &Terms, a: E, b: E) -> Result<Vec<u64>, Memory>
     requires { (a < length terms.now) × (b < length terms.now) }
-    ensures variables { IfOk result (λ v. v.items ≡ variables (union (variables_of (tree terms.now a)) (variables_of (tree terms.now b)))) }
+    ensures variables { IfOk result
+        (λ v. v.items ≡
+        variables (union (variables_of (tree terms.now a)) (variables_of (tree terms.now b)))) }
     ensures ascending { IfOk result (λ v. IsNonDecreasing v.items) }
 {
     let mut found = Vec::new(alloc);

@@ -15,7 +15,8 @@ use ft_kernel::Kernel;
 
 pub fn push_symbol(k: &Kernel, s: u64, out: &mut Text) -> Result<(), Memory>
     requires good { Good k.now.items }
-    ensures ok { OnOk result (out.new ≡ out.old ++ name_if_any (nth (store_of k.now.items).names s)) }
+    ensures ok { OnOk result
+        (out.new ≡ out.old ++ name_if_any (nth (store_of k.now.items).names s)) }
 {
     match k.rule_numbered(s) {
         Some(rule) => out.push_chars(k.rule(rule).name.chars()),
@@ -27,7 +28,9 @@ pub fn push_symbol(k: &Kernel, s: u64, out: &mut Text) -> Result<(), Memory>
 
 fn push_metavariable_name(k: &Kernel, m: u64, out: &mut Text) -> Result<(), Memory>
     requires good { Good k.now.items }
-    ensures ok { OnOk result (out.new ≡ out.old ++ name_if_any (option_map (λ d. d.name) (nth (store_of k.now.items).metavariables m))) }
+    ensures ok { OnOk result
+        (out.new ≡ out.old ++
+        name_if_any (option_map (λ d. d.name) (nth (store_of k.now.items).metavariables m))) }
 {
     match k.met_numbered(m) {
         Some(found) => out.push_chars(k.met(found).name.chars()),
@@ -39,7 +42,9 @@ fn push_metavariable_name(k: &Kernel, m: u64, out: &mut Text) -> Result<(), Memo
 
 fn push_variable_name(k: &Kernel, v: u64, out: &mut Text) -> Result<(), Memory>
     requires good { Good k.now.items }
-    ensures ok { OnOk result (out.new ≡ out.old ++ name_if_any (option_map (λ d. d.name) (look_up (store_of k.now.items).variables v))) }
+    ensures ok { OnOk result
+        (out.new ≡ out.old ++
+        name_if_any (option_map (λ d. d.name) (look_up (store_of k.now.items).variables v))) }
 {
     match k.var_numbered(v) {
         Some(found) => out.push_chars(k.var(found).name.chars()),
@@ -61,7 +66,8 @@ pub fn push_metavariable(k: &Kernel, m: u64, out: &mut Text) -> Result<(), Memor
 pub fn push_variable(k: &Kernel, variables: &[u64], v: u64, out: &mut Text) -> Result<(), Memory>
     requires good { Good k.now.items }
     requires ascending { IsNonDecreasing variables.now }
-    ensures ok { OnOk result (out.new ≡ out.old ++ variable_text (store_of k.now.items) variables.now v) }
+    ensures ok { OnOk result
+        (out.new ≡ out.old ++ variable_text (store_of k.now.items) variables.now v) }
 {
     push_variable_name(k, v, out)?;
     out.push_str("#")?;

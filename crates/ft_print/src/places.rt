@@ -1,6 +1,6 @@
 //! Places in a source.
 
-ghost use Rattle.std.specs.Prelude.{◌≡◌, ◌<◌, ◌≤◌, length};
+ghost use Rattle.std.specs.Prelude.{take, ◌≡◌, ◌<◌, ◌≤◌, length};
 ghost use Rattle.ft_meaning.specs.Lines.{line_of, column_of, begins_character};
 
 /// The line and the column of a place, both from 1. A place past the end is taken as the end. It takes no memory.
@@ -23,7 +23,7 @@ pub fn line_col(source: &str, at: u64) -> (u64, u64)
 
 // The bytes before a place.
 fn front(bytes: &[u8], at: u64) -> &[u8]
-    ensures { result.now ≡ Rattle.std.specs.Prelude.take at bytes.now }
+    ensures { result.now ≡ take at bytes.now }
 {
     if at < bytes.len() as u64 {
         &bytes[..at as usize]

@@ -6,7 +6,7 @@ ghost use Rattle.ft_items.specs.Sets.{var};
 ghost use Rattle.ft_items.specs.Good.{Good};
 ghost use Rattle.ft_items.specs.Store.{store_of};
 ghost use Rattle.ft_meaning.specs.Faults.{atom_text, differ_text, refusal_text};
-ghost use Rattle.ft_print.specs.Refused.{refusal_in, differ_in, DifferBelow, RefusalBelow};
+ghost use Rattle.ft_print.specs.Refused.{refusal_in, differ_in, counts_text, DifferBelow, RefusalBelow};
 
 use crate::expressions::push_expression;
 use crate::mentioned::variables_mentioned;
@@ -19,7 +19,8 @@ use std::alloc::Global;
 /// Why a call of the nucleus refuses.
 pub fn refusal_text(alloc: Global, k: &Kernel, r: &Refusal) -> Result<Text, Memory>
     requires { RefusalBelow (length k.now.trees) r.now }
-    ensures { IfOk result (λ t. t ≡ refusal_text (store_of k.now.items) (refusal_in k.now.trees r.now)) }
+    ensures { IfOk result
+        (λ t. t ≡ refusal_text (store_of k.now.items) (refusal_in k.now.trees r.now)) }
 {
     let mut out = Text::new(alloc);
     push_refusal(alloc, k, r, &mut out)?;
@@ -29,7 +30,8 @@ pub fn refusal_text(alloc: Global, k: &Kernel, r: &Refusal) -> Result<Text, Memo
 // Appends why a call of the nucleus refuses.
 pub fn push_refusal(alloc: Global, k: &Kernel, r: &Refusal, out: &mut Text) -> Result<(), Memory>
     requires { RefusalBelow (length k.now.trees) r.now }
-    ensures ok { OnOk result (out.new ≡ out.old ++ refusal_text (store_of k.now.items) (refusal_in k.now.trees r.now)) }
+    ensures ok { OnOk result
+        (out.new ≡ out.old ++ refusal_text (store_of k.now.items) (refusal_in k.now.trees r.now)) }
 {
     match r {
         Refusal::WrongForm => out.push_str("WrongForm"),
@@ -59,7 +61,8 @@ pub fn push_refusal(alloc: Global, k: &Kernel, r: &Refusal, out: &mut Text) -> R
 // Appends two expressions that differ.
 fn push_differ(alloc: Global, k: &Kernel, d: &Differ, out: &mut Text) -> Result<(), Memory>
     requires { DifferBelow (length k.now.trees) d.now }
-    ensures ok { OnOk result (out.new ≡ out.old ++ differ_text (store_of k.now.items) (differ_in k.now.trees d.now)) }
+    ensures ok { OnOk result
+        (out.new ≡ out.old ++ differ_text (store_of k.now.items) (differ_in k.now.trees d.now)) }
 {
     let variables = variables_mentioned(alloc, k.terms(), d.found, d.wanted)?;
     out.push_str(": found ")?;
@@ -72,13 +75,14 @@ fn push_differ(alloc: Global, k: &Kernel, d: &Differ, out: &mut Text) -> Result<
 fn push_variable_alone(k: &Kernel, v: u64, out: &mut Text) -> Result<(), Memory>
     ensures ok { OnOk result (out.new ≡ out.old ++ atom_text (store_of k.now.items) (var v)) }
 {
+    // That the list is good comes with its table.
     let _terms = k.terms();
     push_variable(k, &[v], v, out)
 }
 
 // Appends how many arguments were given and wanted.
 fn push_counts(given: u64, wanted: u64, out: &mut Text) -> Result<(), Memory>
-    ensures ok { OnOk result (out.new ≡ out.old ++ Rattle.ft_print.specs.Refused.counts_text given wanted) }
+    ensures ok { OnOk result (out.new ≡ out.old ++ counts_text given wanted) }
 {
     out.push_str("ArgumentCount: ")?;
     out.push_number(given)?;

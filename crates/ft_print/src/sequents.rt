@@ -26,7 +26,8 @@ use std::alloc::Global;
 /// The sequent of a thesis: its context, and the thesis.
 pub fn sequent_text(alloc: Global, k: &Kernel, j: J) -> Result<Text, Memory>
     requires { IsThesisOf k.now j }
-    ensures { IfOk result (λ t. Some t ≡ option_map (sequent_text (store_of k.now.items)) (entry_at k.now j)) }
+    ensures { IfOk result
+        (λ t. Some t ≡ option_map (sequent_text (store_of k.now.items)) (entry_at k.now j)) }
 {
     let mut out = Text::new(alloc);
     push_sequent(alloc, k, j, &mut out)?;
@@ -36,7 +37,9 @@ pub fn sequent_text(alloc: Global, k: &Kernel, j: J) -> Result<Text, Memory>
 // Appends the sequent of a thesis.
 pub fn push_sequent(alloc: Global, k: &Kernel, j: J, out: &mut Text) -> Result<(), Memory>
     requires { IsThesisOf k.now j }
-    ensures ok { OnOk result (Some out.new ≡ option_map (λ a. out.old ++ sequent_text (store_of k.now.items) a) (entry_at k.now j)) }
+    ensures ok { OnOk result
+        (Some out.new ≡ option_map (λ a. out.old ++
+        sequent_text (store_of k.now.items) a) (entry_at k.now j)) }
 {
     let thesis = k.thesis_of(j);
     let set = k.asm_of(j);
@@ -50,7 +53,9 @@ pub fn push_sequent(alloc: Global, k: &Kernel, j: J, out: &mut Text) -> Result<(
 fn push_context(k: &Kernel, variables: &[u64], atoms: &[Atom], out: &mut Text) -> Result<(), Memory>
     requires good { Good k.now.items }
     requires ascending { IsNonDecreasing variables.now }
-    ensures ok { OnOk result (out.new ≡ out.old ++ context_text (store_of k.now.items) variables.now (atoms_of atoms.now)) }
+    ensures ok { OnOk result
+        (out.new ≡ out.old ++
+        context_text (store_of k.now.items) variables.now (atoms_of atoms.now)) }
 {
     for i in 0..atoms.len() {
         out.push_str(before(i))?;
@@ -77,7 +82,8 @@ fn before(i: usize) -> &'static str
 fn push_member(k: &Kernel, variables: &[u64], atom: Atom, out: &mut Text) -> Result<(), Memory>
     requires good { Good k.now.items }
     requires ascending { IsNonDecreasing variables.now }
-    ensures ok { OnOk result (out.new ≡ out.old ++ member_text (store_of k.now.items) variables.now (atom_of atom)) }
+    ensures ok { OnOk result
+        (out.new ≡ out.old ++ member_text (store_of k.now.items) variables.now (atom_of atom)) }
 {
     match atom {
         Atom::Met(m) => push_metavariable_member(k, variables, m, out),
@@ -94,7 +100,9 @@ fn push_metavariable_member(
 ) -> Result<(), Memory>
     requires good { Good k.now.items }
     requires ascending { IsNonDecreasing variables.now }
-    ensures ok { OnOk result (out.new ≡ out.old ++ metavariable_member (store_of k.now.items) variables.now m (nth (store_of k.now.items).metavariables m)) }
+    ensures ok { OnOk result
+        (out.new ≡ out.old ++ metavariable_member (store_of k.now.items) variables.now m (nth
+        (store_of k.now.items).metavariables m)) }
 {
     match k.met_numbered(m) {
         Some(found) => {
@@ -110,7 +118,9 @@ fn push_metavariable_member(
 fn push_variable_member(k: &Kernel, variables: &[u64], v: u64, out: &mut Text) -> Result<(), Memory>
     requires good { Good k.now.items }
     requires ascending { IsNonDecreasing variables.now }
-    ensures ok { OnOk result (out.new ≡ out.old ++ variable_member (store_of k.now.items) variables.now v (look_up (store_of k.now.items).variables v)) }
+    ensures ok { OnOk result
+        (out.new ≡ out.old ++ variable_member (store_of k.now.items) variables.now v (look_up
+        (store_of k.now.items).variables v)) }
 {
     match k.var_numbered(v) {
         Some(found) => {

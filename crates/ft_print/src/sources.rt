@@ -11,7 +11,8 @@ use std::alloc::Global;
 
 /// The line of a source that has too many bytes.
 pub fn too_long_line(alloc: Global) -> Result<Text, Memory>
-    ensures { IfOk result (λ t. (B : Stage) (source : List ℕ) (budget : ℕ) →
+    ensures { IfOk result
+        (λ t. (B : Stage) (source : List ℕ) (budget : ℕ) →
         t ≡ (transcript_of B source budget too_long).text) }
 {
     let mut out = Text::new(alloc);
@@ -21,7 +22,8 @@ pub fn too_long_line(alloc: Global) -> Result<Text, Memory>
 
 /// The line of a source that is UTF-8 up to a byte, and no further.
 pub fn no_text_line(alloc: Global, byte: u64) -> Result<Text, Memory>
-    ensures { IfOk result (λ t. (B : Stage) (source : List ℕ) (budget : ℕ) →
+    ensures { IfOk result
+        (λ t. (B : Stage) (source : List ℕ) (budget : ℕ) →
         t ≡ (transcript_of B source budget (no_text byte)).text) }
 {
     let mut out = Text::new(alloc);
@@ -33,7 +35,8 @@ pub fn no_text_line(alloc: Global, byte: u64) -> Result<Text, Memory>
 
 /// The line of a source in which a token is not allowed.
 pub fn unexpected_line(alloc: Global, source: &str, at: u64) -> Result<Text, Memory>
-    ensures { IfOk result (λ t. (B : Stage) (budget : ℕ) →
+    ensures { IfOk result
+        (λ t. (B : Stage) (budget : ℕ) →
         t ≡ (transcript_of B source.now budget (unexpected at)).text) }
 {
     error_line(alloc, source, at, b"syntax")
@@ -41,7 +44,8 @@ pub fn unexpected_line(alloc: Global, source: &str, at: u64) -> Result<Text, Mem
 
 /// The line of a source in which a part is nested too deeply.
 pub fn too_nested_line(alloc: Global, source: &str, at: u64) -> Result<Text, Memory>
-    ensures { IfOk result (λ t. (B : Stage) (budget : ℕ) →
+    ensures { IfOk result
+        (λ t. (B : Stage) (budget : ℕ) →
         t ≡ (transcript_of B source.now budget (too_nested at)).text) }
 {
     error_line(alloc, source, at, b"nested too deeply")

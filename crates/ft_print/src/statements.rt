@@ -20,7 +20,9 @@ pub fn push_thesis(k: &Kernel, variables: &[u64], x: &Thesis, out: &mut Text) ->
     requires good { Good k.now.items }
     requires below { ThesisBelow (length k.now.trees) x.now }
     requires ascending { IsNonDecreasing variables.now }
-    ensures ok { OnOk result (out.new ≡ out.old ++ statement_text (store_of k.now.items) variables.now 0 (thesis_in k.now.trees x.now)) }
+    ensures ok { OnOk result
+        (out.new ≡ out.old ++
+        statement_text (store_of k.now.items) variables.now 0 (thesis_in k.now.trees x.now)) }
 {
     let domains = x.domains.items();
     push_domains(k, variables, domains, out)?;
@@ -37,7 +39,9 @@ pub fn push_boundary(
     requires good { Good k.now.items }
     requires below { BoundaryBelow (length k.now.trees) x.now }
     requires ascending { IsNonDecreasing variables.now }
-    ensures ok { OnOk result (out.new ≡ out.old ++ statement_text (store_of k.now.items) variables.now 0 (boundary_in k.now.trees x.now)) }
+    ensures ok { OnOk result
+        (out.new ≡ out.old ++
+        statement_text (store_of k.now.items) variables.now 0 (boundary_in k.now.trees x.now)) }
 {
     let domains = x.domains.items();
     push_domains(k, variables, domains, out)?;
@@ -49,7 +53,9 @@ fn push_domains(k: &Kernel, variables: &[u64], domains: &[E], out: &mut Text) ->
     requires good { Good k.now.items }
     requires below { AllBelow (length k.now.trees) domains.now }
     requires ascending { IsNonDecreasing variables.now }
-    ensures ok { OnOk result (out.new ≡ out.old ++ domains_text (store_of k.now.items) variables.now k.now.trees 0 domains.now) }
+    ensures ok { OnOk result
+        (out.new ≡ out.old ++
+        domains_text (store_of k.now.items) variables.now k.now.trees 0 domains.now) }
 {
     for i in 0..domains.len() {
         push_domain(k, variables, i as u64, domains[i], out)?;
@@ -68,7 +74,9 @@ fn push_domain(
     requires good { Good k.now.items }
     requires below { domain < length k.now.trees }
     requires ascending { IsNonDecreasing variables.now }
-    ensures ok { OnOk result (out.new ≡ out.old ++ domain_text (store_of k.now.items) variables.now n (tree k.now.trees domain)) }
+    ensures ok { OnOk result
+        (out.new ≡ out.old ++
+        domain_text (store_of k.now.items) variables.now n (tree k.now.trees domain)) }
 {
     out.push_str("{@")?;
     out.push_number(n)?;
@@ -87,7 +95,9 @@ pub fn push_of_type(
     requires good { Good k.now.items }
     requires below { ty < length k.now.trees }
     requires ascending { IsNonDecreasing variables.now }
-    ensures ok { OnOk result (out.new ≡ out.old ++ of_type_text (store_of k.now.items) variables.now n (tree k.now.trees ty)) }
+    ensures ok { OnOk result
+        (out.new ≡ out.old ++
+        of_type_text (store_of k.now.items) variables.now n (tree k.now.trees ty)) }
 {
     out.push_str(" : ")?;
     push_expression(k, variables, n, ty, out)
@@ -104,7 +114,9 @@ fn push_sides(
     requires good { Good k.now.items }
     requires below { (sides.0 < length k.now.trees) × (sides.1 < length k.now.trees) }
     requires ascending { IsNonDecreasing variables.now }
-    ensures ok { OnOk result (out.new ≡ out.old ++ sides_text (store_of k.now.items) variables.now n (tree k.now.trees sides.0) (tree k.now.trees sides.1)) }
+    ensures ok { OnOk result
+        (out.new ≡ out.old ++ sides_text (store_of k.now.items) variables.now n (tree k.now.trees
+        sides.0) (tree k.now.trees sides.1)) }
 {
     push_expression(k, variables, n, sides.0, out)?;
     out.push_str(" == ")?;
@@ -122,7 +134,9 @@ fn push_form(
     requires good { Good k.now.items }
     requires below { FormBelow (length k.now.trees) form }
     requires ascending { IsNonDecreasing variables.now }
-    ensures ok { OnOk result (out.new ≡ out.old ++ claim_text (store_of k.now.items) variables.now n (claim_in k.now.trees form)) }
+    ensures ok { OnOk result
+        (out.new ≡ out.old ++
+        claim_text (store_of k.now.items) variables.now n (claim_in k.now.trees form)) }
 {
     match form {
         Form::Ty(a) => {
@@ -152,7 +166,9 @@ fn push_goal(
     requires good { Good k.now.items }
     requires below { GoalBelow (length k.now.trees) goal }
     requires ascending { IsNonDecreasing variables.now }
-    ensures ok { OnOk result (out.new ≡ out.old ++ claim_text (store_of k.now.items) variables.now n (goal_in k.now.trees goal)) }
+    ensures ok { OnOk result
+        (out.new ≡ out.old ++
+        claim_text (store_of k.now.items) variables.now n (goal_in k.now.trees goal)) }
 {
     match goal {
         Goal::Ty => out.push_str("_ type"),

@@ -48,7 +48,8 @@ fn push_type(ty: &AmlType, out: &mut Text) -> Result<(), Memory>
 
 #[cycle(types)]
 fn push_inside(ty: &AmlType, out: &mut Text) -> Result<(), Memory>
-    ensures ok { OnOk result (out.new ≡ out.old ++ inside (value_type ty.now) (type_text (value_type ty.now))) }
+    ensures ok { OnOk result
+        (out.new ≡ out.old ++ inside (value_type ty.now) (type_text (value_type ty.now))) }
 {
     if let AmlType::Pair(_, _) = ty {
         out.push_str("(")?;

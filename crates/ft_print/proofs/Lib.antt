@@ -1,0 +1,9 @@
+pub mod Joining
+pub mod Naming
+pub mod Members
+pub mod ByArguments
+pub mod Below
+pub mod InOrder
+pub mod Positions
+pub mod Gathered
+pub mod Listed

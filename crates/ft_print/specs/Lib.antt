@@ -1,0 +1,4 @@
+pub mod Arguments
+pub mod Domains
+pub mod Mentions
+pub mod Refused

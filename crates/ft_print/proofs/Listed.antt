@@ -1,11 +1,15 @@
 -- The lines of judgements, one after the other.
-use Rattle.std.proofs.Common.{◌≡◌, ◌∙◌, sym, ap, ap₂, refl, ℕ, suc, ◌≤◌, Option, Some, None, option_map, option_and_then, List, [], ◌∷◌, ◌++◌, take, slice_get, length, append_assoc, append-nil}
+use Rattle.std.proofs.Common.{◌≡◌, ◌∙◌, sym, ap, ap₂, refl, ℕ, suc, ◌≤◌, Option, Some, None, option_map, option_and_then, List, [], ◌∷◌, ◌++◌, take, flat_map, slice_get, length, append_assoc, append-nil}
 use Rattle.std.proofs.lemmas.Option.{same_Some}
 use Rattle.ft_common.proofs.Options.{none_some, some_none}
 use Rattle.ft_items.specs.Store.{Assertion, Store, each}
 use Rattle.ft_meaning.specs.Texts.{Text, sequent_text}
-use Rattle.ft_meaning.specs.Lines.{line, sequent_lines}
+use Rattle.ft_meaning.specs.Lines.{line}
 use Rattle.ft_print.proofs.Joining.{take_next, take_all}
+
+-- the lines of judgements
+abbrev pub sequent_lines : Store → List Assertion → Text
+sequent_lines W js = flat_map (λ j. line (sequent_text W j)) js
 
 lines_last : (W : Store) (entries : List Assertion) (a : Assertion) → sequent_lines W (entries ++ a ∷ []) ≡ sequent_lines W entries ++ line (sequent_text W a)
 lines_last W [] a = append-nil (line (sequent_text W a))

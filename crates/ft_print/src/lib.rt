@@ -15,7 +15,7 @@ mod types;
 mod variables;
 
 pub use faults::{error_line, no_match_text, refused_text, spent_line, unhandled_text};
-pub use lines::{accepted_line, none_line, sequent_line, sequent_lines};
+pub use lines::{accepted_line, none_line, sequent_lines};
 pub use places::line_col;
 pub use refusals::refusal_text;
 pub use sequents::sequent_text;

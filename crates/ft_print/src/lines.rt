@@ -4,7 +4,7 @@ ghost use Rattle.std.specs.Prelude.{◌≡◌, Some, All, option_map, IfOk};
 ghost use Rattle.ft_theory.specs.Rules.{Rule};
 ghost use Rattle.ft_items.specs.Store.{Store, store_of, each};
 ghost use Rattle.ft_kernel.specs.State.{entry_at, IsThesisOf};
-ghost use Rattle.ft_meaning.specs.Commands.{Accepted, One, Many, Nothing};
+ghost use Rattle.ft_meaning.specs.Commands.{Accepted, Shown, ShownNone};
 ghost use Rattle.ft_meaning.specs.Lines.{done_lines};
 
 use crate::sequents::push_sequent;
@@ -23,24 +23,11 @@ pub fn accepted_line(alloc: Global, name: &Name) -> Result<Text, Memory>
     Ok(out)
 }
 
-/// The line of a judgement that is shown.
-pub fn sequent_line(alloc: Global, k: &Kernel, j: J) -> Result<Text, Memory>
-    requires { IsThesisOf k.now j }
-    ensures { IfOk result
-        (λ t. Some t ≡
-        option_map (λ a. done_lines (store_of k.now.items) (One a)) (entry_at k.now j)) }
-{
-    let mut out = Text::new(alloc);
-    push_sequent(alloc, k, j, &mut out)?;
-    out.push_str("\n")?;
-    Ok(out)
-}
-
-/// The lines of a list of judgements that is shown, in their order.
+/// The lines of judgements that are shown, in their order.
 pub fn sequent_lines(alloc: Global, k: &Kernel, js: &[J]) -> Result<Text, Memory>
     requires { All (IsThesisOf k.now) js.now }
     ensures { IfOk result
-        (λ t. Some t ≡ option_map (λ entries. done_lines (store_of k.now.items) (Many entries))
+        (λ t. Some t ≡ option_map (λ entries. done_lines (store_of k.now.items) (Shown entries))
         (each (entry_at k.now) js.now)) }
 {
     let mut out = Text::new(alloc);
@@ -53,7 +40,7 @@ pub fn sequent_lines(alloc: Global, k: &Kernel, js: &[J]) -> Result<Text, Memory
 
 /// The line of an option that shows nothing.
 pub fn none_line(alloc: Global) -> Result<Text, Memory>
-    ensures { IfOk result (λ t. (W : Store) → t ≡ done_lines W Nothing) }
+    ensures { IfOk result (λ t. (W : Store) → t ≡ done_lines W ShownNone) }
 {
     let mut out = Text::new(alloc);
     out.push_str("none\n")?;

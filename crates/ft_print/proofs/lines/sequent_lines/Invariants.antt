@@ -1,7 +1,7 @@
 use Rattle.std.proofs.Common.{◌≡◌, Some, option_map, take}
 use Rattle.ft_items.specs.Store.{store_of, each}
 use Rattle.ft_kernel.specs.State.{entry_at}
-use Rattle.ft_meaning.specs.Lines.{sequent_lines}
+use Rattle.ft_print.proofs.Listed.{sequent_lines}
 use Rattle.ft_print.proofs.lines.sequent_lines.Given as goal
 
 abbrev pub invariant-loop-j : goal.invariant-loop-j

@@ -1,0 +1,4 @@
+pub mod Entries
+pub mod Ends
+pub mod Answering
+pub mod Calling

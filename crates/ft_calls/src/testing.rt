@@ -1,0 +1,54 @@
+//! Tests that calls share.
+
+ghost use Rattle.std.specs.Prelude.{◌≡◌, ◌<◌, zero, length, true, false, OnOk, IfErr};
+ghost use Rattle.ft_items.specs.Equal.{equal_expressions};
+ghost use Rattle.ft_syntax.specs.Table.{tree};
+ghost use Rattle.ft_judge.specs.declared.fault.Refusal.TheVariants.{TypeDiffers, SidesDiffer};
+
+use ft_judge::{Differ, Refusal};
+use ft_syntax::{E, Terms};
+
+/// Whether two expressions are one. It takes no memory.
+pub fn same(t: &Terms, a: E, b: E) -> bool
+    requires { (a < length t.now) × (b < length t.now) }
+    ensures equal { result ≡ equal_expressions (tree t.now a) (tree t.now b) }
+    ensures back { result ≡ equal_expressions (tree t.now b) (tree t.now a) }
+{
+    t.equal_expr(a, b)
+}
+
+/// Whether the type found is the one wanted, where no domains are around.
+pub fn same_type(t: &Terms, found: E, wanted: E) -> Result<(), Refusal>
+    requires { (found < length t.now) × (wanted < length t.now) }
+    ensures equal { OnOk result (equal_expressions (tree t.now found) (tree t.now wanted) ≡ true) }
+    ensures back { OnOk result (equal_expressions (tree t.now wanted) (tree t.now found) ≡ true) }
+    ensures other { IfErr result (λ q. equal_expressions (tree t.now found) (tree t.now wanted) ≡ false) }
+    ensures refused { IfErr result (λ q. q ≡ TypeDiffers (record { found = found; wanted = wanted; under = zero })) }
+{
+    if same(t, found, wanted) {
+        return Ok(());
+    }
+    Err(Refusal::TypeDiffers(Differ {
+        found,
+        wanted,
+        under: 0,
+    }))
+}
+
+/// Whether the side found is the one wanted, where no domains are around.
+pub fn same_side(t: &Terms, found: E, wanted: E) -> Result<(), Refusal>
+    requires { (found < length t.now) × (wanted < length t.now) }
+    ensures equal { OnOk result (equal_expressions (tree t.now found) (tree t.now wanted) ≡ true) }
+    ensures back { OnOk result (equal_expressions (tree t.now wanted) (tree t.now found) ≡ true) }
+    ensures other { IfErr result (λ q. equal_expressions (tree t.now found) (tree t.now wanted) ≡ false) }
+    ensures refused { IfErr result (λ q. q ≡ SidesDiffer (record { found = found; wanted = wanted; under = zero })) }
+{
+    if same(t, found, wanted) {
+        return Ok(());
+    }
+    Err(Refusal::SidesDiffer(Differ {
+        found,
+        wanted,
+        under: 0,
+    }))
+}

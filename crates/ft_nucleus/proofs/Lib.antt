@@ -1,0 +1,4 @@
+pub mod Under
+pub mod Plain
+pub mod Equations
+pub mod Asking

@@ -1,0 +1,26 @@
+-- What calls make of claims, and the checks of calls that have one test.
+use Rattle.std.specs.Prelude.{is_some, List, [], ◌∷◌}
+use Rattle.ft_theory.specs.Statements.{Claim, equate_goal, boundary_of_claim, Statement}
+use Rattle.ft_items.specs.Equal.{head_of_claim, has_head}
+use Rattle.ft_items.specs.Rows.{symmetry, term_boundary, type_equation_boundary}
+use Rattle.ft_reference.specs.Refusals.{Check, WrongForm, asks}
+
+-- the equation of a type or term with itself
+abbrev pub equal_to_itself : Claim → Claim
+equal_to_itself c = equate_goal (boundary_of_claim c) (head_of_claim c) (head_of_claim c)
+
+-- a type or a term is equal to itself
+abbrev pub reflexivity_checks : Statement → List Check
+reflexivity_checks x = asks (has_head x) WrongForm ∷ []
+
+-- an equation can be exchanged
+abbrev pub symmetry_checks : Statement → List Check
+symmetry_checks x = asks (is_some (symmetry x)) WrongForm ∷ []
+
+-- a type gives the boundary of a term
+abbrev pub term_boundary_checks : Statement → List Check
+term_boundary_checks x = asks (is_some (term_boundary x)) WrongForm ∷ []
+
+-- two types give the boundary of an equation
+abbrev pub type_equation_boundary_checks : Statement → Statement → List Check
+type_equation_boundary_checks x y = asks (is_some (type_equation_boundary x y)) WrongForm ∷ []

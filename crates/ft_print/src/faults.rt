@@ -6,7 +6,7 @@ ghost use Rattle.ft_items.specs.Store.{Store, store_of};
 ghost use Rattle.ft_meaning.specs.Values.{NoMatch, Refused, Unhandled};
 ghost use Rattle.ft_meaning.specs.Faults.{fault_text};
 ghost use Rattle.ft_meaning.specs.Lines.{error_line, line_of, column_of};
-ghost use Rattle.ft_print.specs.Refused.{refusal_in, RefusalBelow};
+ghost use Rattle.ft_calls.specs.Answers.{refusal_in, RefusalBelow};
 
 use crate::places::line_col;
 use crate::refusals::push_refusal;

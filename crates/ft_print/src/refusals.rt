@@ -6,7 +6,8 @@ ghost use Rattle.ft_items.specs.Sets.{var};
 ghost use Rattle.ft_items.specs.Good.{Good};
 ghost use Rattle.ft_items.specs.Store.{store_of};
 ghost use Rattle.ft_meaning.specs.Faults.{atom_text, differ_text, refusal_text};
-ghost use Rattle.ft_print.specs.Refused.{refusal_in, differ_in, counts_text, DifferBelow, RefusalBelow};
+ghost use Rattle.ft_calls.specs.Answers.{difference_in, refusal_in, RefusalBelow};
+ghost use Rattle.ft_print.specs.Refused.{counts_text, DifferBelow};
 
 use crate::expressions::push_expression;
 use crate::mentioned::variables_mentioned;
@@ -62,7 +63,7 @@ pub fn push_refusal(alloc: Global, k: &Kernel, r: &Refusal, out: &mut Text) -> R
 fn push_differ(alloc: Global, k: &Kernel, d: &Differ, out: &mut Text) -> Result<(), Memory>
     requires { DifferBelow (length k.now.trees) d.now }
     ensures ok { OnOk result
-        (out.new ≡ out.old ++ differ_text (store_of k.now.items) (differ_in k.now.trees d.now)) }
+        (out.new ≡ out.old ++ differ_text (store_of k.now.items) (difference_in k.now.trees d.now)) }
 {
     let variables = variables_mentioned(alloc, k.terms(), d.found, d.wanted)?;
     out.push_str(": found ")?;

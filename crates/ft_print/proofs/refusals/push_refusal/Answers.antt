@@ -2,7 +2,7 @@ use Rattle.std.proofs.Common.{ap, codes}
 use Rattle.ft_items.specs.Sets.{var}
 use Rattle.ft_items.specs.Store.{store_of}
 use Rattle.ft_meaning.specs.Faults.{atom_text, differ_text, refusal_text}
-use Rattle.ft_print.specs.Refused.{refusal_in, differ_in}
+use Rattle.ft_calls.specs.Answers.{difference_in, refusal_in}
 use Rattle.ft_print.proofs.Joining.{two_parts}
 use Rattle.ft_print.proofs.refusals.push_refusal.Goals as goal
 
@@ -11,7 +11,7 @@ returns-in_ok-push_str-in-TypeDiffers c =
     let W = store_of c.args.k.now.items in
     let ts = c.args.k.now.trees in
     record {
-      ok = two_parts c.push_differ.result c.args.out.now (codes "TypeDiffers") (differ_text W (differ_in ts c.in-TypeDiffers.d)) c.push_str-in-TypeDiffers.new.self c.push_differ.new.out (refusal_text W (refusal_in ts c.args.r.now))
+      ok = two_parts c.push_differ.result c.args.out.now (codes "TypeDiffers") (differ_text W (difference_in ts c.in-TypeDiffers.d)) c.push_str-in-TypeDiffers.new.self c.push_differ.new.out (refusal_text W (refusal_in ts c.args.r.now))
           (ap (λ r. refusal_text W (refusal_in ts r)) c.in-TypeDiffers.is) c.in_ok-push_str-in-TypeDiffers.ensures.ok c.push_differ.ensures.ok;
     }
 
@@ -20,7 +20,7 @@ returns-in_ok-push_str-in-SidesDiffer c =
     let W = store_of c.args.k.now.items in
     let ts = c.args.k.now.trees in
     record {
-      ok = two_parts c.push_differ-in-SidesDiffer.result c.args.out.now (codes "SidesDiffer") (differ_text W (differ_in ts c.in-SidesDiffer.d)) c.push_str-in-SidesDiffer.new.self c.push_differ-in-SidesDiffer.new.out (refusal_text W (refusal_in ts c.args.r.now))
+      ok = two_parts c.push_differ-in-SidesDiffer.result c.args.out.now (codes "SidesDiffer") (differ_text W (difference_in ts c.in-SidesDiffer.d)) c.push_str-in-SidesDiffer.new.self c.push_differ-in-SidesDiffer.new.out (refusal_text W (refusal_in ts c.args.r.now))
           (ap (λ r. refusal_text W (refusal_in ts r)) c.in-SidesDiffer.is) c.in_ok-push_str-in-SidesDiffer.ensures.ok c.push_differ-in-SidesDiffer.ensures.ok;
     }
 

@@ -12,6 +12,7 @@ mod BuiltLaws
 mod StepKinds
 mod NamedTheses
 mod Results
+mod Concluded
 mod Entering
 mod Fits
 mod Concludes

@@ -15,6 +15,7 @@ mod laws;
 mod list;
 mod metavariables;
 mod named;
+mod parted;
 mod reject;
 mod result;
 mod rules;

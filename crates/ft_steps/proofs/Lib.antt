@@ -1,0 +1,3 @@
+mod Stating
+mod Equals
+mod Concluding

@@ -12,6 +12,8 @@ mod BuiltLaws
 mod StepKinds
 mod NamedTheses
 mod Results
+mod TypeEntries
+mod Bindings
 mod Concluded
 mod Entering
 mod Fits

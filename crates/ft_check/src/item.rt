@@ -12,6 +12,7 @@ ghost use Rattle.ft_check.specs.Entries.{entry_in, EntryBelow, with_step};
 ghost use Rattle.ft_check.specs.Kinds.{kinds_right};
 ghost use Rattle.ft_check.specs.Rejects.{reason_of};
 
+use crate::binding::{check_abs, check_subst, check_var};
 use crate::boundaries::check_btype;
 use crate::entry::Entry;
 use crate::parted::{check_from_one, check_from_three, check_from_two};
@@ -37,6 +38,9 @@ fn check_result(
         → IfOk result (λ r. option_map reason_of r ≡ reason_of_result (conclusion_built (store_of (take i items.now.items)) s) (result_set s) (with_step (entry_in items.now.trees found.entry) (stated_step step.now))) }
 {
     match step {
+        StatedStep::Var(v) => check_var(alloc, items, i, found, *v),
+        StatedStep::Abs(v, p) => check_abs(alloc, items, i, found, *v, *p),
+        StatedStep::Subst(p, q) => check_subst(alloc, items, i, found, *p, *q),
         StatedStep::Refl(p) => Ok(check_from_one(items, i, found, FromOne::Refl, *p)),
         StatedStep::Sym(p) => Ok(check_from_one(items, i, found, FromOne::Sym, *p)),
         StatedStep::Trans(p, q) => check_from_two(items, i, found, FromTwo::Trans, *p, *q),

@@ -2,6 +2,7 @@
 #![tactic(auto)]
 
 mod applied;
+mod binding;
 mod boundaries;
 mod compare;
 mod concluding;
@@ -23,6 +24,7 @@ mod rules_at;
 mod sets;
 mod shown;
 mod step_kinds;
+mod typed;
 mod variables;
 mod verdict;
 mod without_step;

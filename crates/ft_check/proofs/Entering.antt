@@ -35,24 +35,39 @@ pub btype_result : (W : Store) (t : StatedStep) (a : Assertion) (r : Option Reas
     → r ≡ reason_of_result (Some (plain type_goal)) [] (with_step a (stated_step t)) → r ≡ result_of W s a t
 btype_result W t a r s e q h = h ∙ ap (λ s. result_of W s a t) (same_Some by_btype s (sym (ap (λ t. resolve W (stated_step t)) e) ∙ q))
 
-pub bterm_result : (W : Store) (t : StatedStep) (p : ℕ) (a : Assertion) (r : Option Reason) (s : Resolved) → t ≡ step.Bterm p → resolve W (stated_step t) ≡ Some s
-    → ((b : Assertion) → entry_named W p ≡ Some b → r ≡ reason_of_result (term_boundary b.statement) b.set (with_step a (stated_step t))) → r ≡ result_of W s a t
-bterm_result W t p a r s e q h = go (entry_named W p) refl (sym (ap (λ t. resolve W (stated_step t)) e) ∙ q)
-  where
-    go : (o : Option Assertion) → entry_named W p ≡ o → with_one by_bterm o ≡ Some s → r ≡ result_of W s a t
-    go None f q = none_some q
-    go (Some b) f q = h b f ∙ ap (λ s. result_of W s a t) (same_Some (by_bterm b) s q)
+pub one_result : {A : Type 0} (W : Store) (t : StatedStep) (f : A → Resolved) (o : Option A) (a : Assertion) (r : Option Reason) (s : Resolved) → resolve W (stated_step t) ≡ with_one f o → resolve W (stated_step t) ≡ Some s
+    → ((b : A) → o ≡ Some b → r ≡ result_of W (f b) a t) → r ≡ result_of W s a t
+one_result W t f None a r s e q h = none_some (sym e ∙ q)
+one_result W t f (Some b) a r s e q h = h b refl ∙ ap (λ s. result_of W s a t) (same_Some (f b) s (sym e ∙ q))
 
 -- in a result, where there is one
 in_ok : {A E : Type 0} (P Q : A → Type 0) (r : Result A E) → ((x : A) → P x → Q x) → IfOk r P → IfOk r Q
 in_ok P Q (Ok x) f h = f x h
 in_ok P Q (Err e) f h = tt
 
-abbrev gives : Option Reason → Option Reject → Type 0
+abbrev pub gives : Option Reason → Option Reject → Type 0
 gives r x = option_map reason_of x ≡ r
 
 same_reason : {E : Type 0} (w v : Option Reason) (r : Result (Option Reject) E) → w ≡ v → IfOk r (gives w) → IfOk r (gives v)
 same_reason w v r e h = in_ok (gives w) (gives v) r (λ x k. k ∙ e) h
+
+pub one_checked : {A E : Type 0} (W : Store) (t : StatedStep) (f : A → Resolved) (o : Option A) (a : Assertion) (x : Result (Option Reject) E) (s : Resolved) → resolve W (stated_step t) ≡ with_one f o → resolve W (stated_step t) ≡ Some s
+    → ((b : A) → o ≡ Some b → IfOk x (gives (result_of W (f b) a t))) → IfOk x (gives (result_of W s a t))
+one_checked W t f None a x s e q h = none_some (sym e ∙ q)
+one_checked W t f (Some b) a x s e q h = same_reason _ _ x (ap (λ s. result_of W s a t) (same_Some (f b) s (sym e ∙ q))) (h b refl)
+
+pub two_result : {A B E : Type 0} (W : Store) (t : StatedStep) (f : A → B → Resolved) (o : Option A) (l : Option B) (a : Assertion) (x : Result (Option Reject) E) (s : Resolved) → resolve W (stated_step t) ≡ with_two f o l → resolve W (stated_step t) ≡ Some s
+    → ((b : A) (c : B) → o ≡ Some b → l ≡ Some c → IfOk x (gives (result_of W (f b c) a t))) → IfOk x (gives (result_of W s a t))
+two_result W t f None l a x s e q h = none_some (sym e ∙ q)
+two_result W t f (Some b) None a x s e q h = none_some (sym e ∙ q)
+two_result W t f (Some b) (Some c) a x s e q h = same_reason _ _ x (ap (λ s. result_of W s a t) (same_Some (f b c) s (sym e ∙ q))) (h b c refl refl)
+
+pub three_result : {A B C E : Type 0} (W : Store) (t : StatedStep) (f : A → B → C → Resolved) (o : Option A) (l : Option B) (m : Option C) (a : Assertion) (x : Result (Option Reject) E) (s : Resolved) → resolve W (stated_step t) ≡ with_three f o l m → resolve W (stated_step t) ≡ Some s
+    → ((b : A) (c : B) (d : C) → o ≡ Some b → l ≡ Some c → m ≡ Some d → IfOk x (gives (result_of W (f b c d) a t))) → IfOk x (gives (result_of W s a t))
+three_result W t f None l m a x s e q h = none_some (sym e ∙ q)
+three_result W t f (Some b) None m a x s e q h = none_some (sym e ∙ q)
+three_result W t f (Some b) (Some c) None a x s e q h = none_some (sym e ∙ q)
+three_result W t f (Some b) (Some c) (Some d) a x s e q h = same_reason _ _ x (ap (λ s. result_of W s a t) (same_Some (f b c d) s (sym e ∙ q))) (h b c d refl refl refl)
 
 pub rule_result : {E : Type 0} (W : Store) (t : StatedStep) (r : ℕ) (ps : List ℕ) (a : Assertion) (x : Result (Option Reject) E) (b : Bool) (s : Resolved) → t ≡ step.Rule r ps → resolve W (stated_step t) ≡ Some s → kinds_right b s ≡ true
     → ((R : ℕ × Rule) (given : List Assertion) → rule_named W r ≡ Some R → each (entry_named W) ps ≡ Some given → all_theses given ≡ true
@@ -97,43 +112,82 @@ rulewith_result W t r p ps a x b s e q k h = go (rule_named W r) refl (entry_nam
         same_reason _ _ x (ap (λ s. result_of W s a t) same) (h R c given f m (no_thesis (is_thesis c.statement) right.1) g right.0)
 
 -- a step that is not built
-not_built : (t : StatedStep) → (t ≡ step.Btype → ⊥) → ((p : ℕ) → t ≡ step.Bterm p → ⊥) → ((r : ℕ) (ps : List ℕ) → t ≡ step.Rule r ps → ⊥) → ((r b : ℕ) (ps : List ℕ) → t ≡ step.Rulewith r b ps → ⊥) → is_built (stated_step t) ≡ false
-not_built (step.Var v) a b c d = refl
-not_built (step.Generic m) a b c d = refl
-not_built (step.Meta m ps) a b c d = refl
-not_built (step.Metacong m es) a b c d = refl
-not_built (step.Abs v p) a b c d = refl
-not_built (step.Subst p t) a b c d = refl
-not_built (step.Substeq p e) a b c d = refl
-not_built (step.Refl p) a b c d = refl
-not_built (step.Sym p) a b c d = refl
-not_built (step.Trans p q) a b c d = refl
-not_built (step.Conv p e) a b c d = refl
-not_built (step.Conveq p e) a b c d = refl
-not_built (step.Left p) a b c d = refl
-not_built (step.Right p) a b c d = refl
-not_built (step.Typeof p) a b c d = refl
-not_built (step.Domain p) a b c d = refl
-not_built (step.Boundary p) a b c d = refl
-not_built (step.Widen p q) a b c d = refl
-not_built step.Btype a b c d = absurd (a refl)
-not_built (step.Bterm p) a b c d = absurd (b p refl)
-not_built (step.Beqty p q) a b c d = refl
-not_built (step.Beqtm p s t) a b c d = refl
-not_built (step.Rule r ps) a b c d = absurd (c r ps refl)
-not_built (step.Rulewith r b' ps) a b c d = absurd (d r b' ps refl)
-not_built (step.Inst r ps) a b c d = refl
-not_built (step.Cong r ps es) a b c d = refl
-not_built (step.Convprem r ps es q) a b c d = refl
-not_built (step.Convback r ps es q) a b c d = refl
-not_built (step.Arg i p) a b c d = refl
-not_built (step.Natural p) a b c d = refl
+not_built : (t : StatedStep) → ((v : ℕ) → t ≡ step.Var v → ⊥)
+    → ((v : ℕ) (p : ℕ) → t ≡ step.Abs v p → ⊥)
+    → ((p : ℕ) (u : ℕ) → t ≡ step.Subst p u → ⊥)
+    → ((p : ℕ) → t ≡ step.Refl p → ⊥)
+    → ((p : ℕ) → t ≡ step.Sym p → ⊥)
+    → ((p : ℕ) (q : ℕ) → t ≡ step.Trans p q → ⊥)
+    → ((p : ℕ) (e : ℕ) → t ≡ step.Conv p e → ⊥)
+    → ((p : ℕ) (e : ℕ) → t ≡ step.Conveq p e → ⊥)
+    → ((p : ℕ) → t ≡ step.Left p → ⊥)
+    → ((p : ℕ) → t ≡ step.Right p → ⊥)
+    → ((p : ℕ) → t ≡ step.Typeof p → ⊥)
+    → ((p : ℕ) → t ≡ step.Domain p → ⊥)
+    → ((p : ℕ) → t ≡ step.Boundary p → ⊥)
+    → ((p : ℕ) (q : ℕ) → t ≡ step.Widen p q → ⊥)
+    → (t ≡ step.Btype → ⊥)
+    → ((p : ℕ) → t ≡ step.Bterm p → ⊥)
+    → ((p : ℕ) (q : ℕ) → t ≡ step.Beqty p q → ⊥)
+    → ((p : ℕ) (u : ℕ) (w : ℕ) → t ≡ step.Beqtm p u w → ⊥)
+    → ((r : ℕ) (ps : List ℕ) → t ≡ step.Rule r ps → ⊥)
+    → ((r : ℕ) (b : ℕ) (ps : List ℕ) → t ≡ step.Rulewith r b ps → ⊥)
+    → is_built (stated_step t) ≡ false
+not_built (step.Var v) n0 n1 n2 n3 n4 n5 n6 n7 n8 n9 n10 n11 n12 n13 n14 n15 n16 n17 n18 n19 = absurd (n0 v refl)
+not_built (step.Generic m) n0 n1 n2 n3 n4 n5 n6 n7 n8 n9 n10 n11 n12 n13 n14 n15 n16 n17 n18 n19 = refl
+not_built (step.Meta m ps) n0 n1 n2 n3 n4 n5 n6 n7 n8 n9 n10 n11 n12 n13 n14 n15 n16 n17 n18 n19 = refl
+not_built (step.Metacong m es) n0 n1 n2 n3 n4 n5 n6 n7 n8 n9 n10 n11 n12 n13 n14 n15 n16 n17 n18 n19 = refl
+not_built (step.Abs v p) n0 n1 n2 n3 n4 n5 n6 n7 n8 n9 n10 n11 n12 n13 n14 n15 n16 n17 n18 n19 = absurd (n1 v p refl)
+not_built (step.Subst p u) n0 n1 n2 n3 n4 n5 n6 n7 n8 n9 n10 n11 n12 n13 n14 n15 n16 n17 n18 n19 = absurd (n2 p u refl)
+not_built (step.Substeq p e) n0 n1 n2 n3 n4 n5 n6 n7 n8 n9 n10 n11 n12 n13 n14 n15 n16 n17 n18 n19 = refl
+not_built (step.Refl p) n0 n1 n2 n3 n4 n5 n6 n7 n8 n9 n10 n11 n12 n13 n14 n15 n16 n17 n18 n19 = absurd (n3 p refl)
+not_built (step.Sym p) n0 n1 n2 n3 n4 n5 n6 n7 n8 n9 n10 n11 n12 n13 n14 n15 n16 n17 n18 n19 = absurd (n4 p refl)
+not_built (step.Trans p q) n0 n1 n2 n3 n4 n5 n6 n7 n8 n9 n10 n11 n12 n13 n14 n15 n16 n17 n18 n19 = absurd (n5 p q refl)
+not_built (step.Conv p e) n0 n1 n2 n3 n4 n5 n6 n7 n8 n9 n10 n11 n12 n13 n14 n15 n16 n17 n18 n19 = absurd (n6 p e refl)
+not_built (step.Conveq p e) n0 n1 n2 n3 n4 n5 n6 n7 n8 n9 n10 n11 n12 n13 n14 n15 n16 n17 n18 n19 = absurd (n7 p e refl)
+not_built (step.Left p) n0 n1 n2 n3 n4 n5 n6 n7 n8 n9 n10 n11 n12 n13 n14 n15 n16 n17 n18 n19 = absurd (n8 p refl)
+not_built (step.Right p) n0 n1 n2 n3 n4 n5 n6 n7 n8 n9 n10 n11 n12 n13 n14 n15 n16 n17 n18 n19 = absurd (n9 p refl)
+not_built (step.Typeof p) n0 n1 n2 n3 n4 n5 n6 n7 n8 n9 n10 n11 n12 n13 n14 n15 n16 n17 n18 n19 = absurd (n10 p refl)
+not_built (step.Domain p) n0 n1 n2 n3 n4 n5 n6 n7 n8 n9 n10 n11 n12 n13 n14 n15 n16 n17 n18 n19 = absurd (n11 p refl)
+not_built (step.Boundary p) n0 n1 n2 n3 n4 n5 n6 n7 n8 n9 n10 n11 n12 n13 n14 n15 n16 n17 n18 n19 = absurd (n12 p refl)
+not_built (step.Widen p q) n0 n1 n2 n3 n4 n5 n6 n7 n8 n9 n10 n11 n12 n13 n14 n15 n16 n17 n18 n19 = absurd (n13 p q refl)
+not_built step.Btype n0 n1 n2 n3 n4 n5 n6 n7 n8 n9 n10 n11 n12 n13 n14 n15 n16 n17 n18 n19 = absurd (n14 refl)
+not_built (step.Bterm p) n0 n1 n2 n3 n4 n5 n6 n7 n8 n9 n10 n11 n12 n13 n14 n15 n16 n17 n18 n19 = absurd (n15 p refl)
+not_built (step.Beqty p q) n0 n1 n2 n3 n4 n5 n6 n7 n8 n9 n10 n11 n12 n13 n14 n15 n16 n17 n18 n19 = absurd (n16 p q refl)
+not_built (step.Beqtm p u w) n0 n1 n2 n3 n4 n5 n6 n7 n8 n9 n10 n11 n12 n13 n14 n15 n16 n17 n18 n19 = absurd (n17 p u w refl)
+not_built (step.Rule r ps) n0 n1 n2 n3 n4 n5 n6 n7 n8 n9 n10 n11 n12 n13 n14 n15 n16 n17 n18 n19 = absurd (n18 r ps refl)
+not_built (step.Rulewith r b ps) n0 n1 n2 n3 n4 n5 n6 n7 n8 n9 n10 n11 n12 n13 n14 n15 n16 n17 n18 n19 = absurd (n19 r b ps refl)
+not_built (step.Inst r ps) n0 n1 n2 n3 n4 n5 n6 n7 n8 n9 n10 n11 n12 n13 n14 n15 n16 n17 n18 n19 = refl
+not_built (step.Cong r ps es) n0 n1 n2 n3 n4 n5 n6 n7 n8 n9 n10 n11 n12 n13 n14 n15 n16 n17 n18 n19 = refl
+not_built (step.Convprem r ps es q) n0 n1 n2 n3 n4 n5 n6 n7 n8 n9 n10 n11 n12 n13 n14 n15 n16 n17 n18 n19 = refl
+not_built (step.Convback r ps es q) n0 n1 n2 n3 n4 n5 n6 n7 n8 n9 n10 n11 n12 n13 n14 n15 n16 n17 n18 n19 = refl
+not_built (step.Arg i p) n0 n1 n2 n3 n4 n5 n6 n7 n8 n9 n10 n11 n12 n13 n14 n15 n16 n17 n18 n19 = refl
+not_built (step.Natural p) n0 n1 n2 n3 n4 n5 n6 n7 n8 n9 n10 n11 n12 n13 n14 n15 n16 n17 n18 n19 = refl
 
 pub unbuilt_result : (W : Store) (t : StatedStep) (a : Assertion) (s : Resolved) → resolve W (stated_step t) ≡ Some s
-    → (t ≡ step.Btype → ⊥) → ((p : ℕ) → t ≡ step.Bterm p → ⊥) → ((r : ℕ) (ps : List ℕ) → t ≡ step.Rule r ps → ⊥) → ((r b : ℕ) (ps : List ℕ) → t ≡ step.Rulewith r b ps → ⊥)
+    → ((v : ℕ) → t ≡ step.Var v → ⊥)
+    → ((v : ℕ) (p : ℕ) → t ≡ step.Abs v p → ⊥)
+    → ((p : ℕ) (u : ℕ) → t ≡ step.Subst p u → ⊥)
+    → ((p : ℕ) → t ≡ step.Refl p → ⊥)
+    → ((p : ℕ) → t ≡ step.Sym p → ⊥)
+    → ((p : ℕ) (q : ℕ) → t ≡ step.Trans p q → ⊥)
+    → ((p : ℕ) (e : ℕ) → t ≡ step.Conv p e → ⊥)
+    → ((p : ℕ) (e : ℕ) → t ≡ step.Conveq p e → ⊥)
+    → ((p : ℕ) → t ≡ step.Left p → ⊥)
+    → ((p : ℕ) → t ≡ step.Right p → ⊥)
+    → ((p : ℕ) → t ≡ step.Typeof p → ⊥)
+    → ((p : ℕ) → t ≡ step.Domain p → ⊥)
+    → ((p : ℕ) → t ≡ step.Boundary p → ⊥)
+    → ((p : ℕ) (q : ℕ) → t ≡ step.Widen p q → ⊥)
+    → (t ≡ step.Btype → ⊥)
+    → ((p : ℕ) → t ≡ step.Bterm p → ⊥)
+    → ((p : ℕ) (q : ℕ) → t ≡ step.Beqty p q → ⊥)
+    → ((p : ℕ) (u : ℕ) (w : ℕ) → t ≡ step.Beqtm p u w → ⊥)
+    → ((r : ℕ) (ps : List ℕ) → t ≡ step.Rule r ps → ⊥)
+    → ((r : ℕ) (b : ℕ) (ps : List ℕ) → t ≡ step.Rulewith r b ps → ⊥)
     → Some premise ≡ result_of W s a t
-unbuilt_result W t a s q n m k l =
-    ap (λ b. reason_of_result (cond b (Rattle.ft_items.specs.Rows.conclusion W s) None) (result_set s) (with_step a (stated_step t))) (sym (resolved_built W (stated_step t) s q ∙ not_built t n m k l))
+unbuilt_result W t a s q n0 n1 n2 n3 n4 n5 n6 n7 n8 n9 n10 n11 n12 n13 n14 n15 n16 n17 n18 n19 =
+    ap (λ b. reason_of_result (cond b (Rattle.ft_items.specs.Rows.conclusion W s) None) (result_set s) (with_step a (stated_step t))) (sym (resolved_built W (stated_step t) s q ∙ not_built t n0 n1 n2 n3 n4 n5 n6 n7 n8 n9 n10 n11 n12 n13 n14 n15 n16 n17 n18 n19))
 
 -- an item without a step
 pub not_entry : (ts : List Expression) (s : Stated) → ((x : _) (S : _) (t : _) → s ≡ Thesis x S t → ⊥) → ((x : _) (S : _) (t : _) → s ≡ Boundary x S t → ⊥) → is_entry (item_in ts s) ≡ false

@@ -12,6 +12,9 @@ mod BuiltLaws
 mod StepKinds
 mod NamedTheses
 mod Results
+mod TypeEntries
+mod Bindings
+mod Concluded
 mod Entering
 mod Fits
 mod Concludes

@@ -65,27 +65,6 @@ no_type_under ts [] (goal.EqTm s t A) h = refl
 pub no_type_goal : (ts : List Expression) (b : BoundaryValue) → (b.goal ≡ goal.Ty → ⊥) → false ≡ equal_statements (plain type_goal) (boundary_in ts b)
 no_type_goal ts b h = no_type_under ts b.domains b.goal h
 
--- the boundary of a term
-term_goal_under : (ts : List Expression) (As : List ℕ) (A B : ℕ) → (is_nil As && equal_expressions (tree ts A) (tree ts B)) ≡ equal_statements (plain (term_goal (tree ts A))) (under ts As (plain (goal_in ts (goal.Tm B))))
-term_goal_under ts [] A B = refl
-term_goal_under ts (C ∷ As) A B = refl
-
-pub term_goal_is : (ts : List Expression) (b : BoundaryValue) (A B : ℕ) → b.goal ≡ goal.Tm B → (is_nil b.domains && equal_expressions (tree ts A) (tree ts B)) ≡ equal_statements (plain (term_goal (tree ts A))) (boundary_in ts b)
-term_goal_is ts b A B e = term_goal_under ts b.domains A B ∙ ap (λ g. equal_statements (plain (term_goal (tree ts A))) (under ts b.domains (plain (goal_in ts g)))) (sym e)
-
-pub term_goal_test : (ts : List Expression) (b : BoundaryValue) (A B : ℕ) (x : Bool) → b.goal ≡ goal.Tm B → is_nil b.domains ≡ true → x ≡ equal_expressions (tree ts A) (tree ts B) → x ≡ equal_statements (plain (term_goal (tree ts A))) (boundary_in ts b)
-term_goal_test ts b A B x e n h = h ∙ ap (λ n. n && equal_expressions (tree ts A) (tree ts B)) (sym n) ∙ term_goal_is ts b A B e
-
-no_term_under : (ts : List Expression) (As : List ℕ) (g : Goal) (A : Expression) → ((B : ℕ) → g ≡ goal.Tm B → ⊥) → false ≡ equal_statements (plain (term_goal A)) (under ts As (plain (goal_in ts g)))
-no_term_under ts (B ∷ As) g A h = refl
-no_term_under ts [] goal.Ty A h = refl
-no_term_under ts [] (goal.Tm B) A h = absurd (h B refl)
-no_term_under ts [] (goal.EqTy B C) A h = refl
-no_term_under ts [] (goal.EqTm s t B) A h = refl
-
-pub no_term_goal : (ts : List Expression) (b : BoundaryValue) (A : Expression) → ((B : ℕ) → b.goal ≡ goal.Tm B → ⊥) → false ≡ equal_statements (plain (term_goal A)) (boundary_in ts b)
-no_term_goal ts b A h = no_term_under ts b.domains b.goal A h
-
 -- a thesis is no boundary
 thesis_no_goal : (ts : List Expression) (As : List ℕ) (f : Form) → (false ≡ equal_statements (plain type_goal) (under ts As (plain (claim_in ts f))))
 thesis_no_goal ts (A ∷ As) f = refl
@@ -96,48 +75,3 @@ thesis_no_goal ts [] (form.EqTm s t A) = refl
 
 pub thesis_no_type_goal : (ts : List Expression) (x : ThesisValue) → false ≡ equal_statements (plain type_goal) (thesis_in ts x)
 thesis_no_type_goal ts x = thesis_no_goal ts x.domains x.form
-
-thesis_no_term : (ts : List Expression) (As : List ℕ) (f : Form) (A : Expression) → (false ≡ equal_statements (plain (term_goal A)) (under ts As (plain (claim_in ts f))))
-thesis_no_term ts (B ∷ As) f A = refl
-thesis_no_term ts [] (form.Ty B) A = refl
-thesis_no_term ts [] (form.Tm t B) A = refl
-thesis_no_term ts [] (form.EqTy B C) A = refl
-thesis_no_term ts [] (form.EqTm s t B) A = refl
-
-pub thesis_no_term_goal : (ts : List Expression) (x : ThesisValue) (A : Expression) → false ≡ equal_statements (plain (term_goal A)) (thesis_in ts x)
-thesis_no_term_goal ts x A = thesis_no_term ts x.domains x.form A
-
--- the type that a thesis states
-type_there : (ts : List Expression) (As : List ℕ) (A : ℕ) → is_nil As ≡ true → Some (plain (term_goal (tree ts A))) ≡ term_boundary (under ts As (plain (is_type (tree ts A))))
-type_there ts [] A h = refl
-type_there ts (B ∷ As) A h = let clash : false ≡ true = h in cc
-
-pub type_stated : (ts : List Expression) (x : ThesisValue) (A : ℕ) → x.form ≡ form.Ty A → is_nil x.domains ≡ true → Some (plain (term_goal (tree ts A))) ≡ term_boundary (thesis_in ts x)
-type_stated ts x A e h = type_there ts x.domains A h ∙ ap (λ f. term_boundary (under ts x.domains (plain (claim_in ts f)))) (sym e)
-
-under_none : (ts : List Expression) (As : List ℕ) (x : Statement) → is_nil As ≡ false → None ≡ term_boundary (under ts As x)
-under_none ts [] x h = let clash : true ≡ false = h in cc
-under_none ts (B ∷ As) x h = refl
-
-pub type_under : (ts : List Expression) (x : ThesisValue) → is_nil x.domains ≡ false → None ≡ term_boundary (thesis_in ts x)
-type_under ts x h = under_none ts x.domains (plain (claim_in ts x.form)) h
-
-no_type_there : (ts : List Expression) (As : List ℕ) (f : Form) → ((A : ℕ) → f ≡ form.Ty A → ⊥) → None ≡ term_boundary (under ts As (plain (claim_in ts f)))
-no_type_there ts (B ∷ As) f h = refl
-no_type_there ts [] (form.Ty A) h = absurd (h A refl)
-no_type_there ts [] (form.Tm t A) h = refl
-no_type_there ts [] (form.EqTy A B) h = refl
-no_type_there ts [] (form.EqTm s t A) h = refl
-
-pub no_type_stated : (ts : List Expression) (x : ThesisValue) → ((A : ℕ) → x.form ≡ form.Ty A → ⊥) → None ≡ term_boundary (thesis_in ts x)
-no_type_stated ts x h = no_type_there ts x.domains x.form h
-
-goal_no_term : (ts : List Expression) (As : List ℕ) (g : Goal) → None ≡ term_boundary (under ts As (plain (goal_in ts g)))
-goal_no_term ts (B ∷ As) g = refl
-goal_no_term ts [] goal.Ty = refl
-goal_no_term ts [] (goal.Tm A) = refl
-goal_no_term ts [] (goal.EqTy A B) = refl
-goal_no_term ts [] (goal.EqTm s t A) = refl
-
-pub boundary_no_term : (ts : List Expression) (b : BoundaryValue) → None ≡ term_boundary (boundary_in ts b)
-boundary_no_term ts b = goal_no_term ts b.domains b.goal

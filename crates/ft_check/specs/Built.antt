@@ -3,15 +3,31 @@
 use Rattle.std.specs.Prelude.{ℕ, zero, suc, ◌≡◌, ◌≢◌, ◌⊎◌, ◌&&◌, Bool, true, false, cond, Option, Some, None, List, [], ◌∷◌, ◌++◌, length}
 use Rattle.ft_theory.specs.Statements.{Statement}
 use Rattle.ft_items.specs.Equal.{is_thesis}
-use Rattle.ft_items.specs.Item.{Justification, by_btype, by_bterm, by_rule, by_rulewith, Entry, Item, variable, metavariable, rule, entry, shown}
+use Rattle.ft_items.specs.Item.{Justification, by_var, by_abs, by_subst, by_refl, by_sym, by_trans, by_conv, by_conveq, by_left, by_right, by_typeof, by_domain, by_boundary, by_widen, by_btype, by_bterm, by_beqty, by_beqtm, by_rule, by_rulewith, Entry, Item, variable, metavariable, rule, entry, shown}
 use Rattle.ft_items.specs.Store.{Store, Resolved, resolve, empty_store, add}
 use Rattle.ft_items.specs.Rows.{conclusion, result_set, concludes_thesis}
 use Rattle.ft_items.specs.Good.{Reject, Reference, Kind, Premise, unless, of_kind, same_kind, reason_of_result, reason_in, found_at, Counts, counts, Verdict, Accepted, Rejected, verdict_by, verdict}
 
 -- the test for the steps whose conditions are tested; the others are not built yet
 abbrev pub is_built : {E V M R : Type 0} → Justification E V M R → Bool
+is_built (by_var v) = true
+is_built (by_abs v p) = true
+is_built (by_subst p t) = true
+is_built (by_refl p) = true
+is_built (by_sym p) = true
+is_built (by_trans p q) = true
+is_built (by_conv p e) = true
+is_built (by_conveq p e) = true
+is_built (by_left p) = true
+is_built (by_right p) = true
+is_built (by_typeof p) = true
+is_built (by_domain p) = true
+is_built (by_boundary p) = true
+is_built (by_widen p q) = true
 is_built by_btype = true
 is_built (by_bterm p) = true
+is_built (by_beqty p q) = true
+is_built (by_beqtm p s t) = true
 is_built (by_rule r ps) = true
 is_built (by_rulewith r b ps) = true
 is_built s = false

@@ -1,5 +1,5 @@
 -- What an item adds to the entries, the metavariables or the rules of a list; and an entry as the program reads it.
-use Rattle.std.specs.Prelude.{ℕ, nat_lt, nat_eq, ◌&&◌, not, Bool, true, false, Option, Some, None, option_map, List, [], ◌∷◌, ◌++◌}
+use Rattle.std.specs.Prelude.{ℕ, nat_lt, nat_eq, ◌&&◌, cond, not, Bool, true, false, Option, Some, None, option_map, List, [], ◌∷◌, ◌++◌}
 use Rattle.ft_theory.specs.Expressions.{Expression}
 use Rattle.ft_items.specs.Item.{Stated, Name, Entry as AnyEntry, Item, variable, metavariable, rule, entry, shown}
 use Rattle.ft_items.specs.Sets.{Atom, met, is_within}
@@ -85,3 +85,16 @@ is_nil (x ∷ xs) = false
 abbrev pub no_variable : ℕ → List (ℕ × Name × ℕ) → Bool
 no_variable v [] = true
 no_variable v (x ∷ xs) = not (nat_eq v x.0) && no_variable v xs
+
+-- number, name and entry, where the item is a variable
+abbrev pub variable_of : Item → Option (ℕ × Name × ℕ)
+variable_of (variable v n p) = Some (v, n, p)
+variable_of (metavariable n p) = None
+variable_of (rule n ms p) = None
+variable_of (entry e) = None
+variable_of (shown p) = None
+
+-- the first variable of the number in a list
+abbrev pub variable_in : ℕ → List (ℕ × Name × ℕ) → Option (ℕ × Name × ℕ)
+variable_in v [] = None
+variable_in v (x ∷ xs) = cond (nat_eq v x.0) (Some x) (variable_in v xs)

@@ -6,3 +6,4 @@ pub mod Kinds
 pub mod Comparing
 pub mod Putting
 pub mod Applying
+pub mod Typing

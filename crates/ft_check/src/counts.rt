@@ -4,16 +4,19 @@ ghost use Rattle.std.specs.Prelude.{◌≡◌, zero, ◌+◌, ◌<◌, ◌≤◌
 ghost use Rattle.ft_theory.specs.Expressions.{Expression};
 ghost use Rattle.ft_theory.specs.Rules.{Rule, rule_at};
 ghost use Rattle.ft_items.specs.Levels.{level as level_of, rule_level as level_of_rule};
-ghost use Rattle.ft_items.specs.Store.{Resolved, empty_store, resolve, store_of};
+ghost use Rattle.ft_items.specs.Equal.{is_plain};
+ghost use Rattle.ft_items.specs.Store.{Assertion, Resolved, empty_store, entry_named, resolve, store_of};
 ghost use Rattle.ft_items.specs.Good.{Good, counts, level_in, shown_in};
 ghost use Rattle.ft_judge.specs.Meaning.{goal_in};
 ghost use Rattle.ft_stated.specs.Lines.{item_in};
 ghost use Rattle.ft_stated.specs.Places.{is_entry, is_rule};
 ghost use Rattle.ft_stated.specs.Steps.{stated_step};
-ghost use Rattle.ft_check.specs.Built.{first_rejected_by, is_built, reason_built};
+ghost use Rattle.ft_check.specs.Built.{first_rejected_by, reason_built};
+ghost use Rattle.ft_check.specs.Entries.{entry_in};
 ghost use Rattle.ft_check.specs.Verdicts.{counts_of, IsAtMost};
 
 use crate::applied::rule_at_hand;
+use crate::entry::entry_before;
 use ft_judge::Goal;
 use ft_stated::{Stated, StatedItems, StatedStep};
 
@@ -46,14 +49,51 @@ fn rule_level(items: &StatedItems, i: u64, r: u64) -> u64
     }
 }
 
-// The level of a step that is built.
+// The level of reflexivity from entry `p`.
+fn plain_level(items: &StatedItems, i: u64, p: u64) -> u64
+    ensures { (a : Assertion) → entry_named (store_of (take i items.now.items)) p ≡ Some a → result ≡ cond (is_plain a.statement) 0 3 }
+{
+    match entry_before(items, i, p) {
+        None => 0,
+        Some(found) => { if found.is_plain() { 0 } else { 3 } }
+    }
+}
+
+// The level of a step.
 fn step_level(items: &StatedItems, i: u64, step: &StatedStep) -> u64
-    ensures { (s : Resolved) → Good (take i items.now.items) → resolve (store_of (take i items.now.items)) (stated_step step.now) ≡ Some s → is_built s ≡ true → result ≡ level_of s }
+    ensures { (s : Resolved) → Good (take i items.now.items) → resolve (store_of (take i items.now.items)) (stated_step step.now) ≡ Some s → result ≡ level_of s }
 {
     match step {
+        StatedStep::Var(_) => 1,
+        StatedStep::Generic(_) => 1,
+        StatedStep::Meta(..) => 1,
+        StatedStep::Metacong(..) => 6,
+        StatedStep::Abs(..) => 1,
+        StatedStep::Subst(..) => 2,
+        StatedStep::Substeq(..) => 4,
+        StatedStep::Refl(p) => plain_level(items, i, *p),
+        StatedStep::Sym(_) => 0,
+        StatedStep::Trans(..) => 1,
+        StatedStep::Conv(..) => 1,
+        StatedStep::Conveq(..) => 1,
+        StatedStep::Left(_) => 3,
+        StatedStep::Right(_) => 3,
+        StatedStep::Typeof(_) => 3,
+        StatedStep::Domain(_) => 3,
+        StatedStep::Boundary(_) => 3,
+        StatedStep::Widen(..) => 1,
+        StatedStep::Btype => 0,
+        StatedStep::Bterm(_) => 0,
+        StatedStep::Beqty(..) => 1,
+        StatedStep::Beqtm(..) => 1,
         StatedStep::Rule(r, _) => rule_level(items, i, *r),
         StatedStep::Rulewith(..) => 1,
-        _ => 0,
+        StatedStep::Inst(..) => 5,
+        StatedStep::Cong(..) => 6,
+        StatedStep::Convprem(..) => 6,
+        StatedStep::Convback(..) => 6,
+        StatedStep::Arg(..) => 7,
+        StatedStep::Natural(_) => 7,
     }
 }
 

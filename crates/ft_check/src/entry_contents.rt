@@ -1,20 +1,18 @@
 //! What an entry contains: the kind of its statement, its type or goal, and its set.
 
-ghost use Rattle.std.specs.Prelude.{◌≡◌, ◌<◌, ℕ, List, Some, true, false, IfSome, option_map};
+ghost use Rattle.std.specs.Prelude.{◌≡◌, ℕ, List, Some, true, false, IfSome, option_map};
 ghost use Rattle.ft_theory.specs.Expressions.{Expression};
-ghost use Rattle.ft_theory.specs.Statements.{plain, term_goal};
 ghost use Rattle.ft_items.specs.Equal.{is_thesis, is_plain};
 ghost use Rattle.ft_items.specs.Store.{claim_in as claim_of_plain};
 ghost use Rattle.ft_items.specs.Good.{is_plain_type};
-ghost use Rattle.ft_items.specs.Rows.{term_boundary};
-ghost use Rattle.ft_syntax.specs.Table.{tree};
-ghost use Rattle.ft_judge.specs.Meaning.{thesis_in, boundary_in, goal_in, GoalBelow, ThesisBelow};
+ghost use Rattle.ft_judge.specs.Meaning.{thesis_in, boundary_in, goal_in, GoalBelow};
+ghost use Rattle.ft_steps.specs.Parts.{statement_in, PartsBelow};
 ghost use Rattle.ft_check.specs.Entries.{entry_in, is_nil, EntryBelow};
 
 use crate::entry::Entry;
 use ft_assume::Assume;
 use ft_judge::{Domains, Form, Goal, Thesis};
-use ft_syntax::E;
+use ft_steps::{Parts, boundary_parts, thesis_parts};
 
 /// Whether there are no domains.
 pub fn is_empty(domains: &Domains) -> bool
@@ -34,18 +32,6 @@ fn states_type(x: &Thesis) -> bool
     match x.form {
         Form::Ty(_) => is_empty(&x.domains),
         _ => false,
-    }
-}
-
-// The type that the thesis states, where it states one without domains.
-#[tactic(auto, using(crate::proofs::Results::type_stated, crate::proofs::Results::type_under, crate::proofs::Results::no_type_stated))]
-fn stated_type(x: &Thesis) -> Option<E>
-    ensures is { (ts : List Expression) → option_map (λ A. plain (term_goal (tree ts A))) result ≡ term_boundary (thesis_in ts x.now) }
-    ensures below { (n : ℕ) → ThesisBelow n x.now → IfSome result (λ A. A < n) }
-{
-    match x.form {
-        Form::Ty(ty) => { if is_empty(&x.domains) { Some(ty) } else { None } }
-        _ => None,
     }
 }
 
@@ -83,15 +69,14 @@ impl<'a> Entry<'a> {
         }
     }
 
-    /// The type that the entry states, where it is a type without domains.
-    #[tactic(auto, using(crate::proofs::Results::boundary_no_term))]
-    pub fn plain_type(self) -> Option<E>
-        ensures is { (ts : List Expression) → option_map (λ A. plain (term_goal (tree ts A))) result ≡ term_boundary (entry_in ts self.entry).statement }
-        ensures below { (n : ℕ) → EntryBelow n self.entry → IfSome result (λ A. A < n) }
+    /// The parts of the entry's statement.
+    pub fn parts(self) -> Parts<'a>
+        ensures is { (ts : List Expression) → statement_in ts result ≡ (entry_in ts self.entry).statement }
+        ensures below { (n : ℕ) → EntryBelow n self.entry → PartsBelow n result }
     {
         match self {
-            Entry::Thesis(x, _) => stated_type(x),
-            Entry::Boundary(..) => None,
+            Entry::Thesis(x, _) => thesis_parts(x),
+            Entry::Boundary(x, _) => boundary_parts(x),
         }
     }
 

@@ -12,14 +12,17 @@ ghost use Rattle.ft_check.specs.Entries.{entry_in, EntryBelow, with_step};
 ghost use Rattle.ft_check.specs.Kinds.{kinds_right};
 ghost use Rattle.ft_check.specs.Rejects.{reason_of};
 
-use crate::boundaries::{check_bterm, check_btype};
+use crate::binding::{check_abs, check_subst, check_var};
+use crate::boundaries::check_btype;
 use crate::entry::Entry;
+use crate::parted::{check_from_one, check_from_three, check_from_two};
 use crate::reject::Reject;
 use crate::rules_at::{check_applied, check_applied_with};
 use crate::step_kinds::kinds;
 use crate::without_step::check_without_step;
 use ft_base::Memory;
 use ft_stated::{Stated, StatedItems, StatedStep};
+use ft_steps::{FromOne, FromTwo};
 use std::alloc::Global;
 
 // The reason against an entry whose step names entries of the right kinds.
@@ -35,8 +38,24 @@ fn check_result(
         → IfOk result (λ r. option_map reason_of r ≡ reason_of_result (conclusion_built (store_of (take i items.now.items)) s) (result_set s) (with_step (entry_in items.now.trees found.entry) (stated_step step.now))) }
 {
     match step {
+        StatedStep::Var(v) => check_var(alloc, items, i, found, *v),
+        StatedStep::Abs(v, p) => check_abs(alloc, items, i, found, *v, *p),
+        StatedStep::Subst(p, q) => check_subst(alloc, items, i, found, *p, *q),
+        StatedStep::Refl(p) => Ok(check_from_one(items, i, found, FromOne::Refl, *p)),
+        StatedStep::Sym(p) => Ok(check_from_one(items, i, found, FromOne::Sym, *p)),
+        StatedStep::Trans(p, q) => check_from_two(items, i, found, FromTwo::Trans, *p, *q),
+        StatedStep::Conv(p, q) => check_from_two(items, i, found, FromTwo::Conv, *p, *q),
+        StatedStep::Conveq(p, q) => check_from_two(items, i, found, FromTwo::Conveq, *p, *q),
+        StatedStep::Left(p) => Ok(check_from_one(items, i, found, FromOne::Left, *p)),
+        StatedStep::Right(p) => Ok(check_from_one(items, i, found, FromOne::Right, *p)),
+        StatedStep::Typeof(p) => Ok(check_from_one(items, i, found, FromOne::Typeof, *p)),
+        StatedStep::Domain(p) => Ok(check_from_one(items, i, found, FromOne::Domain, *p)),
+        StatedStep::Boundary(p) => Ok(check_from_one(items, i, found, FromOne::Boundary, *p)),
+        StatedStep::Widen(p, q) => check_from_two(items, i, found, FromTwo::Widen, *p, *q),
         StatedStep::Btype => Ok(check_btype(found)),
-        StatedStep::Bterm(p) => Ok(check_bterm(items, i, found, *p)),
+        StatedStep::Bterm(p) => Ok(check_from_one(items, i, found, FromOne::Bterm, *p)),
+        StatedStep::Beqty(p, q) => check_from_two(items, i, found, FromTwo::Beqty, *p, *q),
+        StatedStep::Beqtm(p, s, t) => check_from_three(items, i, found, *p, *s, *t),
         StatedStep::Rule(r, ps) => check_applied(alloc, items, i, found, *r, ps),
         StatedStep::Rulewith(r, b, ps) => { check_applied_with(alloc, items, i, found, *r, *b, ps) }
         _ => Ok(Some(Reject::Premise)),

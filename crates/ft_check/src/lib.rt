@@ -2,6 +2,7 @@
 #![tactic(auto)]
 
 mod applied;
+mod binding;
 mod boundaries;
 mod compare;
 mod concluding;
@@ -15,6 +16,7 @@ mod laws;
 mod list;
 mod metavariables;
 mod named;
+mod parted;
 mod reject;
 mod result;
 mod rules;
@@ -22,6 +24,7 @@ mod rules_at;
 mod sets;
 mod shown;
 mod step_kinds;
+mod typed;
 mod variables;
 mod verdict;
 mod without_step;

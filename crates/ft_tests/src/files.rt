@@ -118,7 +118,11 @@ const VERDICTS: [(&str, &str); 55] = [
     // The first of two.
     ("B T [] btype\nW 0\nW 9", "rejected 10 kind"),
     ("W 9\nW 0\nR O ; 0", "rejected 9 reference"),
-    ("J t v4 s0() [v4] var 4", "rejected 9 premise"),
+    // A variable at its type.
+    (
+        "J t v4 s0() [v4] var 4",
+        "accepted 3 rules, 5 entries, 0 shown, level 1",
+    ),
 ];
 
 // The status of a verdict or a fault.

@@ -1,16 +1,82 @@
-use Rattle.std.proofs.Common.{take}
+use Rattle.std.proofs.Common.{take, ap}
 use Rattle.ft_items.specs.Equal.{is_thesis}
-use Rattle.ft_items.specs.Store.{store_of}
+use Rattle.ft_items.specs.Item.{by_var, by_abs, by_subst, by_refl, by_sym, by_left, by_right, by_typeof, by_domain, by_boundary, by_bterm, by_trans, by_conv, by_conveq, by_widen, by_beqty, by_beqtm}
+use Rattle.ft_items.specs.Store.{store_of, entry_named, variable_named, resolve}
 use Rattle.ft_stated.specs.Steps.{stated_step}
 use Rattle.ft_check.specs.Entries.{entry_in}
-use Rattle.ft_check.proofs.Entering.{btype_result, bterm_result, rule_result, rulewith_result, unbuilt_result}
+use Rattle.ft_check.proofs.Entering.{btype_result, one_checked, one_result, two_result, three_result, unbuilt_result, rule_result, rulewith_result}
 use Rattle.ft_check.proofs.item.check_result.Goals as goal
+
+pub returns-in-Var : goal.returns-in-Var
+returns-in-Var c = λ s g q k. one_checked (store_of (take c.args.i c.args.items.now.items)) c.args.step.now by_var (variable_named (store_of (take c.args.i c.args.items.now.items)) c.in-Var.v) (entry_in c.args.items.now.trees c.args.found) c.check_var.result s (ap (λ t. resolve (store_of (take c.args.i c.args.items.now.items)) (stated_step t)) c.in-Var.is) q
+    (λ d f. c.check_var.ensures d (stated_step c.args.step.now) g f)
+
+pub returns-in-Abs : goal.returns-in-Abs
+returns-in-Abs c = λ s g q k. two_result (store_of (take c.args.i c.args.items.now.items)) c.args.step.now by_abs (variable_named (store_of (take c.args.i c.args.items.now.items)) c.in-Abs.v) (entry_named (store_of (take c.args.i c.args.items.now.items)) c.in-Abs.p) (entry_in c.args.items.now.trees c.args.found) c.check_abs.result s (ap (λ t. resolve (store_of (take c.args.i c.args.items.now.items)) (stated_step t)) c.in-Abs.is) q
+    (λ d b f h. c.check_abs.ensures d b (stated_step c.args.step.now) g f h)
+
+pub returns-in-Subst : goal.returns-in-Subst
+returns-in-Subst c = λ s g q k. two_result (store_of (take c.args.i c.args.items.now.items)) c.args.step.now by_subst (entry_named (store_of (take c.args.i c.args.items.now.items)) c.in-Subst.p) (entry_named (store_of (take c.args.i c.args.items.now.items)) c.in-Subst.q) (entry_in c.args.items.now.trees c.args.found) c.check_subst.result s (ap (λ t. resolve (store_of (take c.args.i c.args.items.now.items)) (stated_step t)) c.in-Subst.is) q
+    (λ b d f h. c.check_subst.ensures b d (stated_step c.args.step.now) f h)
+
+pub returns-in-Refl : goal.returns-in-Refl
+returns-in-Refl c = λ s g q k. one_result (store_of (take c.args.i c.args.items.now.items)) c.args.step.now by_refl (entry_named (store_of (take c.args.i c.args.items.now.items)) c.in-Refl.p) (entry_in c.args.items.now.trees c.args.found) _ s (ap (λ t. resolve (store_of (take c.args.i c.args.items.now.items)) (stated_step t)) c.in-Refl.is) q
+    (λ b f. c.check_from_one.ensures b (stated_step c.args.step.now) f)
+
+pub returns-in-Sym : goal.returns-in-Sym
+returns-in-Sym c = λ s g q k. one_result (store_of (take c.args.i c.args.items.now.items)) c.args.step.now by_sym (entry_named (store_of (take c.args.i c.args.items.now.items)) c.in-Sym.p) (entry_in c.args.items.now.trees c.args.found) _ s (ap (λ t. resolve (store_of (take c.args.i c.args.items.now.items)) (stated_step t)) c.in-Sym.is) q
+    (λ b f. c.check_from_one-in-Sym.ensures b (stated_step c.args.step.now) f)
+
+pub returns-in-Left : goal.returns-in-Left
+returns-in-Left c = λ s g q k. one_result (store_of (take c.args.i c.args.items.now.items)) c.args.step.now by_left (entry_named (store_of (take c.args.i c.args.items.now.items)) c.in-Left.p) (entry_in c.args.items.now.trees c.args.found) _ s (ap (λ t. resolve (store_of (take c.args.i c.args.items.now.items)) (stated_step t)) c.in-Left.is) q
+    (λ b f. c.check_from_one-in-Left.ensures b (stated_step c.args.step.now) f)
+
+pub returns-in-Right : goal.returns-in-Right
+returns-in-Right c = λ s g q k. one_result (store_of (take c.args.i c.args.items.now.items)) c.args.step.now by_right (entry_named (store_of (take c.args.i c.args.items.now.items)) c.in-Right.p) (entry_in c.args.items.now.trees c.args.found) _ s (ap (λ t. resolve (store_of (take c.args.i c.args.items.now.items)) (stated_step t)) c.in-Right.is) q
+    (λ b f. c.check_from_one-in-Right.ensures b (stated_step c.args.step.now) f)
+
+pub returns-in-Typeof : goal.returns-in-Typeof
+returns-in-Typeof c = λ s g q k. one_result (store_of (take c.args.i c.args.items.now.items)) c.args.step.now by_typeof (entry_named (store_of (take c.args.i c.args.items.now.items)) c.in-Typeof.p) (entry_in c.args.items.now.trees c.args.found) _ s (ap (λ t. resolve (store_of (take c.args.i c.args.items.now.items)) (stated_step t)) c.in-Typeof.is) q
+    (λ b f. c.check_from_one-in-Typeof.ensures b (stated_step c.args.step.now) f)
+
+pub returns-in-Domain : goal.returns-in-Domain
+returns-in-Domain c = λ s g q k. one_result (store_of (take c.args.i c.args.items.now.items)) c.args.step.now by_domain (entry_named (store_of (take c.args.i c.args.items.now.items)) c.in-Domain.p) (entry_in c.args.items.now.trees c.args.found) _ s (ap (λ t. resolve (store_of (take c.args.i c.args.items.now.items)) (stated_step t)) c.in-Domain.is) q
+    (λ b f. c.check_from_one-in-Domain.ensures b (stated_step c.args.step.now) f)
+
+pub returns-in-Boundary : goal.returns-in-Boundary
+returns-in-Boundary c = λ s g q k. one_result (store_of (take c.args.i c.args.items.now.items)) c.args.step.now by_boundary (entry_named (store_of (take c.args.i c.args.items.now.items)) c.in-Boundary.p) (entry_in c.args.items.now.trees c.args.found) _ s (ap (λ t. resolve (store_of (take c.args.i c.args.items.now.items)) (stated_step t)) c.in-Boundary.is) q
+    (λ b f. c.check_from_one-in-Boundary.ensures b (stated_step c.args.step.now) f)
+
+pub returns-in-Bterm : goal.returns-in-Bterm
+returns-in-Bterm c = λ s g q k. one_result (store_of (take c.args.i c.args.items.now.items)) c.args.step.now by_bterm (entry_named (store_of (take c.args.i c.args.items.now.items)) c.in-Bterm.p) (entry_in c.args.items.now.trees c.args.found) _ s (ap (λ t. resolve (store_of (take c.args.i c.args.items.now.items)) (stated_step t)) c.in-Bterm.is) q
+    (λ b f. c.check_from_one-in-Bterm.ensures b (stated_step c.args.step.now) f)
+
+pub returns-in-Trans : goal.returns-in-Trans
+returns-in-Trans c = λ s g q k. two_result (store_of (take c.args.i c.args.items.now.items)) c.args.step.now by_trans (entry_named (store_of (take c.args.i c.args.items.now.items)) c.in-Trans.p) (entry_named (store_of (take c.args.i c.args.items.now.items)) c.in-Trans.q) (entry_in c.args.items.now.trees c.args.found) c.check_from_two.result s (ap (λ t. resolve (store_of (take c.args.i c.args.items.now.items)) (stated_step t)) c.in-Trans.is) q
+    (λ b d f h. c.check_from_two.ensures b d (stated_step c.args.step.now) f h)
+
+pub returns-in-Conv : goal.returns-in-Conv
+returns-in-Conv c = λ s g q k. two_result (store_of (take c.args.i c.args.items.now.items)) c.args.step.now by_conv (entry_named (store_of (take c.args.i c.args.items.now.items)) c.in-Conv.p) (entry_named (store_of (take c.args.i c.args.items.now.items)) c.in-Conv.q) (entry_in c.args.items.now.trees c.args.found) c.check_from_two-in-Conv.result s (ap (λ t. resolve (store_of (take c.args.i c.args.items.now.items)) (stated_step t)) c.in-Conv.is) q
+    (λ b d f h. c.check_from_two-in-Conv.ensures b d (stated_step c.args.step.now) f h)
+
+pub returns-in-Conveq : goal.returns-in-Conveq
+returns-in-Conveq c = λ s g q k. two_result (store_of (take c.args.i c.args.items.now.items)) c.args.step.now by_conveq (entry_named (store_of (take c.args.i c.args.items.now.items)) c.in-Conveq.p) (entry_named (store_of (take c.args.i c.args.items.now.items)) c.in-Conveq.q) (entry_in c.args.items.now.trees c.args.found) c.check_from_two-in-Conveq.result s (ap (λ t. resolve (store_of (take c.args.i c.args.items.now.items)) (stated_step t)) c.in-Conveq.is) q
+    (λ b d f h. c.check_from_two-in-Conveq.ensures b d (stated_step c.args.step.now) f h)
+
+pub returns-in-Widen : goal.returns-in-Widen
+returns-in-Widen c = λ s g q k. two_result (store_of (take c.args.i c.args.items.now.items)) c.args.step.now by_widen (entry_named (store_of (take c.args.i c.args.items.now.items)) c.in-Widen.p) (entry_named (store_of (take c.args.i c.args.items.now.items)) c.in-Widen.q) (entry_in c.args.items.now.trees c.args.found) c.check_from_two-in-Widen.result s (ap (λ t. resolve (store_of (take c.args.i c.args.items.now.items)) (stated_step t)) c.in-Widen.is) q
+    (λ b d f h. c.check_from_two-in-Widen.ensures b d (stated_step c.args.step.now) f h)
+
+pub returns-in-Beqty : goal.returns-in-Beqty
+returns-in-Beqty c = λ s g q k. two_result (store_of (take c.args.i c.args.items.now.items)) c.args.step.now by_beqty (entry_named (store_of (take c.args.i c.args.items.now.items)) c.in-Beqty.p) (entry_named (store_of (take c.args.i c.args.items.now.items)) c.in-Beqty.q) (entry_in c.args.items.now.trees c.args.found) c.check_from_two-in-Beqty.result s (ap (λ t. resolve (store_of (take c.args.i c.args.items.now.items)) (stated_step t)) c.in-Beqty.is) q
+    (λ b d f h. c.check_from_two-in-Beqty.ensures b d (stated_step c.args.step.now) f h)
+
+pub returns-in-Beqtm : goal.returns-in-Beqtm
+returns-in-Beqtm c = λ s g q k. three_result (store_of (take c.args.i c.args.items.now.items)) c.args.step.now by_beqtm (entry_named (store_of (take c.args.i c.args.items.now.items)) c.in-Beqtm.p) (entry_named (store_of (take c.args.i c.args.items.now.items)) c.in-Beqtm.s) (entry_named (store_of (take c.args.i c.args.items.now.items)) c.in-Beqtm.t) (entry_in c.args.items.now.trees c.args.found) c.check_from_three.result s (ap (λ t. resolve (store_of (take c.args.i c.args.items.now.items)) (stated_step t)) c.in-Beqtm.is) q
+    (λ b d e f h j. c.check_from_three.ensures b d e (stated_step c.args.step.now) f h j)
 
 pub returns-in-Btype : goal.returns-in-Btype
 returns-in-Btype c = λ s g q k. btype_result (store_of (take c.args.i c.args.items.now.items)) c.args.step.now (entry_in c.args.items.now.trees c.args.found) _ s c.in-Btype.is q (c.check_btype.ensures c.args.items.now.trees (stated_step c.args.step.now))
-
-pub returns-in-Bterm : goal.returns-in-Bterm
-returns-in-Bterm c = λ s g q k. bterm_result (store_of (take c.args.i c.args.items.now.items)) c.args.step.now c.in-Bterm.p (entry_in c.args.items.now.trees c.args.found) _ s c.in-Bterm.is q (λ b f. c.check_bterm.ensures b (stated_step c.args.step.now) f)
 
 pub returns-in-Rule : goal.returns-in-Rule
 returns-in-Rule c = λ s g q k. rule_result (store_of (take c.args.i c.args.items.now.items)) c.args.step.now c.in-Rule.r c.in-Rule.ps (entry_in c.args.items.now.trees c.args.found) c.check_applied.result (is_thesis (entry_in c.args.items.now.trees c.args.found).statement) s c.in-Rule.is q k
@@ -21,4 +87,5 @@ returns-in-Rulewith c = λ s g q k. rulewith_result (store_of (take c.args.i c.a
     (λ R b given f m n e a. c.check_applied_with.ensures R b given (stated_step c.args.step.now) g f m n e a)
 
 pub returns-in_default : goal.returns-in_default
-returns-in_default c = λ s g q k. unbuilt_result (store_of (take c.args.i c.args.items.now.items)) c.args.step.now (entry_in c.args.items.now.trees c.args.found) s q c.in_default.not-Btype c.in_default.not-Bterm c.in_default.not-Rule c.in_default.not-Rulewith
+returns-in_default c = λ s g q k. unbuilt_result (store_of (take c.args.i c.args.items.now.items)) c.args.step.now (entry_in c.args.items.now.trees c.args.found) s q
+    c.in_default.not-Var c.in_default.not-Abs c.in_default.not-Subst c.in_default.not-Refl c.in_default.not-Sym c.in_default.not-Trans c.in_default.not-Conv c.in_default.not-Conveq c.in_default.not-Left c.in_default.not-Right c.in_default.not-Typeof c.in_default.not-Domain c.in_default.not-Boundary c.in_default.not-Widen c.in_default.not-Btype c.in_default.not-Bterm c.in_default.not-Beqty c.in_default.not-Beqtm c.in_default.not-Rule c.in_default.not-Rulewith

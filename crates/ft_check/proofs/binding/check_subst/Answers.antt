@@ -1,0 +1,41 @@
+use Rattle.std.proofs.Common.{◌≡◌, ◌∙◌, Some, length, sym, ap, ap₂, subst, take}
+use Rattle.std.specs.Prelude.{option_map}
+use Rattle.ft_theory.specs.Expressions.{free}
+use Rattle.ft_theory.specs.Statements.{abstracted, close_statement, has_type, plain}
+use Rattle.ft_items.specs.Equal.{equal_statements}
+use Rattle.ft_items.specs.Good.{reason_of_result}
+use Rattle.ft_items.specs.Rows.{substitution}
+use Rattle.ft_items.specs.Sets.{union, var, without}
+use Rattle.ft_items.specs.Store.{Assertion, entry_named, store_of}
+use Rattle.ft_syntax.specs.Table.{tree}
+use Rattle.ft_steps.specs.Parts.{statement_in, PartsBelow}
+use Rattle.ft_check.specs.Entries.{entry_in, with_step}
+use Rattle.ft_check.specs.Rejects.{reason_of}
+use Rattle.ft_check.specs.Typing.{IsTyped}
+use Rattle.ft_check.proofs.Bindings.{as_some}
+use Rattle.ft_check.proofs.Concluded.{variable_stands, variable_reason, abstracted_reason, two_entries, tested_reason}
+use Rattle.ft_check.proofs.binding.check_subst.Goals as goal
+
+pub is_substituted-requires-clause-x : goal.is_substituted-requires-clause-x
+is_substituted-requires-clause-x c = subst (λ ts. PartsBelow (length ts) c.parts-first.result) (sym c.terms.ensures) (c.parts-first.ensures.below (length c.args.items.now.trees) c.in-Some.ensures.below)
+
+pub is_substituted-requires-clause-t : goal.is_substituted-requires-clause-t
+is_substituted-requires-clause-t c = subst (λ ts. PartsBelow (length ts) c.parts-second.result) (sym c.terms.ensures) (c.parts-second.ensures.below (length c.args.items.now.trees) c.in-Some-entry_before.ensures.below)
+
+pub is_substituted-requires-clause-y : goal.is_substituted-requires-clause-y
+is_substituted-requires-clause-y c = subst (λ ts. PartsBelow (length ts) c.parts-stated.result) (sym c.terms.ensures) (c.parts-stated.ensures.below (length c.args.items.now.trees) c.requires)
+
+pub returns : goal.returns
+returns c = λ a b n f h.
+    let T = c.args.items.now.trees in
+    let W = store_of (take c.args.i c.args.items.now.items) in
+    let E = with_step (entry_in T c.args.found) n in
+    let p = entry_in T c.in-Some.named in
+    let q = entry_in T c.in-Some-entry_before.term in
+    two_entries (λ (a b : Assertion). option_map reason_of c.against_test.result ≡ reason_of_result (substitution a.statement b.statement) (union a.set b.set) E) p a q b (entry_named W c.args.p) (entry_named W c.args.q)
+    c.in-Some.ensures.entry f c.in-Some-entry_before.ensures.entry h
+    (tested_reason (substitution p.statement q.statement) (entry_in T c.args.found).statement (union p.set q.set) E c.in-Some-2.is_concluded c.in_ok-is_substituted.field-0 _
+    (subst (λ ts. c.in_ok-is_substituted.field-0 ≡ option_map (λ z. equal_statements z (statement_in ts c.parts-stated.result)) (substitution (statement_in ts c.parts-first.result) (statement_in ts c.parts-second.result))) c.terms.ensures c.in_ok-is_substituted.ensures
+    ∙ ap₂ (λ y o. option_map (λ z. equal_statements z y) o) (c.parts-stated.ensures.is T) (ap₂ substitution (c.parts-first.ensures.is T) (c.parts-second.ensures.is T)))
+    c.in-Some-2.is
+    (λ x k. c.against_test.ensures T x n k ∙ ap (λ S. reason_of_result (Some x) S E) (c.in_ok-set.ensures ∙ ap₂ union (c.set.ensures T) (c.set-2.ensures T))))

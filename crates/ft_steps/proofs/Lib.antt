@@ -1,0 +1,5 @@
+mod Stating
+mod Equals
+mod Concluding
+mod Moves
+mod Substitutes

@@ -1,0 +1,14 @@
+//! What steps conclude from statements of one table.
+#![tactic(auto)]
+
+mod binding;
+mod claims;
+mod equal;
+mod moving;
+mod parts;
+mod rows;
+
+pub use binding::{is_abstracted, is_substituted, is_variable, plain_type};
+pub use equal::is_same;
+pub use parts::{Claim, Parts, boundary_parts, thesis_parts};
+pub use rows::{FromOne, FromTwo, from_one, from_three, from_two};

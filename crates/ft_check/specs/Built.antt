@@ -3,7 +3,7 @@
 use Rattle.std.specs.Prelude.{ℕ, zero, suc, ◌≡◌, ◌≢◌, ◌⊎◌, ◌&&◌, Bool, true, false, cond, Option, Some, None, List, [], ◌∷◌, ◌++◌, length}
 use Rattle.ft_theory.specs.Statements.{Statement}
 use Rattle.ft_items.specs.Equal.{is_thesis}
-use Rattle.ft_items.specs.Item.{Justification, by_var, by_abs, by_subst, by_refl, by_sym, by_trans, by_conv, by_conveq, by_left, by_right, by_typeof, by_domain, by_boundary, by_widen, by_btype, by_bterm, by_beqty, by_beqtm, by_rule, by_rulewith, Entry, Item, variable, metavariable, rule, entry, shown}
+use Rattle.ft_items.specs.Item.{Justification, by_var, by_abs, by_subst, by_substeq, by_refl, by_sym, by_trans, by_conv, by_conveq, by_left, by_right, by_typeof, by_domain, by_boundary, by_widen, by_btype, by_bterm, by_beqty, by_beqtm, by_rule, by_rulewith, Entry, Item, variable, metavariable, rule, entry, shown}
 use Rattle.ft_items.specs.Store.{Store, Resolved, resolve, empty_store, add}
 use Rattle.ft_items.specs.Rows.{conclusion, result_set, concludes_thesis}
 use Rattle.ft_items.specs.Good.{Reject, Reference, Kind, Premise, unless, of_kind, same_kind, reason_of_result, reason_in, found_at, Counts, counts, Verdict, Accepted, Rejected, verdict_by, verdict}
@@ -13,6 +13,7 @@ abbrev pub is_built : {E V M R : Type 0} → Justification E V M R → Bool
 is_built (by_var v) = true
 is_built (by_abs v p) = true
 is_built (by_subst p t) = true
+is_built (by_substeq p e) = true
 is_built (by_refl p) = true
 is_built (by_sym p) = true
 is_built (by_trans p q) = true

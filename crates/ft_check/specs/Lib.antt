@@ -7,3 +7,4 @@ pub mod Comparing
 pub mod Putting
 pub mod Applying
 pub mod Typing
+pub mod Substituting

@@ -7,10 +7,12 @@ ghost use Rattle.ft_items.specs.Item.{Stated as StatedNumbers};
 ghost use Rattle.ft_items.specs.Equal.{equal_statements};
 ghost use Rattle.ft_items.specs.Sets.{insert, union, var, without};
 ghost use Rattle.ft_items.specs.Store.{Annotation, Assertion, entry_named, store_of, variable_named};
-ghost use Rattle.ft_items.specs.Rows.{depends as depends_in, substitution, when};
+ghost use Rattle.ft_items.specs.Rows.{depends as depends_in, when};
 ghost use Rattle.ft_items.specs.Good.{Good, reason_of_result};
 ghost use Rattle.ft_check.specs.Entries.{entry_in, EntryBelow, with_step};
 ghost use Rattle.ft_check.specs.Rejects.{reason_of};
+ghost use Rattle.ft_check.specs.Substituting.{put};
+ghost use Rattle.ft_steps.specs.Parts.{statement_in, PartsBelow};
 
 use crate::entry::{Entry, entry_before};
 use crate::reject::Reject;
@@ -19,7 +21,8 @@ use crate::typed::{depends, typed_before};
 use ft_assume::{Assume, Atom};
 use ft_base::Memory;
 use ft_stated::StatedItems;
-use ft_steps::{is_abstracted, is_substituted, is_variable};
+use ft_steps::{Parts, is_abstracted, is_equally_substituted, is_substituted, is_variable};
+use ft_syntax::Terms;
 use std::alloc::Global;
 
 // The reason against an entry with the set, by the test whether it is what is concluded.
@@ -81,30 +84,58 @@ pub fn check_abs(
     Ok(against_test(is_concluded, &set, found))
 }
 
-/// The reason against an entry as entry `p` with the term of entry `q` for the variable of its first domain.
+/// What is put for the variable of a first domain: a term, or each side of an equation of terms.
+#[derive(Clone, Copy, Debug, PartialEq, Eq)]
+pub enum By {
+    Term,
+    Equation,
+}
+
+// Whether what is stated is the first statement with what the second has for the variable of its first domain.
+fn is_put(
+    alloc: Global,
+    terms: &Terms,
+    by: By,
+    x: &Parts<'_>,
+    t: &Parts<'_>,
+    y: &Parts<'_>,
+) -> Result<Option<bool>, Memory>
+    requires x { PartsBelow (length terms.now) x.now }
+    requires t { PartsBelow (length terms.now) t.now }
+    requires y { PartsBelow (length terms.now) y.now }
+    ensures { IfOk result (λ o. o ≡ option_map (λ z. equal_statements z (statement_in terms.now y.now)) (put by (statement_in terms.now x.now) (statement_in terms.now t.now))) }
+{
+    match by {
+        By::Term => is_substituted(alloc, terms, x, t, y),
+        By::Equation => is_equally_substituted(alloc, terms, x, t, y),
+    }
+}
+
+/// The reason against an entry as entry `p` with what entry `q` has for the variable of its first domain.
 pub fn check_subst(
     alloc: Global,
     items: &StatedItems,
     i: u64,
     found: Entry<'_>,
+    by: By,
     p: u64,
     q: u64,
 ) -> Result<Option<Reject>, Memory>
     requires { EntryBelow (length items.now.trees) found }
     ensures { (a b : Assertion) (n : StatedNumbers) → entry_named (store_of (take i items.now.items)) p ≡ Some a → entry_named (store_of (take i items.now.items)) q ≡ Some b
-        → IfOk result (λ x. option_map reason_of x ≡ reason_of_result (substitution a.statement b.statement) (union a.set b.set) (with_step (entry_in items.now.trees found.entry) n)) }
+        → IfOk result (λ x. option_map reason_of x ≡ reason_of_result (put by a.statement b.statement) (union a.set b.set) (with_step (entry_in items.now.trees found.entry) n)) }
 {
     let Some(named) = entry_before(items, i, p) else {
         return Ok(Some(Reject::Reference));
     };
-    let Some(term) = entry_before(items, i, q) else {
+    let Some(other) = entry_before(items, i, q) else {
         return Ok(Some(Reject::Reference));
     };
-    let set = named.set().union(term.set())?;
+    let set = named.set().union(other.set())?;
     let first = named.parts();
-    let second = term.parts();
+    let second = other.parts();
     let stated = found.parts();
-    match is_substituted(alloc, items.terms(), &first, &second, &stated)? {
+    match is_put(alloc, items.terms(), by, &first, &second, &stated)? {
         None => Ok(Some(Reject::Premise)),
         Some(is_concluded) => Ok(against_test(is_concluded, &set, found)),
     }

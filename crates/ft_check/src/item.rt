@@ -12,7 +12,7 @@ ghost use Rattle.ft_check.specs.Entries.{entry_in, EntryBelow, with_step};
 ghost use Rattle.ft_check.specs.Kinds.{kinds_right};
 ghost use Rattle.ft_check.specs.Rejects.{reason_of};
 
-use crate::binding::{check_abs, check_subst, check_var};
+use crate::binding::{By, check_abs, check_subst, check_var};
 use crate::boundaries::check_btype;
 use crate::entry::Entry;
 use crate::parted::{check_from_one, check_from_three, check_from_two};
@@ -40,7 +40,8 @@ fn check_result(
     match step {
         StatedStep::Var(v) => check_var(alloc, items, i, found, *v),
         StatedStep::Abs(v, p) => check_abs(alloc, items, i, found, *v, *p),
-        StatedStep::Subst(p, q) => check_subst(alloc, items, i, found, *p, *q),
+        StatedStep::Subst(p, q) => check_subst(alloc, items, i, found, By::Term, *p, *q),
+        StatedStep::Substeq(p, q) => check_subst(alloc, items, i, found, By::Equation, *p, *q),
         StatedStep::Refl(p) => Ok(check_from_one(items, i, found, FromOne::Refl, *p)),
         StatedStep::Sym(p) => Ok(check_from_one(items, i, found, FromOne::Sym, *p)),
         StatedStep::Trans(p, q) => check_from_two(items, i, found, FromTwo::Trans, *p, *q),

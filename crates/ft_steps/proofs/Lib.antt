@@ -3,3 +3,4 @@ mod Equals
 mod Concluding
 mod Moves
 mod Substitutes
+mod Equated

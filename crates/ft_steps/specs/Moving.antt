@@ -1,8 +1,8 @@
 -- Statements of which each expression is moved: opened, or closed.
 use Rattle.std.specs.Prelude.{ℕ, zero, suc, ◌<◌, ◌&&◌, Bool, true, false, Option, Some, None, List, [], ◌∷◌}
 use Rattle.ft_theory.specs.Expressions.{Expression, open_at, close_at}
-use Rattle.ft_theory.specs.Statements.{Statement, plain, has_type, map_statement}
-use Rattle.ft_items.specs.Equal.{equal_expressions}
+use Rattle.ft_theory.specs.Statements.{Claim, Statement, plain, has_type, equal_terms, map_claim, map_statement, boundary_of_claim, equate_goal}
+use Rattle.ft_items.specs.Equal.{equal_expressions, head_of_claim}
 use Rattle.ft_syntax.specs.Table.{tree}
 use Rattle.ft_steps.specs.declared.moving.Move.{Move}
 use Rattle.ft_steps.specs.declared.moving.Move.TheVariants.{Open, Close}
@@ -36,3 +36,16 @@ plain_term x = None
 -- two expressions of a table
 abbrev pub two_in : List Expression → ℕ × ℕ → Expression × Expression
 two_in ts p = (tree ts p.0, tree ts p.1)
+
+-- the sides and the type, where the statement is a plain equation of terms
+abbrev pub plain_equation : Statement → Option (Expression × Expression × Expression)
+plain_equation (plain (equal_terms s t A)) = Some (s, t, A)
+plain_equation x = None
+
+-- three expressions of a table
+abbrev pub three_in : List Expression → ℕ × ℕ × ℕ → Expression × Expression × Expression
+three_in ts p = (tree ts p.0, tree ts p.1, tree ts p.2)
+
+-- The equation between the head of a claim opened with s and opened with t below k domains, at the claim's goal opened with s.
+abbrev pub equated : ℕ → Expression → Expression → Claim → Claim
+equated k s t c = equate_goal (map_claim (open_at k s) (boundary_of_claim c)) (open_at k s (head_of_claim c)) (open_at k t (head_of_claim c))

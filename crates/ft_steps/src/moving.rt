@@ -41,9 +41,9 @@ fn form(own: &mut Terms, terms: &Terms, work: &Move, under: u64, e: E) -> Result
     }
 }
 
-// Whether the second expression is the first one moved below so many domains. The table `own` serves to form it.
+/// Whether the second expression is the first one moved below so many domains. The table `own` serves to form it.
 #[tactic(auto, using(crate::proofs::Moves::big_differs, crate::proofs::Moves::formed_same))]
-fn is_moved(
+pub fn is_moved(
     own: &mut Terms,
     terms: &Terms,
     work: &Move,
@@ -163,9 +163,9 @@ fn is_claim_moved(
     }
 }
 
-// Whether the second domains are the first ones moved, each below those before it.
+/// Whether the second domains are the first ones moved, each below those before it.
 #[tactic(auto, using(crate::proofs::Moves::domains_next, crate::proofs::Moves::domains_not, crate::proofs::Moves::domains_end, ft_syntax::specs::Laws::one_below))]
-fn are_domains_moved(
+pub fn are_domains_moved(
     own: &mut Terms,
     terms: &Terms,
     work: &Move,

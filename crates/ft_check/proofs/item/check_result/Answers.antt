@@ -1,6 +1,6 @@
 use Rattle.std.proofs.Common.{take, ap}
 use Rattle.ft_items.specs.Equal.{is_thesis}
-use Rattle.ft_items.specs.Item.{by_var, by_abs, by_subst, by_refl, by_sym, by_left, by_right, by_typeof, by_domain, by_boundary, by_bterm, by_trans, by_conv, by_conveq, by_widen, by_beqty, by_beqtm}
+use Rattle.ft_items.specs.Item.{by_var, by_abs, by_subst, by_substeq, by_refl, by_sym, by_left, by_right, by_typeof, by_domain, by_boundary, by_bterm, by_trans, by_conv, by_conveq, by_widen, by_beqty, by_beqtm}
 use Rattle.ft_items.specs.Store.{store_of, entry_named, variable_named, resolve}
 use Rattle.ft_stated.specs.Steps.{stated_step}
 use Rattle.ft_check.specs.Entries.{entry_in}
@@ -18,6 +18,10 @@ returns-in-Abs c = λ s g q k. two_result (store_of (take c.args.i c.args.items.
 pub returns-in-Subst : goal.returns-in-Subst
 returns-in-Subst c = λ s g q k. two_result (store_of (take c.args.i c.args.items.now.items)) c.args.step.now by_subst (entry_named (store_of (take c.args.i c.args.items.now.items)) c.in-Subst.p) (entry_named (store_of (take c.args.i c.args.items.now.items)) c.in-Subst.q) (entry_in c.args.items.now.trees c.args.found) c.check_subst.result s (ap (λ t. resolve (store_of (take c.args.i c.args.items.now.items)) (stated_step t)) c.in-Subst.is) q
     (λ b d f h. c.check_subst.ensures b d (stated_step c.args.step.now) f h)
+
+pub returns-in-Substeq : goal.returns-in-Substeq
+returns-in-Substeq c = λ s g q k. two_result (store_of (take c.args.i c.args.items.now.items)) c.args.step.now by_substeq (entry_named (store_of (take c.args.i c.args.items.now.items)) c.in-Substeq.p) (entry_named (store_of (take c.args.i c.args.items.now.items)) c.in-Substeq.q) (entry_in c.args.items.now.trees c.args.found) c.check_subst-in-Substeq.result s (ap (λ t. resolve (store_of (take c.args.i c.args.items.now.items)) (stated_step t)) c.in-Substeq.is) q
+    (λ b d f h. c.check_subst-in-Substeq.ensures b d (stated_step c.args.step.now) f h)
 
 pub returns-in-Refl : goal.returns-in-Refl
 returns-in-Refl c = λ s g q k. one_result (store_of (take c.args.i c.args.items.now.items)) c.args.step.now by_refl (entry_named (store_of (take c.args.i c.args.items.now.items)) c.in-Refl.p) (entry_in c.args.items.now.trees c.args.found) _ s (ap (λ t. resolve (store_of (take c.args.i c.args.items.now.items)) (stated_step t)) c.in-Refl.is) q
@@ -88,4 +92,4 @@ returns-in-Rulewith c = λ s g q k. rulewith_result (store_of (take c.args.i c.a
 
 pub returns-in_default : goal.returns-in_default
 returns-in_default c = λ s g q k. unbuilt_result (store_of (take c.args.i c.args.items.now.items)) c.args.step.now (entry_in c.args.items.now.trees c.args.found) s q
-    c.in_default.not-Var c.in_default.not-Abs c.in_default.not-Subst c.in_default.not-Refl c.in_default.not-Sym c.in_default.not-Trans c.in_default.not-Conv c.in_default.not-Conveq c.in_default.not-Left c.in_default.not-Right c.in_default.not-Typeof c.in_default.not-Domain c.in_default.not-Boundary c.in_default.not-Widen c.in_default.not-Btype c.in_default.not-Bterm c.in_default.not-Beqty c.in_default.not-Beqtm c.in_default.not-Rule c.in_default.not-Rulewith
+    c.in_default.not-Var c.in_default.not-Abs c.in_default.not-Subst c.in_default.not-Substeq c.in_default.not-Refl c.in_default.not-Sym c.in_default.not-Trans c.in_default.not-Conv c.in_default.not-Conveq c.in_default.not-Left c.in_default.not-Right c.in_default.not-Typeof c.in_default.not-Domain c.in_default.not-Boundary c.in_default.not-Widen c.in_default.not-Btype c.in_default.not-Bterm c.in_default.not-Beqty c.in_default.not-Beqtm c.in_default.not-Rule c.in_default.not-Rulewith

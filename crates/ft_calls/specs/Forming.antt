@@ -8,9 +8,14 @@ use Rattle.ft_reference.specs.Refusals.{Check, first_refusal}
 use Rattle.ft_judge.specs.Meaning.{claim_in, goal_in}
 use Rattle.ft_judge.specs.declared.judgement.Form.{Form}
 use Rattle.ft_judge.specs.declared.judgement.Goal.{Goal}
+use Rattle.ft_judge.specs.declared.fault.Differ.{Differ}
 use Rattle.ft_judge.specs.declared.fault.Refusal.{Refusal}
 use Rattle.ft_kernel.specs.State.{State, entry_at}
 use Rattle.ft_calls.specs.Answers.{refusal_in, RefusalBelow}
+
+-- the two expressions of a table, under so many domains
+abbrev pub differ_at : ℕ → ℕ → ℕ → Differ
+differ_at n found wanted = record { found = found; wanted = wanted; under = n }
 
 -- no check fails, and the row gives the statement
 abbrev pub Gives : List Check → Option Statement → Statement → Type 0

@@ -3,6 +3,7 @@
 ghost use Rattle.std.specs.Prelude.{◌≡◌, ◌<◌, zero, length, true, false, OnOk, IfErr};
 ghost use Rattle.ft_items.specs.Equal.{equal_expressions};
 ghost use Rattle.ft_syntax.specs.Table.{tree};
+ghost use Rattle.ft_calls.specs.Forming.{differ_at};
 ghost use Rattle.ft_judge.specs.declared.fault.Refusal.TheVariants.{TypeDiffers, SidesDiffer};
 
 use ft_judge::{Differ, Refusal};
@@ -23,7 +24,7 @@ pub fn same_type(t: &Terms, found: E, wanted: E) -> Result<(), Refusal>
     ensures equal { OnOk result (equal_expressions (tree t.now found) (tree t.now wanted) ≡ true) }
     ensures back { OnOk result (equal_expressions (tree t.now wanted) (tree t.now found) ≡ true) }
     ensures other { IfErr result (λ q. equal_expressions (tree t.now found) (tree t.now wanted) ≡ false) }
-    ensures refused { IfErr result (λ q. q ≡ TypeDiffers (record { found = found; wanted = wanted; under = zero })) }
+    ensures refused { IfErr result (λ q. q ≡ TypeDiffers (differ_at zero found wanted)) }
 {
     if same(t, found, wanted) {
         return Ok(());
@@ -41,7 +42,7 @@ pub fn same_side(t: &Terms, found: E, wanted: E) -> Result<(), Refusal>
     ensures equal { OnOk result (equal_expressions (tree t.now found) (tree t.now wanted) ≡ true) }
     ensures back { OnOk result (equal_expressions (tree t.now wanted) (tree t.now found) ≡ true) }
     ensures other { IfErr result (λ q. equal_expressions (tree t.now found) (tree t.now wanted) ≡ false) }
-    ensures refused { IfErr result (λ q. q ≡ SidesDiffer (record { found = found; wanted = wanted; under = zero })) }
+    ensures refused { IfErr result (λ q. q ≡ SidesDiffer (differ_at zero found wanted)) }
 {
     if same(t, found, wanted) {
         return Ok(());

@@ -1,11 +1,11 @@
 -- The parts of statements, by which is asked for.
-use Rattle.std.specs.Prelude.{ℕ, Option, None, is_some, Result, List, [], ◌∷◌}
+use Rattle.std.specs.Prelude.{ℕ, ◌≡◌, option_map, Option, None, is_some, Result, List, [], ◌∷◌}
 use Rattle.ft_theory.specs.Statements.{Claim, Statement, plain}
 use Rattle.ft_theory.specs.Expressions.{Expression}
 use Rattle.ft_items.specs.Item.{Stated, by_left, by_right, by_typeof, by_domain}
 use Rattle.ft_items.specs.Rows.{left_side, right_side, type_part, under_domains, first_domain}
 use Rattle.ft_reference.specs.Refusals.{Check, Refusal, WrongForm, NotAbstracted, asks}
-use Rattle.ft_judge.specs.Meaning.{under}
+use Rattle.ft_judge.specs.Meaning.{claim_in, under}
 use Rattle.ft_judge.specs.declared.judgement.Form.{Form}
 use Rattle.ft_judge.specs.declared.fault.Refusal as judge
 use Rattle.ft_calls.specs.Forming.{Forms, plain_in}
@@ -55,3 +55,11 @@ domains_left Domain ds = []
 abbrev pub FormsSide : Which → List Expression → List ℕ → Claim → Result Form judge.Refusal → Type 0
 FormsSide w ts ds c r =
     Forms (λ f. under ts (domains_left w ds) (plain_in ts f)) ts (side_checks w (under ts ds (plain c))) (side_row w (under ts ds (plain c))) r
+
+-- so it is for each claim or goal over a table that has the given form as its part below the domains
+abbrev pub FormsPart : Which → Option Form → List ℕ → Result Form judge.Refusal → Type 0
+FormsPart w below ds r = (ts : List Expression) (c : Claim) → option_map (claim_in ts) below ≡ claim_part w c → FormsSide w ts ds c r
+
+-- and for the first domain of each claim or goal
+abbrev pub FormsDomain : List ℕ → Result Form judge.Refusal → Type 0
+FormsDomain ds r = (ts : List Expression) (c : Claim) → FormsSide Domain ts ds c r

@@ -2,15 +2,13 @@
 
 ghost use Rattle.std.specs.Prelude.{◌≡◌, ℕ, List, length, option_map, IfOk, IfSome};
 ghost use Rattle.ft_theory.specs.Expressions.{Expression};
-ghost use Rattle.ft_theory.specs.Statements.{Claim};
 ghost use Rattle.ft_items.specs.Item.{by_boundary};
 ghost use Rattle.ft_syntax.specs.Table.{AllBelow};
 ghost use Rattle.ft_judge.specs.Meaning.{claim_in, goal_in, FormBelow, GoalBelow};
 ghost use Rattle.ft_kernel.specs.State.{IsThesisOf, IsBoundaryOf};
 ghost use Rattle.ft_kernel.specs.Steps.{step_of, entry_of};
 ghost use Rattle.ft_calls.specs.Answers.{Answers};
-ghost use Rattle.ft_nucleus.specs.declared.parts.Which.TheVariants.{Domain};
-ghost use Rattle.ft_nucleus.specs.Sides.{side_step, claim_part, domains_left, FormsSide};
+ghost use Rattle.ft_nucleus.specs.Sides.{side_step, claim_part, domains_left, FormsPart, FormsDomain};
 
 use ft_base::Memory;
 use ft_calls::{conclude, conclude_boundary};
@@ -19,7 +17,7 @@ use ft_kernel::{B, J, Kernel, Part, Step};
 use ft_syntax::E;
 use std::alloc::Global;
 
-/// A part of a statement: a side or the type, under its domains; or the first domain, as a plain type.
+/// A part of a statement: a side or the type, under its domains; or its first domain, as a type.
 #[derive(Clone, Copy, Debug, PartialEq, Eq)]
 pub enum Which {
     Left,
@@ -131,8 +129,7 @@ fn part_of_goal(goal: &Goal, which: Which) -> Option<Form>
 
 // The part that is asked for, of which `below` is what stands below the domains.
 fn part(domains: &[E], below: Option<Form>, which: Which) -> Result<Form, Refusal>
-    ensures forms { (ts : List Expression) → (c : Claim) → option_map (claim_in ts) below ≡ claim_part which c →
-        FormsSide which ts domains.now c result }
+    ensures forms { FormsPart which below domains.now result }
     ensures below { (n : ℕ) → AllBelow n domains.now → IfSome below (λ f. FormBelow n f) →
         IfOk result (λ f. FormBelow n f) }
 {
@@ -144,7 +141,7 @@ fn part(domains: &[E], below: Option<Form>, which: Which) -> Result<Form, Refusa
 
 // The first domain as a type.
 fn first_domain(domains: &[E]) -> Result<Form, Refusal>
-    ensures forms { (ts : List Expression) → (c : Claim) → FormsSide Domain ts domains.now c result }
+    ensures forms { FormsDomain domains.now result }
     ensures below { (n : ℕ) → AllBelow n domains.now → IfOk result (λ f. FormBelow n f) }
 {
     if domains.is_empty() {

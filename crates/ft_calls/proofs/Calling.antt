@@ -31,6 +31,17 @@ pub record IsCallOfOne (n : ℕ → Stated) (f : Assertion → Resolved) (cs : S
   pub row_is : (W : Store) (P : Assertion) → conclusion W (f P) ≡ row P.statement
   pub set_is : (P : Assertion) → result_set (f P) ≡ P.set
 
+-- The same for a call of a thesis or a boundary.
+pub record IsCallOfEither (n : ℕ → Stated) (f : Assertion → Resolved) (cs : Statement → List Check) (row : Statement → Option Statement) : Type 0 where
+  pub resolves : (W : Store) (p : ℕ) → resolve W (n p) ≡ with_one f (entry_named W p)
+  pub kind : (P : Assertion) → of_kind (f P) ≡ true
+  pub checks_are : (W : Store) (P : Assertion) → checks W (f P) ≡ cs P.statement
+  pub row_is : (W : Store) (P : Assertion) → conclusion W (f P) ≡ row P.statement
+  pub set_is : (P : Assertion) → result_set (f P) ≡ P.set
+
+pub of_either : {n : ℕ → Stated} {f : Assertion → Resolved} {cs : Statement → List Check} {row : Statement → Option Statement} → IsCallOfEither n f cs row → IsCallOfOne n f cs row
+of_either C = record { resolves = C.resolves; kind = λ P h. C.kind P; checks_are = C.checks_are; row_is = C.row_is; set_is = C.set_is }
+
 -- The call n of two theses, likewise, and the sets of both.
 pub record IsCallOfTwo (n : ℕ → ℕ → Stated) (f : Assertion → Assertion → Resolved) (cs : Statement → Statement → List Check) (row : Statement → Statement → Option Statement) : Type 0 where
   pub resolves : (W : Store) (p q : ℕ) → resolve W (n p q) ≡ with_two f (entry_named W p) (entry_named W q)
@@ -73,6 +84,14 @@ pub answers_both : {n : ℕ → ℕ → Stated} {f : Assertion → Assertion →
 answers_both {n} {f} {cs} {row} C s p q X x y S T U P Q h k m g same set =
     answers_two C s p q X Q.0.statement x y S T U h k (ap (option_map (λ (a : Assertion). a.statement)) Q.1) m
     (subst (λ x. is_thesis x ≡ true) (stated_is s p P.0 X P.1 h) P.2) Q.2 (g Q.0.statement) same set
+
+pub answers_either : {n : ℕ → Stated} {f : Assertion → Resolved} {cs : Statement → List Check} {row : Statement → Option Statement} → IsCallOfEither n f cs row
+    → (s : State) (p : ℕ) (X x y : Statement) (S U : List Atom) → statement_at s p ≡ Some X → set_at s p ≡ Some S → Gives (cs X) (row X) x → y ≡ x → U ≡ S → IsAnswer s (n p) (Ok (rests y U))
+answers_either {n} {f} {cs} {row} C s p X x y S U h k g same set =
+    let P = rests X S in
+    subst (λ a. IsAnswer s (n p) (Ok a)) (ap₂ rests (sym same) (C.set_is P ∙ sym set))
+    (answered_ok s (n p) (f P) x (resolves_one s (n p) f p P (C.resolves (store s) p) (entry_is s p X S h k)) (C.kind P)
+    (ap first_refusal (C.checks_are (store s) P) ∙ g.0, C.row_is (store s) P ∙ g.1))
 
 -- What is refused: the first check that fails.
 

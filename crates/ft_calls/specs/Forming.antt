@@ -1,16 +1,26 @@
 -- What the parts of a call find out before anything is added: whether its checks hold, and what its row gives.
-use Rattle.std.specs.Prelude.{ℕ, ◌≡◌, false, List, length, Option, Some, None, Result, Ok, Err}
+use Rattle.std.specs.Prelude.{ℕ, ◌≡◌, Bool, false, List, length, Option, Some, None, Result, Ok, Err}
 use Rattle.ft_theory.specs.Expressions.{Expression}
 use Rattle.ft_theory.specs.Statements.{Statement, plain}
-use Rattle.ft_items.specs.Equal.{is_plain}
+use Rattle.ft_items.specs.Equal.{equal_expressions, is_plain}
 use Rattle.ft_items.specs.Store.{Assertion}
 use Rattle.ft_reference.specs.Refusals.{Check, first_refusal}
+use Rattle.ft_syntax.specs.Table.{tree}
 use Rattle.ft_judge.specs.Meaning.{claim_in, goal_in}
 use Rattle.ft_judge.specs.declared.judgement.Form.{Form}
 use Rattle.ft_judge.specs.declared.judgement.Goal.{Goal}
+use Rattle.ft_judge.specs.declared.fault.Differ.{Differ}
 use Rattle.ft_judge.specs.declared.fault.Refusal.{Refusal}
 use Rattle.ft_kernel.specs.State.{State, entry_at}
 use Rattle.ft_calls.specs.Answers.{refusal_in, RefusalBelow}
+
+-- the test that two expressions of a table are the same
+abbrev pub equal_in : List Expression → ℕ → ℕ → Bool
+equal_in ts e f = equal_expressions (tree ts e) (tree ts f)
+
+-- two expressions of a table that differ, under so many domains
+abbrev pub differ_at : ℕ → ℕ → ℕ → Differ
+differ_at n found wanted = record { found = found; wanted = wanted; under = n }
 
 -- no check fails, and the row gives the statement
 abbrev pub Gives : List Check → Option Statement → Statement → Type 0

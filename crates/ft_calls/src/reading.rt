@@ -9,7 +9,7 @@ ghost use Rattle.ft_calls.specs.Forming.{plain_in, HasDomains};
 use ft_judge::{Form, Refusal};
 use ft_kernel::{J, Kernel};
 
-/// The form of a thesis without domains that a token names. One with domains is of the wrong form. It takes no memory.
+/// The form of a thesis without domains. Others are of the wrong form. It takes no memory.
 #[tactic(auto, using(crate::proofs::Entries::plain_is, crate::proofs::Entries::domains_are))]
 pub fn form_named(k: &Kernel, j: J) -> Result<Form, Refusal>
     requires { IsThesisOf k.now j }
@@ -25,7 +25,7 @@ pub fn form_named(k: &Kernel, j: J) -> Result<Form, Refusal>
     Ok(thesis.form)
 }
 
-/// The forms of two theses without domains. Where one has domains it is of the wrong form. It takes no memory.
+/// The forms of two theses without domains. Others are of the wrong form. It takes no memory.
 pub fn forms_named(k: &Kernel, i: J, j: J) -> Result<(Form, Form), Refusal>
     requires first { IsThesisOf k.now i }
     requires second { IsThesisOf k.now j }

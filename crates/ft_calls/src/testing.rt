@@ -1,8 +1,7 @@
 //! Tests that calls share.
 
 ghost use Rattle.std.specs.Prelude.{◌≡◌, ◌<◌, zero, length, true, false, OnOk, IfErr};
-ghost use Rattle.ft_items.specs.Equal.{equal_expressions};
-ghost use Rattle.ft_syntax.specs.Table.{tree};
+ghost use Rattle.ft_calls.specs.Forming.{equal_in, differ_at};
 ghost use Rattle.ft_judge.specs.declared.fault.Refusal.TheVariants.{TypeDiffers, SidesDiffer};
 
 use ft_judge::{Differ, Refusal};
@@ -11,8 +10,8 @@ use ft_syntax::{E, Terms};
 /// Whether two expressions are one. It takes no memory.
 pub fn same(t: &Terms, a: E, b: E) -> bool
     requires { (a < length t.now) × (b < length t.now) }
-    ensures equal { result ≡ equal_expressions (tree t.now a) (tree t.now b) }
-    ensures back { result ≡ equal_expressions (tree t.now b) (tree t.now a) }
+    ensures equal { result ≡ equal_in t.now a b }
+    ensures back { result ≡ equal_in t.now b a }
 {
     t.equal_expr(a, b)
 }
@@ -20,10 +19,10 @@ pub fn same(t: &Terms, a: E, b: E) -> bool
 /// Whether the type found is the one wanted, where no domains are around.
 pub fn same_type(t: &Terms, found: E, wanted: E) -> Result<(), Refusal>
     requires { (found < length t.now) × (wanted < length t.now) }
-    ensures equal { OnOk result (equal_expressions (tree t.now found) (tree t.now wanted) ≡ true) }
-    ensures back { OnOk result (equal_expressions (tree t.now wanted) (tree t.now found) ≡ true) }
-    ensures other { IfErr result (λ q. equal_expressions (tree t.now found) (tree t.now wanted) ≡ false) }
-    ensures refused { IfErr result (λ q. q ≡ TypeDiffers (record { found = found; wanted = wanted; under = zero })) }
+    ensures equal { OnOk result (equal_in t.now found wanted ≡ true) }
+    ensures back { OnOk result (equal_in t.now wanted found ≡ true) }
+    ensures other { IfErr result (λ q. equal_in t.now found wanted ≡ false) }
+    ensures refused { IfErr result (λ q. q ≡ TypeDiffers (differ_at zero found wanted)) }
 {
     if same(t, found, wanted) {
         return Ok(());
@@ -38,10 +37,10 @@ pub fn same_type(t: &Terms, found: E, wanted: E) -> Result<(), Refusal>
 /// Whether the side found is the one wanted, where no domains are around.
 pub fn same_side(t: &Terms, found: E, wanted: E) -> Result<(), Refusal>
     requires { (found < length t.now) × (wanted < length t.now) }
-    ensures equal { OnOk result (equal_expressions (tree t.now found) (tree t.now wanted) ≡ true) }
-    ensures back { OnOk result (equal_expressions (tree t.now wanted) (tree t.now found) ≡ true) }
-    ensures other { IfErr result (λ q. equal_expressions (tree t.now found) (tree t.now wanted) ≡ false) }
-    ensures refused { IfErr result (λ q. q ≡ SidesDiffer (record { found = found; wanted = wanted; under = zero })) }
+    ensures equal { OnOk result (equal_in t.now found wanted ≡ true) }
+    ensures back { OnOk result (equal_in t.now wanted found ≡ true) }
+    ensures other { IfErr result (λ q. equal_in t.now found wanted ≡ false) }
+    ensures refused { IfErr result (λ q. q ≡ SidesDiffer (differ_at zero found wanted)) }
 {
     if same(t, found, wanted) {
         return Ok(());

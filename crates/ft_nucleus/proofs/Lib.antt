@@ -2,3 +2,4 @@ pub mod Under
 pub mod Plain
 pub mod Equations
 pub mod Asking
+pub mod Parted

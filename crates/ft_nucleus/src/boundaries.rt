@@ -81,7 +81,7 @@ fn type_equation_goal(x: &Form, y: &Form) -> Result<Goal, Refusal>
     ensures forms { (ts : List Expression) →
         FormsTwo plain_goal_in type_equation_boundary_checks type_equation_boundary ts
         x.now y.now result }
-    ensures below { (n : ℕ) → FormBelow n x.now → FormBelow n y.now → IfOk result (λ g. GoalBelow n g) }
+    ensures below { (n : ℕ) → FormBelow n x.now → FormBelow n y.now → IfOk result (GoalBelow n) }
 {
     match (x, y) {
         (Form::Ty(a), Form::Ty(b)) => Ok(Goal::EqTy(*a, *b)),

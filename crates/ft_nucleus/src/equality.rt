@@ -1,17 +1,15 @@
 //! Equality, conversion and weakening.
 
 ghost use Rattle.std.specs.Prelude.{◌≡◌, ℕ, List, length, true, false, IfOk, IfErr};
-ghost use Rattle.ft_theory.specs.Expressions.{Expression};
-ghost use Rattle.ft_items.specs.Equal.{has_head_claim};
 ghost use Rattle.ft_items.specs.Item.{by_refl, by_sym, by_trans, by_conv, by_conveq, by_widen};
-ghost use Rattle.ft_items.specs.Rows.{symmetry, transitivity, conversion, equation_conversion};
-ghost use Rattle.ft_reference.specs.Checks.{transitivity_checks, conversion_checks, equation_conversion_checks};
-ghost use Rattle.ft_judge.specs.Meaning.{claim_in, FormBelow};
+ghost use Rattle.ft_items.specs.Rows.{transitivity, conversion};
+ghost use Rattle.ft_reference.specs.Checks.{transitivity_checks, conversion_checks};
+ghost use Rattle.ft_judge.specs.Meaning.{FormBelow};
 ghost use Rattle.ft_judge.specs.declared.fault.Refusal.TheVariants.{WrongForm};
 ghost use Rattle.ft_kernel.specs.State.{IsThesisOf};
 ghost use Rattle.ft_calls.specs.Answers.{Answers};
-ghost use Rattle.ft_calls.specs.Forming.{FormsOne, FormsTwo, plain_in};
-ghost use Rattle.ft_nucleus.specs.Forms.{equal_to_itself, symmetry_checks};
+ghost use Rattle.ft_calls.specs.Forming.{FormsTwo, plain_in};
+ghost use Rattle.ft_nucleus.specs.Forms.{HasHead, IsEqualToItself, Swaps, ConvertsEquation};
 
 use ft_calls::{conclude, form_named, forms_named, plain, same_side, same_type};
 use ft_judge::{Fault, Form, Refusal, Thesis};
@@ -37,9 +35,9 @@ pub fn refl(k: &mut Kernel, j: J) -> Result<J, Fault>
 
 // The equation of a type or a term with itself.
 fn reflexive(form: &Form) -> Result<Form, Refusal>
-    ensures head { IfOk result (λ f. (ts : List Expression) → has_head_claim (claim_in ts form.now) ≡ true) }
-    ensures equal { IfOk result (λ f. (ts : List Expression) → claim_in ts f ≡ equal_to_itself (claim_in ts form.now)) }
-    ensures none { IfErr result (λ q. (ts : List Expression) → has_head_claim (claim_in ts form.now) ≡ false) }
+    ensures head { IfOk result (λ f. HasHead form.now true) }
+    ensures equal { IfOk result (λ f. IsEqualToItself form.now f) }
+    ensures none { IfErr result (λ q. HasHead form.now false) }
     ensures refused { IfErr result (λ q. q ≡ WrongForm) }
     ensures below { (n : ℕ) → FormBelow n form.now → IfOk result (λ f. FormBelow n f) }
 {
@@ -70,7 +68,7 @@ pub fn sym(alloc: Global, k: &mut Kernel, e: J) -> Result<J, Fault>
 
 // The equation with its sides exchanged.
 fn swapped(form: &Form) -> Result<Form, Refusal>
-    ensures forms { (ts : List Expression) → FormsOne plain_in symmetry_checks symmetry ts form.now result }
+    ensures forms { Swaps form.now result }
     ensures below { (n : ℕ) → FormBelow n form.now → IfOk result (λ f. FormBelow n f) }
 {
     match *form {
@@ -178,7 +176,7 @@ pub fn convert_equation(alloc: Global, k: &mut Kernel, d: J, e: J) -> Result<J, 
 fn converted_equation(t: &Terms, x: &Form, y: &Form) -> Result<Form, Refusal>
     requires terms { FormBelow (length t.now) x.now }
     requires types { FormBelow (length t.now) y.now }
-    ensures forms { FormsTwo plain_in equation_conversion_checks equation_conversion t.now x.now y.now result }
+    ensures forms { ConvertsEquation t.now x.now y.now result }
     ensures below { IfOk result (λ f. FormBelow (length t.now) f) }
 {
     match (x, y) {

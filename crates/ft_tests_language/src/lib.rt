@@ -1,0 +1,6 @@
+//! Tests of what a run of the whole language tells.
+
+#![tactic(auto)]
+
+#[cfg(test)]
+mod print;

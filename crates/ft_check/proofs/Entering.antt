@@ -7,9 +7,9 @@ use Rattle.ft_theory.specs.Statements.{plain, type_goal}
 use Rattle.ft_theory.specs.Rules.{Rule}
 use Rattle.ft_items.specs.Sets.{union, unions}
 use Rattle.ft_items.specs.Equal.{is_thesis}
-use Rattle.ft_items.specs.Item.{by_btype, by_bterm, by_rule, by_rulewith, Item, variable, metavariable, rule, entry, shown}
+use Rattle.ft_items.specs.Item.{by_btype, by_rule, by_rulewith, Item, variable, metavariable, rule, entry, shown}
 use Rattle.ft_items.specs.Store.{Assertion, Store, Resolved, each, entry_named, rule_named, resolve, with_one, with_two, with_three}
-use Rattle.ft_items.specs.Rows.{result_set, term_boundary, rule_instance, rule_instance_with, statements, sets}
+use Rattle.ft_items.specs.Rows.{result_set, rule_instance, rule_instance_with, statements, sets}
 use Rattle.ft_items.specs.Good.{Reject as Reason, Premise as premise, all_theses, reason_in, reason_of_result}
 use Rattle.ft_items.proofs.SetLemmas.{both}
 use Rattle.ft_stated.specs.Lines.{item_in}

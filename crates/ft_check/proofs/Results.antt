@@ -1,16 +1,14 @@
 -- Whether what is stated is the result of a step.
-use Rattle.std.proofs.Common.{◌≡◌, ◌≢◌, ◌↔◌, ℕ, Bool, inl, inr, length, true, false, ◌&&◌, Some, None, List, [], ◌∷◌, refl, sym, ap, ◌∙◌, subst, IsTrue}
+use Rattle.std.proofs.Common.{◌≡◌, ◌≢◌, ℕ, Bool, inl, inr, length, true, false, ◌&&◌, List, [], ◌∷◌, refl, sym, ap, ◌∙◌, subst}
 use Rattle.std.specs.Cmp.{both_ways}
 use Rattle.std.proofs.lemmas.List.{length-map}
 use Rattle.ft_theory.specs.Expressions.{Expression}
-use Rattle.ft_theory.specs.Statements.{Statement, plain, is_type, type_goal, term_goal}
+use Rattle.ft_theory.specs.Statements.{plain, type_goal}
 use Rattle.ft_items.specs.Sets.{Atom, same_set, has, is_within, Has, Ascending}
-use Rattle.ft_items.specs.Equal.{equal_expressions, equal_statements}
-use Rattle.ft_items.specs.Rows.{term_boundary}
+use Rattle.ft_items.specs.Equal.{equal_statements}
 use Rattle.ft_items.proofs.SetLemmas.{both, both_true, by_bool, same_set_true, same_set_self, has_false, within_true, ascending_equal}
 use Rattle.ft_assume.specs.Atoms.{atom_of, atoms_of}
 use Rattle.ft_assume.specs.declared.atom.Atom.{Atom as AtomValue}
-use Rattle.ft_syntax.specs.Table.{tree}
 use Rattle.ft_judge.specs.Meaning.{claim_in, goal_in, under, thesis_in, boundary_in}
 use Rattle.ft_judge.specs.declared.judgement.Form.{Form}
 use Rattle.ft_judge.specs.declared.judgement.Form.TheVariants as form

@@ -1,17 +1,16 @@
 -- The entry of the type of a variable, by the place of the first variable of its number.
-use Rattle.std.proofs.Common.{◌≡◌, ℕ, zero, suc, ◌<◌, ◌≤◌, nat_eq, nat_lt, Bool, true, false, cond, Option, Some, None, List, [], ◌∷◌, refl, sym, ap, ap₂, ◌∙◌, subst, length, take, map, arith}
+use Rattle.std.proofs.Common.{◌≡◌, ℕ, zero, suc, ◌<◌, ◌≤◌, nat_eq, Bool, true, false, cond, Option, Some, None, List, [], ◌∷◌, refl, sym, ap, ◌∙◌, subst, length, take, map, arith}
 use Rattle.std.specs.Prelude.{option_map}
 use Rattle.std.proofs.lemmas.Option.{same_Some}
 use Rattle.ft_common.proofs.Options.{none_some}
 use Rattle.ft_theory.specs.Rules.{look_up}
 use Rattle.ft_items.specs.Item.{Name, Item, variable, metavariable, rule, entry, shown}
-use Rattle.ft_items.specs.Store.{Assertion, Annotation, Store, annotated, nth, entry_named, variable_named, empty_store, store_of, type_in, add, add_all, entries_in, variables_in}
+use Rattle.ft_items.specs.Store.{Assertion, Annotation, Store, annotated, nth, entry_named, empty_store, store_of, type_in, add, add_all, variables_in}
 use Rattle.ft_items.specs.Good.{Good, GoodAfter, is_plain_type}
 use Rattle.ft_items.proofs.Lists.{before_all, store_is, annotated_number, nth_within}
 use Rattle.ft_stated.specs.First.{first_place, is_variable_of}
 use Rattle.ft_check.specs.Entries.{variable_in, variable_of}
 use Rattle.ft_check.proofs.Before.{equal_swapped}
-use Rattle.ft_check.proofs.Standing.{entries_are}
 
 -- the first item that passes a test stands at its place
 first_stands : (p : Item → Bool) (items : List Item) (k : ℕ) → first_place p items ≡ Some k → (x : Item) × (nth items k ≡ Some x) × (p x ≡ true)

@@ -1,5 +1,5 @@
 -- What an item adds to the entries, the metavariables or the rules of a list; and an entry as the program reads it.
-use Rattle.std.specs.Prelude.{ℕ, nat_lt, nat_eq, ◌&&◌, cond, not, Bool, true, false, Option, Some, None, option_map, List, [], ◌∷◌, ◌++◌}
+use Rattle.std.specs.Prelude.{ℕ, nat_eq, ◌&&◌, cond, not, Bool, true, false, Option, Some, None, option_map, List, [], ◌∷◌, ◌++◌}
 use Rattle.ft_theory.specs.Expressions.{Expression}
 use Rattle.ft_items.specs.Item.{Stated, Name, Entry as AnyEntry, Item, variable, metavariable, rule, entry, shown}
 use Rattle.ft_items.specs.Sets.{Atom, met, is_within}

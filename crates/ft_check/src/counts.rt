@@ -1,6 +1,6 @@
 //! What is counted in a list.
 
-ghost use Rattle.std.specs.Prelude.{◌≡◌, zero, ◌+◌, ◌<◌, ◌≤◌, ◌^◌, ℕ, List, Some, None, true, cond, max, length, take};
+ghost use Rattle.std.specs.Prelude.{◌≡◌, zero, ◌+◌, ◌<◌, ◌^◌, List, Some, None, cond, max, length, take};
 ghost use Rattle.ft_theory.specs.Expressions.{Expression};
 ghost use Rattle.ft_theory.specs.Rules.{Rule, rule_at};
 ghost use Rattle.ft_items.specs.Levels.{level as level_of, rule_level as level_of_rule};
@@ -12,7 +12,6 @@ ghost use Rattle.ft_stated.specs.Lines.{item_in};
 ghost use Rattle.ft_stated.specs.Places.{is_entry, is_rule};
 ghost use Rattle.ft_stated.specs.Steps.{stated_step};
 ghost use Rattle.ft_check.specs.Built.{first_rejected_by, reason_built};
-ghost use Rattle.ft_check.specs.Entries.{entry_in};
 ghost use Rattle.ft_check.specs.Verdicts.{counts_of, IsAtMost};
 
 use crate::applied::rule_at_hand;

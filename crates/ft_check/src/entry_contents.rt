@@ -5,7 +5,7 @@ ghost use Rattle.ft_theory.specs.Expressions.{Expression};
 ghost use Rattle.ft_items.specs.Equal.{is_thesis, is_plain};
 ghost use Rattle.ft_items.specs.Store.{claim_in as claim_of_plain};
 ghost use Rattle.ft_items.specs.Good.{is_plain_type};
-ghost use Rattle.ft_judge.specs.Meaning.{thesis_in, boundary_in, goal_in, GoalBelow};
+ghost use Rattle.ft_judge.specs.Meaning.{thesis_in, goal_in, GoalBelow};
 ghost use Rattle.ft_steps.specs.Parts.{statement_in, PartsBelow};
 ghost use Rattle.ft_check.specs.Entries.{entry_in, is_nil, EntryBelow};
 

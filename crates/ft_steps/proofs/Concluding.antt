@@ -1,5 +1,5 @@
 -- What steps conclude from statements under domains.
-use Rattle.std.proofs.Common.{◌≡◌, ℕ, Option, Some, None, cond, Bool, true, false, List, [], ◌∷◌, refl, sym, ap, ◌∙◌, length, arith}
+use Rattle.std.proofs.Common.{◌≡◌, ℕ, Option, Some, None, Bool, true, false, List, [], ◌∷◌, refl, sym, ap, ◌∙◌, length, arith}
 use Rattle.std.specs.Prelude.{option_map}
 use Rattle.ft_theory.specs.Expressions.{Expression}
 use Rattle.ft_theory.specs.Statements.{Claim, is_type, has_type, equal_types, equal_terms, type_goal, term_goal, type_equation_goal, term_equation_goal, Statement, plain, abstracted, boundary_of, boundary_of_claim, equate, equate_goal}

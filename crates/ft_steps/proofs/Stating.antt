@@ -1,5 +1,5 @@
 -- The parts of a statement.
-use Rattle.std.proofs.Common.{◌≡◌, ℕ, List, sym, ap, ap₂, ◌∙◌, subst}
+use Rattle.std.proofs.Common.{◌≡◌, ℕ, List, sym, ap₂, subst}
 use Rattle.ft_theory.specs.Expressions.{Expression}
 use Rattle.ft_theory.specs.Statements.{Claim, plain}
 use Rattle.ft_syntax.specs.Table.{AllBelow}

@@ -1,7 +1,7 @@
 //! Statements of which each expression is moved: opened or closed.
 
-ghost use Rattle.std.specs.Prelude.{◌≡◌, ◌<◌, ◌&&◌, zero, length, IfOk, IfErr};
-ghost use Rattle.ft_theory.specs.Statements.{map_claim, plain};
+ghost use Rattle.std.specs.Prelude.{◌≡◌, ◌<◌, ◌&&◌, length, IfOk, IfErr};
+ghost use Rattle.ft_theory.specs.Statements.{map_claim};
 ghost use Rattle.ft_theory.specs.Small.{IsSmall};
 ghost use Rattle.ft_items.specs.Equal.{equal_claims, equal_expressions, equal_statements};
 ghost use Rattle.ft_syntax.specs.Table.{tree, AllBelow};

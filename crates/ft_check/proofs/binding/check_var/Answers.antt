@@ -1,19 +1,16 @@
-use Rattle.std.proofs.Common.{◌≡◌, ◌∙◌, Some, length, sym, ap, ap₂, subst, take}
-use Rattle.std.specs.Prelude.{option_map}
+use Rattle.std.proofs.Common.{◌≡◌, ◌∙◌, Some, length, sym, ap, subst, take}
 use Rattle.ft_theory.specs.Expressions.{free}
-use Rattle.ft_theory.specs.Statements.{abstracted, close_statement, has_type, plain}
+use Rattle.ft_theory.specs.Statements.{has_type, plain}
 use Rattle.ft_items.specs.Equal.{equal_statements}
 use Rattle.ft_items.specs.Good.{reason_of_result}
-use Rattle.ft_items.specs.Rows.{substitution}
-use Rattle.ft_items.specs.Sets.{union, var, without}
-use Rattle.ft_items.specs.Store.{Assertion, entry_named, store_of}
+use Rattle.ft_items.specs.Sets.{union}
+use Rattle.ft_items.specs.Store.{store_of}
 use Rattle.ft_syntax.specs.Table.{tree}
 use Rattle.ft_steps.specs.Parts.{statement_in, PartsBelow}
 use Rattle.ft_check.specs.Entries.{entry_in, with_step}
-use Rattle.ft_check.specs.Rejects.{reason_of}
 use Rattle.ft_check.specs.Typing.{IsTyped}
 use Rattle.ft_check.proofs.Bindings.{as_some}
-use Rattle.ft_check.proofs.Concluded.{variable_stands, variable_reason, abstracted_reason, two_entries, tested_reason}
+use Rattle.ft_check.proofs.Concluded.{variable_stands, variable_reason}
 use Rattle.ft_check.proofs.binding.check_var.Goals as goal
 
 pub is_variable-is_concluded-requires-clause-y : goal.is_variable-is_concluded-requires-clause-y

@@ -5,8 +5,7 @@ use Rattle.ft_items.specs.Store.{entry_named, store_of}
 use Rattle.std.proofs.Common.{take}
 use Rattle.ft_items.specs.Good.{reason_of_result}
 use Rattle.ft_steps.specs.Parts.{statement_in, PartsBelow}
-use Rattle.ft_steps.specs.Rows.{from_one, from_two}
-use Rattle.ft_items.specs.Rows.{term_equation_boundary}
+use Rattle.ft_steps.specs.Rows.{from_two}
 use Rattle.ft_check.specs.Entries.{entry_in, with_step}
 use Rattle.ft_check.specs.Rejects.{reason_of}
 use Rattle.ft_check.proofs.Concluded.{against_two}

@@ -1,4 +1,4 @@
-use Rattle.std.proofs.Common.{◌≡◌, take, sym, ◌∙◌}
+use Rattle.std.proofs.Common.{take, sym, ◌∙◌}
 use Rattle.ft_theory.specs.Rules.{look_up}
 use Rattle.ft_items.specs.Store.{store_of}
 use Rattle.ft_common.proofs.Options.{none_some}

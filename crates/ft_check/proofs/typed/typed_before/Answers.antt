@@ -1,12 +1,12 @@
-use Rattle.std.proofs.Common.{◌≡◌, Some, take, length, sym, ap, ◌∙◌}
+use Rattle.std.proofs.Common.{◌≡◌, take, length, sym, ap, ◌∙◌}
 use Rattle.std.specs.Prelude.{option_map}
 use Rattle.std.proofs.lemmas.Option.{same_Some}
 use Rattle.ft_common.proofs.Options.{none_some}
 use Rattle.ft_items.specs.Good.{is_plain_type}
-use Rattle.ft_items.specs.Store.{Assertion, store_of, type_in}
+use Rattle.ft_items.specs.Store.{Assertion, type_in}
 use Rattle.ft_syntax.specs.Table.{tree}
 use Rattle.ft_check.specs.Entries.{entry_in}
-use Rattle.ft_check.proofs.TypeEntries.{Known, annotation_gone, annotation_known, no_annotation}
+use Rattle.ft_check.proofs.TypeEntries.{annotation_gone, annotation_known, no_annotation}
 use Rattle.ft_check.proofs.typed.typed_before.Goals as goal
 
 pub returns-in_err-p-clause-is : goal.returns-in_err-p-clause-is

@@ -1,6 +1,4 @@
-use Rattle.std.proofs.Common.{rules, ◌<◌, ◌≡◌, ◌≢◌, true, false, [], Some, None, length, drop, sym, ap, ◌∙◌}
-use Rattle.std.specs.Prelude.{option_map}
-use Rattle.std.proofs.lemmas.Result.{IfOk-weaker}
+use Rattle.std.proofs.Common.{rules, ◌<◌, ◌≡◌, ◌≢◌, true, false, [], length, drop, ap, ◌∙◌}
 use Rattle.ft_syntax.specs.Laws.{one_below}
 use Rattle.ft_steps.specs.Parts.{claim_in, statement_in}
 use Rattle.std.proofs.Common.{ℕ, List}

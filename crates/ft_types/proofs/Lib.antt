@@ -1,0 +1,4 @@
+pub mod Rows
+pub mod Listed
+pub mod Tables
+pub mod Scopes

@@ -1,0 +1,4 @@
+pub mod Code
+pub mod Types
+pub mod Names
+pub mod Checking

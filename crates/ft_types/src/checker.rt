@@ -1,0 +1,218 @@
+//! What is kept while a command is checked.
+
+ghost use Rattle.std.specs.Prelude.{◌≡◌, ◌∷◌, ◌++◌, [], drop, length, IfOk, IfSome, OnOk, OnErr, option_map, ◌≤◌, ◌-◌};
+ghost use Rattle.ft_meaning.specs.Names.{named};
+ghost use Rattle.ft_meaning.specs.Typing.{Exactly, Unbound, Twice, Mismatch, Arity, fault_at, meant_by, ensure_arity, either_wanted};
+ghost use Rattle.ft_types.specs.Types.{type_in, Below, Extends};
+ghost use Rattle.ft_types.specs.Names.{listed};
+ghost use Rattle.ft_types.specs.Checking.{scope_of, with_local, rule_in, operation_in, renamed, ValuesBelow, wanted_of, Keeps, Says, Gives, Tests};
+
+use crate::fault::{TypeFault, TypeWhy, Wanted};
+use crate::names::{Entry, Names};
+use crate::types::{KnownType, Types};
+use ft_base::{Memory, Name};
+use ft_grammar::Named;
+use std::alloc::Global;
+use std::marker::Model;
+
+/// What typing knows of a rule: how many premises it has, and whether it is a symbol's.
+#[derive(Clone, Copy, Debug, Drop)]
+pub struct RuleShape {
+    pub premises: u64,
+    pub is_symbol: bool,
+}
+
+/// The types of the argument and the result of an operation.
+#[derive(Clone, Copy, Debug, Drop)]
+pub struct OperationShape {
+    pub argument: KnownType,
+    pub result: KnownType,
+}
+
+/// What names stand for, and the table of types. The names that stand for values within a command are a stack: one is pushed for
+/// its scope and popped after it, and the stack is searched from its end, so that no scope is copied, and a name costs a step for
+/// each such name that is declared after it.
+#[derive(Drop)]
+pub struct Checker {
+    types: Types,
+    values: Names<KnownType>,
+    rules: Names<RuleShape>,
+    operations: Names<OperationShape>,
+    locals: Vec<Entry<KnownType>>,
+    alloc: Global,
+}
+
+impl Model for Checker {
+    ghost use Rattle.std.specs.Prelude.{length};
+    ghost use Rattle.std.specs.Coded.{codes};
+    ghost use Rattle.ft_types.specs.Code.{coded_type};
+    ghost use Rattle.ft_types.specs.Types.{type_in};
+    ghost use Rattle.ft_types.specs.Names.{listed};
+    ghost use Rattle.ft_types.specs.Checking.{Checking, renamed, rule_in, operation_in, IsChecker};
+
+    ghost Value = { Checking };
+
+    ghost coded = { Prim.hlevel (codes, coded_type) };
+
+    ghost view = { λ c. record {
+        top = record {
+            values = renamed (type_in c.types) c.values;
+            rules = renamed rule_in c.rules;
+            operations = renamed (operation_in c.types) c.operations
+        };
+        locals = renamed (type_in c.types) (listed c.locals.items);
+        types = c.types
+    } };
+
+    ghost invariant = { λ c. IsChecker (length c.types) c.values c.operations (listed c.locals.items) };
+}
+
+impl Checker {
+    /// No names and no types. It takes no memory.
+    pub fn new(alloc: Global) -> Checker
+        ensures { result ≡ record { top = record { values = []; rules = []; operations = [] }; locals = []; types = [] } }
+    {
+        Checker {
+            types: Types::new(alloc),
+            values: Names::new(alloc),
+            rules: Names::new(alloc),
+            operations: Names::new(alloc),
+            locals: Vec::new(alloc),
+            alloc,
+        }
+    }
+
+    /// The allocator.
+    pub fn allocator(&self) -> Global {
+        self.alloc
+    }
+
+    /// The type of the value of a name.
+    #[tactic(auto, using(crate::proofs::Scopes::renamed_some, crate::proofs::Scopes::renamed_none, crate::proofs::Scopes::named_first, crate::proofs::Scopes::named_second, crate::proofs::Scopes::value_below))]
+    pub fn value(&self, name: &Name) -> Option<KnownType>
+        ensures below { IfSome result (λ t. Below (length self.now.types) t) }
+        ensures means { option_map (type_in self.now.types) result ≡ named (scope_of self.now).values name.now }
+    {
+        match last_named(&self.locals, name) {
+            Some(t) => Some(t),
+            None => self.values.get(name),
+        }
+    }
+
+    /// The rule of a name.
+    #[tactic(auto, using(crate::proofs::Scopes::renamed_some, crate::proofs::Scopes::renamed_none))]
+    pub fn rule(&self, n: &Named) -> Result<RuleShape, TypeFault>
+        ensures { Gives (meant_by self.now.top.rules n.now) result rule_in }
+    {
+        match self.rules.get(&n.name) {
+            Some(rule) => Ok(rule),
+            None => Err(unbound(n)),
+        }
+    }
+
+    /// The operation of a name.
+    #[tactic(auto, using(crate::proofs::Scopes::renamed_some, crate::proofs::Scopes::renamed_none, crate::proofs::Scopes::operation_below))]
+    pub fn operation(&self, n: &Named) -> Result<OperationShape, TypeFault>
+        ensures argument { IfOk result (λ o. Below (length self.now.types) o.argument) }
+        ensures result_below { IfOk result (λ o. Below (length self.now.types) o.result) }
+        ensures means { Gives (meant_by self.now.top.operations n.now) result (operation_in self.now.types) }
+    {
+        match self.operations.get(&n.name) {
+            Some(operation) => Ok(operation),
+            None => Err(unbound(n)),
+        }
+    }
+
+    /// Gives a name within the command a value of the type. After `Memory` all is as before.
+    pub fn push(&mut self, name: &Name, t: KnownType) -> Result<(), Memory>
+        requires { Below (length self.old.types) t }
+        ensures ok { OnOk result (self.new ≡ with_local name.now (type_in self.old.types t) self.old) }
+        ensures err { OnErr result (self.new ≡ self.old) }
+    {
+        let name = name.copy()?;
+        self.locals.push(Entry { name, meaning: t })?;
+        Ok(())
+    }
+
+    /// Gives these names values within the command. After `Memory` all is as before.
+    pub fn enter(&mut self, found: Vec<Entry<KnownType>>) -> Result<(), Memory>
+        requires { ValuesBelow (length self.old.types) (listed found.items) }
+        ensures ok { OnOk result (self.new ≡ record self.old { locals = renamed (type_in self.old.types) (listed found.items) ++ self.old.locals }) }
+        ensures err { OnErr result (self.new ≡ self.old) }
+    {
+        let mut found = found;
+        self.locals.append(&mut found)?;
+        Ok(())
+    }
+
+    /// How many names have values within the command.
+    pub fn local_count(&self) -> usize
+        ensures { result ≡ length self.now.locals }
+    {
+        self.locals.len()
+    }
+
+    /// Takes the last names within the command away, so that so many are left.
+    pub fn leave(&mut self, count: usize)
+        requires { count ≤ length self.old.locals }
+        ensures { self.new ≡ record self.old { locals = drop (length self.old.locals - count) self.old.locals } }
+    {
+        self.locals.truncate(count);
+    }
+}
+
+// The meaning of the last entry of the name. It takes no memory.
+#[tactic(auto, using(crate::proofs::Scopes::last_found, crate::proofs::Scopes::last_other))]
+pub fn last_named(entries: &[Entry<KnownType>], name: &Name) -> Option<KnownType>
+    ensures { result ≡ named (listed entries.now) name.now }
+{
+    let mut count = entries.len();
+    'searching: while count > 0 {
+        let last = &entries[count - 1];
+        if last.name == *name {
+            return Some(last.meaning);
+        }
+        count -= 1;
+    }
+    None
+}
+
+/// The name has no meaning.
+pub fn unbound(n: &Named) -> TypeFault
+    ensures { Says result (fault_at n.now.at (Unbound n.now.name)) }
+{
+    match n.name.copy() {
+        Ok(name) => TypeFault {
+            at: n.at,
+            why: TypeWhy::Unbound(name),
+        },
+        Err(e) => e.into(),
+    }
+}
+
+/// The name is declared twice.
+pub fn twice(at: u64, name: &Name) -> TypeFault
+    ensures { Says result (fault_at at (Twice name.now)) }
+{
+    match name.copy() {
+        Ok(name) => TypeFault {
+            at,
+            why: TypeWhy::Twice(name),
+        },
+        Err(e) => e.into(),
+    }
+}
+
+/// So many are given as the name takes.
+pub fn fits_arity(n: &Named, takes: u64, given: u64) -> Result<(), TypeFault>
+    ensures { Tests (ensure_arity n.now takes given) result }
+{
+    if given == takes {
+        return Ok(());
+    }
+    let name = n.name.copy()?;
+    Err(TypeFault {
+        at: n.at,
+        why: TypeWhy::Arity(name, takes, given),
+    })
+}

@@ -298,3 +298,6 @@ rank_below n (known.Compound k) h = omega arith
 
 pub below_less : (m n : ℕ) (t : KnownType) → Below m t → m < n → Below n t
 below_less m n t h l = below_more m n t (omega arith) h
+
+pub fits_less : (m n : ℕ) (r : Row) → FitsBelow m r → m < n → FitsBelow n r
+fits_less m n r h l = fits_more m n r (omega arith) h

@@ -9,11 +9,13 @@ use Rattle.ft_items.proofs.Names.{bytes_eq-names}
 use Rattle.ft_meaning.specs.Trees.{ValueType}
 use Rattle.ft_meaning.specs.Names.{named}
 use Rattle.ft_types.specs.declared.types.KnownType.{KnownType}
+use Rattle.ft_meaning.specs.Typing.{RuleType, Scope}
+use Rattle.ft_types.specs.declared.checker.RuleShape.{RuleShape}
 use Rattle.ft_types.specs.declared.checker.OperationShape.{OperationShape}
 use Rattle.ft_types.specs.declared.names.Entry.{Entry}
 use Rattle.ft_types.specs.Types.{type_in, Below, Extends}
 use Rattle.ft_types.specs.Names.{listed_before, listed}
-use Rattle.ft_types.specs.Checking.{renamed, operation_in, ValuesBelow, OperationsBelow, IsChecker}
+use Rattle.ft_types.specs.Checking.{renamed, operation_in, rule_in, ValuesBelow, OperationsBelow, IsChecker, Checking, Keeps}
 use Rattle.ft_types.proofs.Listed.{listed_append}
 use Rattle.ft_types.proofs.Tables.{below_extends, type_extends}
 
@@ -214,3 +216,24 @@ pub last_other : (xs : List (Entry KnownType)) (k : ℕ) (x : Entry KnownType) (
     → named (listed (take k xs)) n ≡ named (listed (take (k - 1) xs)) n
 last_other xs k x n some l is e =
     last_step xs k x n some l is ∙ ap (λ b. cond b (Some x.meaning) (named (listed (take (k - 1) xs)) n)) (sym (bytes_eq-names x.name n) ∙ e)
+
+
+-- ---- a table that goes on
+
+-- what is seen of a checker
+abbrev pub seen : List ValueType → List (Name × KnownType) → List (Name × RuleShape) → List (Name × OperationShape) → List (Name × KnownType) → Checking
+seen ts vs rs os ls = record {
+  top = record { values = renamed (type_in ts) vs; rules = renamed rule_in rs; operations = renamed (operation_in ts) os };
+  locals = renamed (type_in ts) ls;
+  types = ts;
+}
+
+abbrev top_of : List (Name × ValueType) → List (Name × RuleType) → List (Name × (ValueType × ValueType)) → Scope
+top_of a b c = record { values = a; rules = b; operations = c }
+
+pub grown_keeps : (ts us : List ValueType) (vs : List (Name × KnownType)) (rs : List (Name × RuleShape)) (os : List (Name × OperationShape)) (ls : List (Name × KnownType)) (v : Checking)
+    → Extends ts us → IsChecker (length ts) vs os ls → seen ts vs rs os ls ≡ v → Keeps v (seen us vs rs os ls)
+grown_keeps ts us vs rs os ls v x c is = record {
+  top = ap₂ (λ a b. top_of a (renamed rule_in rs) b) (values_kept ts us vs x c.values_are) (operations_kept ts us os x c.operations_are) ∙ ap (λ (v : Checking). v.top) is;
+  types = subst (λ (v : Checking). Extends v.types us) is x;
+}

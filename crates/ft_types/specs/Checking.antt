@@ -4,6 +4,7 @@ use Rattle.ft_items.specs.Item.{Name}
 use Rattle.ft_grammar.specs.declared.syntax.AmlType.{AmlType}
 use Rattle.ft_meaning.specs.Trees.{ValueType, judgement, boundary, unit, bool, pair, list, option, value_type}
 use Rattle.ft_meaning.specs.Typing.{Wanted, Exactly, PairOf, ListOf, OptionOf, TypeWhy, Unbound, Twice, Mismatch, Arity, TypeFault, RuleType, Scope, fault_at}
+use Rattle.ft_equality.specs.Results.{some_or}
 use Rattle.ft_types.specs.declared.fault.Wanted.{Wanted as AnyWanted}
 use Rattle.ft_types.specs.declared.fault.Wanted.TheVariants as any
 use Rattle.ft_types.specs.declared.fault.TypeWhy.{TypeWhy as AnyWhy}
@@ -13,7 +14,7 @@ use Rattle.ft_types.specs.declared.types.KnownType.{KnownType}
 use Rattle.ft_types.specs.declared.names.Entry.{Entry}
 use Rattle.ft_types.specs.declared.checker.RuleShape.{RuleShape}
 use Rattle.ft_types.specs.declared.checker.OperationShape.{OperationShape}
-use Rattle.ft_types.specs.Types.{type_in, Below, Extends}
+use Rattle.ft_types.specs.Types.{type_in, Below, Extends, list_part, option_part, pair_parts}
 
 -- names with what becomes of their meanings
 abbrev pub renamed : {A B : Type 0} → (A → B) → List (Name × A) → List (Name × B)
@@ -105,3 +106,13 @@ Finds outcome (Err e) v w = e.why ≢ why.Memory → outcome ≡ Err (fault_of e
 abbrev pub Passes : Result (Unit {0}) TypeFault → Result (Unit {0}) AnyFault → Checking → Checking → Type 0
 Passes outcome (Ok b) v w = (outcome ≡ Ok tt) × (w.locals ≡ v.locals)
 Passes outcome (Err e) v w = e.why ≢ why.Memory → outcome ≡ Err (fault_of e)
+
+-- the parts of a type that a pattern wants to be one of lists, of options, or of pairs
+abbrev pub list_wanted : ℕ → ValueType → Result ValueType TypeFault
+list_wanted at A = some_or (list_part A) (fault_at at (Mismatch A ListOf))
+
+abbrev pub option_wanted : ℕ → ValueType → Result ValueType TypeFault
+option_wanted at A = some_or (option_part A) (fault_at at (Mismatch A OptionOf))
+
+abbrev pub pair_wanted : ℕ → ValueType → Result (ValueType × ValueType) TypeFault
+pair_wanted at A = some_or (pair_parts A) (fault_at at (Mismatch A PairOf))

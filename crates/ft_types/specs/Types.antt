@@ -1,5 +1,5 @@
 -- The types that rows stand for.
-use Rattle.std.specs.Prelude.{ℕ, ◌≡◌, ◌<◌, ◌+◌, List, [], ◌∷◌, ◌++◌, length, slice_index_or, slice_get, Option, Some, Bool}
+use Rattle.std.specs.Prelude.{ℕ, ◌≡◌, ◌<◌, ◌+◌, List, [], ◌∷◌, ◌++◌, length, slice_index_or, slice_get, Option, Some, None, Bool}
 use Rattle.std.specs.Map.{lookup}
 use Rattle.ft_meaning.specs.Trees.{ValueType, judgement, boundary, unit, bool, pair, list, option}
 use Rattle.ft_types.specs.contracts.types.RowPartialEq.TheImpl as row_eq
@@ -65,3 +65,18 @@ pub record IsTable (rows : List Row) (places : List (Row × ℕ)) : Type 0 where
 -- the second table goes on from the first: the earlier types are as they were
 abbrev pub Extends : List ValueType → List ValueType → Type 0
 Extends ts us = (more : List ValueType) × (us ≡ ts ++ more)
+
+-- the type of the members of a list
+abbrev pub list_part : ValueType → Option ValueType
+list_part (list A) = Some A
+list_part A = None
+
+-- the type of what an option may hold
+abbrev pub option_part : ValueType → Option ValueType
+option_part (option A) = Some A
+option_part A = None
+
+-- the types of the parts of a pair
+abbrev pub pair_parts : ValueType → Option (ValueType × ValueType)
+pair_parts (pair A B) = Some (A, B)
+pair_parts A = None

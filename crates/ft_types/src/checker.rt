@@ -2,16 +2,17 @@
 
 ghost use Rattle.std.specs.Prelude.{◌≡◌, ◌∷◌, ◌++◌, [], drop, length, IfOk, IfSome, OnOk, OnErr, option_map, ◌≤◌, ◌-◌};
 ghost use Rattle.ft_meaning.specs.Names.{named};
-ghost use Rattle.ft_meaning.specs.Typing.{Exactly, Unbound, Twice, Mismatch, Arity, fault_at, meant_by, ensure_arity, either_wanted};
-ghost use Rattle.ft_types.specs.Types.{type_in, Below, Extends};
+ghost use Rattle.ft_meaning.specs.Trees.{value_type};
+ghost use Rattle.ft_meaning.specs.Typing.{Exactly, Unbound, Twice, Mismatch, Arity, fault_at, meant_by, ensure_arity, wanted as type_wanted};
+ghost use Rattle.ft_types.specs.Types.{type_in, type_at, Below, FitsBelow};
 ghost use Rattle.ft_types.specs.Names.{listed};
-ghost use Rattle.ft_types.specs.Checking.{scope_of, with_local, rule_in, operation_in, renamed, ValuesBelow, wanted_of, Keeps, Says, Gives, Tests};
+ghost use Rattle.ft_types.specs.Checking.{scope_of, with_local, rule_in, operation_in, renamed, ValuesBelow, wanted_of, Keeps, Says, Gives, Tests, list_wanted, option_wanted, pair_wanted};
 
 use crate::fault::{TypeFault, TypeWhy, Wanted};
 use crate::names::{Entry, Names};
-use crate::types::{KnownType, Types};
+use crate::types::{KnownType, Row, Types};
 use ft_base::{Memory, Name};
-use ft_grammar::Named;
+use ft_grammar::{AmlType, Named};
 use std::alloc::Global;
 use std::marker::Model;
 
@@ -120,6 +121,118 @@ impl Checker {
         match self.operations.get(&n.name) {
             Some(operation) => Ok(operation),
             None => Err(unbound(n)),
+        }
+    }
+
+    /// The type of a row, which is added where it is not there.
+    pub fn of_row(&mut self, row: Row) -> Result<KnownType, Memory>
+        requires { FitsBelow (length self.old.types) row }
+        ensures below { IfOk result (λ t. Below (length self.new.types) t) }
+        ensures means { IfOk result (λ t. type_in self.new.types t ≡ type_at self.old.types row) }
+        ensures locals { self.new.locals ≡ self.old.locals }
+        ensures keeps { Keeps self.old self.new }
+    {
+        self.types.of_row(row)
+    }
+
+    /// A type as it is written.
+    pub fn written(&mut self, a: &AmlType) -> Result<KnownType, Memory>
+        ensures below { IfOk result (λ t. Below (length self.new.types) t) }
+        ensures means { IfOk result (λ t. type_in self.new.types t ≡ value_type a.now) }
+        ensures locals { self.new.locals ≡ self.old.locals }
+        ensures keeps { Keeps self.old self.new }
+    {
+        self.types.written(a)
+    }
+
+    /// The type found is the one wanted.
+    pub fn wanted(&self, at: u64, wanted: KnownType, found: KnownType) -> Result<(), TypeFault>
+        requires { Below (length self.now.types) wanted × Below (length self.now.types) found }
+        ensures { Tests (type_wanted at (type_in self.now.types wanted) (type_in self.now.types found)) result }
+    {
+        if self.types.are_same(found, wanted) {
+            Ok(())
+        } else {
+            Err(self.mismatch(at, found, wanted))
+        }
+    }
+
+    /// The type found is `judgement` or `boundary`.
+    pub fn either_wanted(&self, at: u64, found: KnownType) -> Result<(), TypeFault>
+        requires { Below (length self.now.types) found }
+        ensures { Tests (Rattle.ft_meaning.specs.Typing.either_wanted at (type_in self.now.types found)) result }
+    {
+        if self.types.are_same(found, KnownType::Judgement)
+            || self.types.are_same(found, KnownType::Boundary)
+        {
+            Ok(())
+        } else {
+            Err(self.mismatch(at, found, KnownType::Judgement))
+        }
+    }
+
+    /// The type found is another one than is wanted.
+    pub fn mismatch(&self, at: u64, found: KnownType, wanted: KnownType) -> TypeFault
+        requires { Below (length self.now.types) found × Below (length self.now.types) wanted }
+        ensures { Says result (fault_at at (Mismatch (type_in self.now.types found) (Exactly (type_in self.now.types wanted)))) }
+    {
+        match self.types.tree(wanted) {
+            Ok(wanted) => self.misfit(at, found, Wanted::Exactly(wanted)),
+            Err(e) => e.into(),
+        }
+    }
+
+    // The type found does not fit.
+    fn misfit(&self, at: u64, found: KnownType, wanted: Wanted) -> TypeFault
+        requires { Below (length self.now.types) found }
+        ensures { Says result (fault_at at (Mismatch (type_in self.now.types found) (wanted_of wanted))) }
+    {
+        match self.types.tree(found) {
+            Ok(found) => TypeFault {
+                at,
+                why: TypeWhy::Mismatch(found, wanted),
+            },
+            Err(e) => e.into(),
+        }
+    }
+
+    /// The type of the members of lists of the type found.
+    pub fn list_part(&self, at: u64, found: KnownType) -> Result<KnownType, TypeFault>
+        requires { Below (length self.now.types) found }
+        ensures below { IfOk result (λ t. Below (length self.now.types) t) }
+        ensures means { Gives (list_wanted at (type_in self.now.types found)) result (type_in self.now.types) }
+    {
+        match self.types.list_part(found) {
+            Some(part) => Ok(part),
+            None => Err(self.misfit(at, found, Wanted::ListOf)),
+        }
+    }
+
+    /// The type of what options of the type found may hold.
+    pub fn option_part(&self, at: u64, found: KnownType) -> Result<KnownType, TypeFault>
+        requires { Below (length self.now.types) found }
+        ensures below { IfOk result (λ t. Below (length self.now.types) t) }
+        ensures means { Gives (option_wanted at (type_in self.now.types found)) result (type_in self.now.types) }
+    {
+        match self.types.option_part(found) {
+            Some(part) => Ok(part),
+            None => Err(self.misfit(at, found, Wanted::OptionOf)),
+        }
+    }
+
+    /// The types of the parts of pairs of the type found.
+    pub fn pair_parts(
+        &self,
+        at: u64,
+        found: KnownType,
+    ) -> Result<(KnownType, KnownType), TypeFault>
+        requires { Below (length self.now.types) found }
+        ensures below { IfOk result (λ p. Below (length self.now.types) p.0 × Below (length self.now.types) p.1) }
+        ensures means { Gives (pair_wanted at (type_in self.now.types found)) result (λ p. (type_in self.now.types p.0, type_in self.now.types p.1)) }
+    {
+        match self.types.pair_parts(found) {
+            Some(parts) => Ok(parts),
+            None => Err(self.misfit(at, found, Wanted::PairOf)),
         }
     }
 

@@ -2,6 +2,7 @@
 #![tactic(auto)]
 
 mod checker;
+mod expressions;
 mod fault;
 mod names;
 mod types;

@@ -1,9 +1,10 @@
 //! The types of values, each kept once.
 
-ghost use Rattle.std.specs.Prelude.{◌≡◌, ◌<◌, ◌↔◌, ℕ, [], length, IfOk, IsTrue};
+ghost use Rattle.std.specs.Prelude.{◌≡◌, ◌<◌, ℕ, [], length, IfOk, IfSome, option_map};
 ghost use Rattle.ft_meaning.specs.Trees.{ValueType, pair, list, option, value_type};
+ghost use Rattle.ft_meaning.specs.Typing.{same_type};
 ghost use Rattle.ft_types.specs.declared.types.KnownType.TheVariants.{Compound};
-ghost use Rattle.ft_types.specs.Types.{type_in, type_at, Below, FitsBelow, Extends};
+ghost use Rattle.ft_types.specs.Types.{type_in, type_at, Below, FitsBelow, Extends, list_part, option_part, pair_parts};
 
 use ft_base::Memory;
 use ft_grammar::AmlType;
@@ -177,9 +178,57 @@ impl Types {
     /// Whether two types are the same.
     pub fn are_same(&self, a: KnownType, b: KnownType) -> bool
         requires { Below (length self.now) a × Below (length self.now) b }
-        ensures { IsTrue result ↔ (type_in self.now a ≡ type_in self.now b) }
+        ensures { result ≡ same_type (type_in self.now a) (type_in self.now b) }
     {
         let _ = &self.rows;
         a == b
+    }
+
+    /// The type of the members, where it is a type of lists.
+    #[tactic(auto, using(crate::proofs::Rows::below_less, crate::proofs::Rows::fits_less))]
+    pub fn list_part(&self, t: KnownType) -> Option<KnownType>
+        requires { Below (length self.now) t }
+        ensures below { IfSome result (λ a. Below (length self.now) a) }
+        ensures means { option_map (type_in self.now) result ≡ list_part (type_in self.now t) }
+    {
+        match t {
+            KnownType::Compound(place) => match self.row(place) {
+                Row::List(a) => Some(a),
+                Row::Pair(..) | Row::Opt(_) => None,
+            },
+            KnownType::Judgement | KnownType::Boundary | KnownType::Unit | KnownType::Bool => None,
+        }
+    }
+
+    /// The type of what an option may hold, where it is a type of options.
+    #[tactic(auto, using(crate::proofs::Rows::below_less, crate::proofs::Rows::fits_less))]
+    pub fn option_part(&self, t: KnownType) -> Option<KnownType>
+        requires { Below (length self.now) t }
+        ensures below { IfSome result (λ a. Below (length self.now) a) }
+        ensures means { option_map (type_in self.now) result ≡ option_part (type_in self.now t) }
+    {
+        match t {
+            KnownType::Compound(place) => match self.row(place) {
+                Row::Opt(a) => Some(a),
+                Row::Pair(..) | Row::List(_) => None,
+            },
+            KnownType::Judgement | KnownType::Boundary | KnownType::Unit | KnownType::Bool => None,
+        }
+    }
+
+    /// The types of the parts, where it is a type of pairs.
+    #[tactic(auto, using(crate::proofs::Rows::below_less, crate::proofs::Rows::fits_less))]
+    pub fn pair_parts(&self, t: KnownType) -> Option<(KnownType, KnownType)>
+        requires { Below (length self.now) t }
+        ensures below { IfSome result (λ p. Below (length self.now) p.0 × Below (length self.now) p.1) }
+        ensures means { option_map (λ p. (type_in self.now p.0, type_in self.now p.1)) result ≡ pair_parts (type_in self.now t) }
+    {
+        match t {
+            KnownType::Compound(place) => match self.row(place) {
+                Row::Pair(a, b) => Some((a, b)),
+                Row::List(_) | Row::Opt(_) => None,
+            },
+            KnownType::Judgement | KnownType::Boundary | KnownType::Unit | KnownType::Bool => None,
+        }
     }
 }

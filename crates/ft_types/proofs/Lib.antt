@@ -6,3 +6,9 @@ pub mod SameTypes
 pub mod Keeping
 pub mod Counts
 pub mod Rules
+pub mod Cases
+pub mod Bindings
+pub mod Seen
+pub mod PremiseSteps
+pub mod Alone
+pub mod Coerce

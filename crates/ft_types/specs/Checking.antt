@@ -1,10 +1,11 @@
 -- What is kept while a command is checked, and what the functions that check ensure.
-use Rattle.std.specs.Prelude.{ℕ, ◌≡◌, ◌≢◌, ◌<◌, Bool, true, false, Option, Some, None, List, [], ◌∷◌, ◌++◌, map, length, Result, Ok, Err}
+use Rattle.std.specs.Prelude.{ℕ, ◌≡◌, ◌≢◌, ◌<◌, Bool, true, false, Option, Some, None, List, [], ◌∷◌, ◌++◌, map, length, reverse, Result, Ok, Err}
 use Rattle.ft_items.specs.Item.{Name}
 use Rattle.ft_grammar.specs.declared.syntax.AmlType.{AmlType}
-use Rattle.ft_meaning.specs.Trees.{ValueType, judgement, boundary, unit, bool, pair, list, option, value_type}
-use Rattle.ft_meaning.specs.Typing.{Wanted, Exactly, PairOf, ListOf, OptionOf, TypeWhy, Unbound, Twice, Mismatch, Arity, TypeFault, RuleType, Scope, fault_at}
-use Rattle.ft_equality.specs.Results.{some_or}
+use Rattle.ft_grammar.specs.declared.syntax.Named.{Named}
+use Rattle.ft_meaning.specs.Trees.{Pattern, Form, place, ValueType, judgement, boundary, unit, bool, pair, list, option, value_type}
+use Rattle.ft_meaning.specs.Typing.{Wanted, Exactly, PairOf, ListOf, OptionOf, TypeWhy, Unbound, Twice, Mismatch, Arity, TypeFault, RuleType, Scope, fault_at, meant_by, ensure_arity, ensure_new, wanted, with_value, Bindings, case_scope, type_of}
+use Rattle.ft_equality.specs.Results.{ensure, some_or, ◌>>=◌, ◌>>◌}
 use Rattle.ft_types.specs.declared.fault.Wanted.{Wanted as AnyWanted}
 use Rattle.ft_types.specs.declared.fault.Wanted.TheVariants as any
 use Rattle.ft_types.specs.declared.fault.TypeWhy.{TypeWhy as AnyWhy}
@@ -14,6 +15,7 @@ use Rattle.ft_types.specs.declared.types.KnownType.{KnownType}
 use Rattle.ft_types.specs.declared.names.Entry.{Entry}
 use Rattle.ft_types.specs.declared.checker.RuleShape.{RuleShape}
 use Rattle.ft_types.specs.declared.checker.OperationShape.{OperationShape}
+use Rattle.ft_types.specs.Names.{listed}
 use Rattle.ft_types.specs.Types.{type_in, Below, Extends, list_part, option_part, pair_parts}
 
 -- names with what becomes of their meanings
@@ -52,6 +54,17 @@ scope_of v = record v.top { values = v.locals ++ v.top.values }
 -- with one more value within the command
 abbrev pub with_local : Name → ValueType → Checking → Checking
 with_local n A v = record v { locals = (n, A) ∷ v.locals }
+
+-- with another scope of the commands before
+abbrev pub with_top : Checking → Scope → Checking
+with_top v s = record v { top = s }
+
+-- the scope with one more rule, or one more operation
+abbrev pub with_rule : Name → RuleType → Scope → Scope
+with_rule n r s = record s { rules = (n, r) ∷ s.rules }
+
+abbrev pub with_operation : Name → ValueType × ValueType → Scope → Scope
+with_operation n o s = record s { operations = (n, o) ∷ s.operations }
 
 -- all types of a checker are in its table
 pub record IsChecker (n : ℕ) (values : List (Name × KnownType)) (operations : List (Name × OperationShape)) (locals : List (Name × KnownType)) : Type 0 where
@@ -116,3 +129,23 @@ option_wanted at A = some_or (option_part A) (fault_at at (Mismatch A OptionOf))
 
 abbrev pub pair_wanted : ℕ → ValueType → Result (ValueType × ValueType) TypeFault
 pair_wanted at A = some_or (pair_parts A) (fault_at at (Mismatch A PairOf))
+
+-- the names of a pattern that were found, the last one first
+abbrev pub bound : List ValueType → List (Entry KnownType) → Bindings
+bound ts xs = renamed (type_in ts) (listed xs)
+
+-- names that were seen, the last one first
+abbrev pub last_first : List Name → List Name
+last_first = reverse
+
+-- the type of a case for values of a type
+unfoldable pub type_of_case : Pattern → Form → ValueType → Scope → Result ValueType TypeFault
+type_of_case p e A s = case_scope p A s >>= type_of e
+
+-- a case for an operation that none of those before is for has the type
+unfoldable pub handler_has : Named → Named → Form → List Name → ValueType → Scope → Result (Unit {0}) TypeFault
+handler_has o x e before B s = meant_by s.operations o >>= λ p. ensure_new o before >> (type_of e (with_value x.name p.0 s) >>= wanted (place e) B)
+
+-- the name is a symbol's, and so many are given as it takes
+unfoldable pub symbol_wanted : Named → ℕ → Scope → Result (Unit {0}) TypeFault
+symbol_wanted n given s = meant_by s.rules n >>= λ r. ensure r.is_symbol (fault_at n.at (Unbound n.name)) >> ensure_arity n r.premises given

@@ -1,12 +1,12 @@
 //! What is kept while a command is checked.
 
-ghost use Rattle.std.specs.Prelude.{◌≡◌, ◌∷◌, ◌++◌, [], drop, length, IfOk, IfSome, OnOk, OnErr, option_map, ◌≤◌, ◌-◌};
+ghost use Rattle.std.specs.Prelude.{◌≡◌, ◌∷◌, ◌++◌, [], drop, length, IfOk, IfSome, OnOk, OnErr, option_map, is_some, ◌≤◌, ◌-◌};
 ghost use Rattle.ft_meaning.specs.Names.{named};
 ghost use Rattle.ft_meaning.specs.Trees.{value_type};
-ghost use Rattle.ft_meaning.specs.Typing.{Exactly, Unbound, Twice, Mismatch, Arity, fault_at, meant_by, ensure_arity, wanted as type_wanted};
+ghost use Rattle.ft_meaning.specs.Typing.{Exactly, Unbound, Twice, Mismatch, Arity, fault_at, meant_by, ensure_arity, ensure_new, same_type, with_value, wanted as type_wanted};
 ghost use Rattle.ft_types.specs.Types.{type_in, type_at, Below, FitsBelow};
 ghost use Rattle.ft_types.specs.Names.{listed};
-ghost use Rattle.ft_types.specs.Checking.{scope_of, with_local, rule_in, operation_in, renamed, ValuesBelow, wanted_of, Keeps, Says, Gives, Tests, list_wanted, option_wanted, pair_wanted};
+ghost use Rattle.ft_types.specs.Checking.{scope_of, with_local, with_top, with_rule, with_operation, rule_in, operation_in, renamed, ValuesBelow, wanted_of, Keeps, Says, Gives, Tests, list_wanted, option_wanted, pair_wanted, last_first};
 
 use crate::fault::{TypeFault, TypeWhy, Wanted};
 use crate::names::{Entry, Names};
@@ -236,6 +236,48 @@ impl Checker {
         }
     }
 
+    /// Whether two types are the same.
+    pub fn are_same(&self, a: KnownType, b: KnownType) -> bool
+        requires { Below (length self.now.types) a × Below (length self.now.types) b }
+        ensures { result ≡ same_type (type_in self.now.types a) (type_in self.now.types b) }
+    {
+        self.types.are_same(a, b)
+    }
+
+    /// Whether the name is an operation's.
+    #[tactic(auto, using(crate::proofs::Scopes::renamed_some, crate::proofs::Scopes::renamed_none))]
+    pub fn has_operation(&self, name: &Name) -> bool
+        ensures { result ≡ is_some (named self.now.top.operations name.now) }
+    {
+        self.operations.get(name).is_some()
+    }
+
+    /// Gives a name a value of the type from now on. After `Memory` all is as before.
+    pub fn add_value(&mut self, name: &Name, t: KnownType) -> Result<(), Memory>
+        requires { Below (length self.old.types) t }
+        ensures ok { OnOk result (self.new ≡ with_top self.old (with_value name.now (type_in self.old.types t) self.old.top)) }
+        ensures err { OnErr result (self.new ≡ self.old) }
+    {
+        self.values.add(name, t)
+    }
+
+    /// Gives a name a rule from now on. After `Memory` all is as before.
+    pub fn add_rule(&mut self, name: &Name, rule: RuleShape) -> Result<(), Memory>
+        ensures ok { OnOk result (self.new ≡ with_top self.old (with_rule name.now (rule_in rule) self.old.top)) }
+        ensures err { OnErr result (self.new ≡ self.old) }
+    {
+        self.rules.add(name, rule)
+    }
+
+    /// Gives a name an operation from now on. After `Memory` all is as before.
+    pub fn add_operation(&mut self, name: &Name, o: OperationShape) -> Result<(), Memory>
+        requires { Below (length self.old.types) o.argument × Below (length self.old.types) o.result }
+        ensures ok { OnOk result (self.new ≡ with_top self.old (with_operation name.now (operation_in self.old.types o) self.old.top)) }
+        ensures err { OnErr result (self.new ≡ self.old) }
+    {
+        self.operations.add(name, o)
+    }
+
     /// Gives a name within the command a value of the type. After `Memory` all is as before.
     pub fn push(&mut self, name: &Name, t: KnownType) -> Result<(), Memory>
         requires { Below (length self.old.types) t }
@@ -328,4 +370,30 @@ pub fn fits_arity(n: &Named, takes: u64, given: u64) -> Result<(), TypeFault>
         at: n.at,
         why: TypeWhy::Arity(name, takes, given),
     })
+}
+
+/// The name is not among those that were seen, and is then one of them.
+#[tactic(auto, using(crate::proofs::Seen::last_seen, crate::proofs::Seen::seen_or_not))]
+pub fn new_name(n: &Named, seen: &mut Vec<Name>) -> Result<(), TypeFault>
+    ensures new { Tests (ensure_new n.now (last_first seen.old.items)) result }
+    ensures seen { OnOk result (last_first seen.new.items ≡ n.now.name ∷ last_first seen.old.items) }
+{
+    if is_among(seen, &n.name) {
+        return Err(twice(n.at, &n.name));
+    }
+    seen.push(n.name.copy()?)?;
+    Ok(())
+}
+
+// Whether the name is among these.
+#[tactic(auto, using(crate::proofs::Rules::same_names))]
+fn is_among(names: &[Name], name: &Name) -> bool
+    ensures { result ≡ Rattle.ft_meaning.specs.Names.is_among names.now name.now }
+{
+    for other in names {
+        if *name == *other {
+            return true;
+        }
+    }
+    false
 }

@@ -2,9 +2,14 @@
 #![tactic(auto)]
 
 mod checker;
+mod commands;
 mod expressions;
 mod fault;
 mod names;
+mod patterns;
+mod premises;
+mod scope;
 mod types;
 
 pub use fault::{TypeFault, TypeWhy, Wanted};
+pub use scope::{Scope, Typed, check_command};

@@ -12,3 +12,5 @@ pub mod Seen
 pub mod PremiseSteps
 pub mod Alone
 pub mod Coerce
+pub mod CaseRest
+pub mod PremiseLoops

@@ -1,6 +1,6 @@
 //! The scope of a source, and the commands that are checked in it.
 
-ghost use Rattle.std.specs.Prelude.{◌≡◌, IfOk, OnErr};
+ghost use Rattle.std.specs.Prelude.{◌≡◌, IfOk, OnErr, codes};
 ghost use Rattle.ft_meaning.specs.Trees.{command_of};
 ghost use Rattle.ft_meaning.specs.Typing.{first_scope};
 ghost use Rattle.ft_meaning.specs.CommandTyping.{scope_after};
@@ -35,18 +35,26 @@ impl Model for Scope {
     ghost invariant = { λ s. s.checker.locals ≡ [] };
 }
 
+// The name `coerce`.
+#[tactic(auto, using(crate::proofs::Coerce::coerce_name))]
+fn coerce(alloc: Global) -> Result<Name, Memory>
+    ensures { IfOk result (λ n. n ≡ codes "coerce") }
+{
+    let spelling = vec![in alloc; 'c', 'o', 'e', 'r', 'c', 'e']?;
+    match Name::from_chars(spelling) {
+        Some(name) => Ok(name),
+        None => unreachable!(),
+    }
+}
+
 impl Scope {
     /// The operation `coerce` alone, from a pair of a judgement and a boundary to a judgement.
-    #[tactic(auto, using(crate::proofs::Coerce::coerce_name))]
     pub fn new(alloc: Global) -> Result<Scope, Memory>
         ensures { IfOk result (λ s. s ≡ first_scope) }
     {
         let mut checker = Checker::new(alloc);
         let argument = checker.of_row(Row::Pair(KnownType::Judgement, KnownType::Boundary))?;
-        let name = match Name::new(alloc, "coerce")? {
-            Some(name) => name,
-            None => return Err(Memory),
-        };
+        let name = coerce(alloc)?;
         checker.add_operation(
             &name,
             OperationShape {

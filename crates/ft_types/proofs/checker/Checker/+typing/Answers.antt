@@ -6,7 +6,8 @@ use Rattle.ft_meaning.proofs.Written.{case, handler}
 use Rattle.ft_types.specs.Types.{type_in, Below}
 use Rattle.ft_types.specs.Checking.{scope_of, last_first, Keeps}
 use Rattle.ft_types.proofs.Keeping.{keeps_trans, below_kept, type_kept_on}
-use Rattle.ft_types.proofs.Cases.{first_case, first_case_fails, next_case, next_case_fails, next_handler, handler_fails, scope_same, case_same, first_at, case_at, handler_at, handler_same, cases_same, passes_err, finds_err, finds_ok}
+use Rattle.ft_types.proofs.Cases.{first_case, first_case_fails, next_case, next_case_fails, next_handler, handler_fails, scope_same, case_same, first_at, case_at, handler_at, handler_same, passes_err, finds_err, finds_ok}
+use Rattle.ft_types.proofs.CaseRest.{cases_rest}
 use Rattle.ft_types.proofs.checker.Checker.+typing.Goals as goal
 
 pub cases-returns-in_err-found-in-len1-up-clause-finds : goal.cases-returns-in_err-found-in-len1-up-clause-finds
@@ -28,7 +29,7 @@ cases-returns-in_err-other_cases-in-len1-up-clause-finds t c =
     finds_err _ _ e _ _ is (λ told.
     first_at c.args.cs.now c.first-item.result _ _ c.first-item.is (omega arith)
     ∙ first_case c.first-item.result (drop 1 c.args.cs.now) _ _ _ c.in_ok-found-in-len1-up.ensures.finds.0
-    ∙ ap (λ r. r >> Ok (type_in x.types c.in_ok-found-in-len1-up.found)) (cases_same (drop 1 c.args.cs.now) _ _ _ _ _ _ A s (c.in_err-other_cases-in-len1-up.ensures.finds told)))
+    ∙ ap (λ r. r >> Ok (type_in x.types c.in_ok-found-in-len1-up.found)) (cases_rest c.args.cs.now _ _ _ _ _ _ A s (c.in_err-other_cases-in-len1-up.ensures.finds told)))
 
 pub cases-returns-in_ok-other_cases-in-len1-up-clause-finds : goal.cases-returns-in_ok-other_cases-in-len1-up-clause-finds
 cases-returns-in_ok-other_cases-in-len1-up-clause-finds t c =
@@ -43,7 +44,7 @@ cases-returns-in_ok-other_cases-in-len1-up-clause-finds t c =
     finds_ok _ found v y
     (first_at c.args.cs.now c.first-item.result _ _ c.first-item.is (omega arith)
     ∙ first_case c.first-item.result (drop 1 c.args.cs.now) _ _ _ c.in_ok-found-in-len1-up.ensures.finds.0
-    ∙ ap (λ r. r >> Ok (type_in x.types found)) (cases_same (drop 1 c.args.cs.now) _ _ _ _ _ _ A s c.in_ok-other_cases-in-len1-up.ensures.finds.0)
+    ∙ ap (λ r. r >> Ok (type_in x.types found)) (cases_rest c.args.cs.now _ _ _ _ _ _ A s c.in_ok-other_cases-in-len1-up.ensures.finds.0)
     ∙ ap (λ X. Ok X) (sym (type_kept_on x y found keeps below)))
     (below_kept x y found keeps below)
     (c.in_ok-other_cases-in-len1-up.ensures.finds.1 ∙ c.in_ok-found-in-len1-up.ensures.finds.2)

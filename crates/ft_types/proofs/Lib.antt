@@ -1,0 +1,14 @@
+pub mod Rows
+pub mod Listed
+pub mod Tables
+pub mod Scopes
+pub mod SameTypes
+pub mod Keeping
+pub mod Counts
+pub mod Rules
+pub mod Cases
+pub mod Bindings
+pub mod Seen
+pub mod PremiseSteps
+pub mod Alone
+pub mod Coerce

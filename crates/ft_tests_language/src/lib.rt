@@ -1,6 +1,10 @@
-//! Tests of what a run of the whole language tells.
+//! Tests of what a run of the whole language tells, and of the types of a source.
 
 #![tactic(auto)]
 
 #[cfg(test)]
+mod faults;
+#[cfg(test)]
 mod print;
+#[cfg(test)]
+mod types;

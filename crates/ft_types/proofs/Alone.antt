@@ -1,6 +1,5 @@
 -- A checker between commands.
 use Rattle.std.proofs.Common.{◌≡◌, ◌++◌, ◌-◌, ◌∙◌, arith, ap, [], List, length, drop, refl, ◌∷◌}
-use Rattle.ft_meaning.specs.Typing.{Scope}
 use Rattle.ft_types.specs.Checking.{Checking, scope_of}
 
 -- nothing is left

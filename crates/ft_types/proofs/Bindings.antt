@@ -2,13 +2,12 @@
 use Rattle.std.proofs.Common.{◌≡◌, ◌∙◌, ◌++◌, sym, ap, subst, refl, ℕ, List, [], ◌∷◌, length, map, Ok, Err}
 use Rattle.std.specs.Prelude.{Result, ◌≢◌}
 use Rattle.ft_equality.specs.Results.{◌>>=◌, ◌>>◌, ensure}
-use Rattle.ft_items.specs.Item.{Name}
 use Rattle.ft_grammar.specs.declared.syntax.Named.{Named}
 use Rattle.ft_grammar.specs.declared.syntax.Pattern.{Pattern as AnyPattern}
 use Rattle.ft_grammar.specs.declared.syntax.Pattern.TheVariants as any
 use Rattle.ft_meaning.proofs.Written.{pattern_Symbol}
 use Rattle.ft_meaning.specs.Trees.{ValueType, judgement, boundary, unit, bool, pair, list, option, Pattern, cons_pattern, some_pattern, none_pattern, nil_pattern, pair_pattern, symbol_pattern, pattern, patterns}
-use Rattle.ft_meaning.specs.Typing.{Scope, TypeFault, Bindings, bindings, all_bindings, Unbound, fault_at, meant_by, ensure_arity, pattern_count, wanted}
+use Rattle.ft_meaning.specs.Typing.{Scope, Bindings, bindings, all_bindings, Unbound, fault_at, meant_by, ensure_arity, pattern_count, wanted}
 use Rattle.ft_types.specs.declared.fault.TypeWhy.TheVariants as why
 use Rattle.ft_types.specs.declared.fault.TypeFault.{TypeFault as AnyFault}
 use Rattle.ft_types.specs.declared.types.KnownType.{KnownType}

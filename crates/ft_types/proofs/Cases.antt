@@ -1,11 +1,11 @@
 -- Cases in turn, and the names that a case enters.
-use Rattle.std.proofs.Common.{◌≡◌, ◌≤◌, ◌-◌, ◌∙◌, ◌++◌, ◌<◌, ◌+◌, sym, ap, subst, refl, ℕ, suc, List, [], ◌∷◌, length, map, get_or, drop, drop-cons, add-one, length-append, arith, Ok, Err}
+use Rattle.std.proofs.Common.{◌≡◌, ◌≤◌, ◌-◌, ◌∙◌, ◌++◌, ◌<◌, ◌+◌, sym, ap, subst, ℕ, suc, List, ◌∷◌, length, map, get_or, drop, drop-cons, add-one, length-append, arith, Ok, Err}
 use Rattle.std.specs.Prelude.{Result, ◌≢◌}
 use Rattle.ft_equality.specs.Results.{◌>>=◌, ◌>>◌}
 use Rattle.ft_items.specs.Item.{Name}
 use Rattle.ft_grammar.specs.declared.syntax.Case.{Case}
 use Rattle.ft_grammar.specs.declared.syntax.OpCase.{OpCase}
-use Rattle.ft_meaning.specs.Trees.{ValueType, Form, place, pattern, form, cases, handlers, and_case, and_handler}
+use Rattle.ft_meaning.specs.Trees.{ValueType, place, pattern, form, cases, handlers, and_case, and_handler}
 use Rattle.ft_meaning.specs.Typing.{TypeFault, Scope, type_of, type_of_cases, cases_have, handlers_have, case_scope, wanted, meant_by, ensure_new, with_value}
 use Rattle.ft_meaning.proofs.Written.{case, handler, case_parts, handler_parts}
 use Rattle.ft_types.specs.declared.fault.TypeWhy.TheVariants as why

@@ -1,5 +1,5 @@
 -- The name `coerce`.
-use Rattle.std.proofs.Common.{◌≡◌, ◌<◌, refl, true, arith}
+use Rattle.std.proofs.Common.{◌≡◌, true, arith}
 use Rattle.std.specs.Prelude.{codes}
 use Rattle.unicode_ident.specs.Ident.{is_xid_start, is_xid_continue}
 use Rattle.unicode_ident.proofs.IdentLemmas.{is_xid_start-ascii, is_xid_continue-ascii}

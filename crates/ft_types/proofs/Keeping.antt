@@ -1,5 +1,5 @@
 -- What stays while a command is checked.
-use Rattle.std.proofs.Common.{◌≡◌, ◌∙◌, ◌<◌, sym, ap, subst, refl, length}
+use Rattle.std.proofs.Common.{◌≡◌, ◌∙◌, length}
 use Rattle.ft_types.specs.declared.types.KnownType.{KnownType}
 use Rattle.ft_types.specs.Types.{type_in, Below}
 use Rattle.ft_types.specs.Checking.{Checking, Keeps}

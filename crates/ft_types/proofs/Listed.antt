@@ -8,7 +8,7 @@ use Rattle.ft_items.specs.Good.{equal_names}
 use Rattle.ft_items.proofs.Names.{bytes_eq-names}
 use Rattle.ft_meaning.specs.Names.{named}
 use Rattle.ft_types.specs.declared.names.Entry.{Entry}
-use Rattle.ft_types.specs.Names.{listed_before, listed, HasLast}
+use Rattle.ft_types.specs.Names.{listed_before, HasLast}
 
 pub listed_append : {A : Type 0} (ns : List (Name × A)) (xs ys : List (Entry A)) → listed_before ns (xs ++ ys) ≡ listed_before (listed_before ns xs) ys
 listed_append ns [] ys = refl

@@ -1,5 +1,5 @@
 -- Premises in turn, and the names that they enter.
-use Rattle.std.proofs.Common.{◌≡◌, ◌≤◌, ◌-◌, ◌∙◌, ◌++◌, sym, ap, subst, refl, List, [], ◌∷◌, length, map, drop, length-append, append_assoc, arith, ℕ, Ok, Err, Some, None}
+use Rattle.std.proofs.Common.{◌≡◌, ◌≤◌, ◌-◌, ◌∙◌, ap, refl, List, [], ◌∷◌, length, map, drop, length-append, arith, ℕ, Ok, Err, Some, None}
 use Rattle.std.specs.Prelude.{Result, Option, ◌≢◌}
 use Rattle.ft_equality.specs.Results.{◌>>=◌, ◌>>◌}
 use Rattle.ft_items.specs.Item.{Name}
@@ -8,8 +8,8 @@ use Rattle.ft_grammar.specs.declared.syntax.Ast.{Ast}
 use Rattle.ft_grammar.specs.declared.syntax.Body.{Body as AnyBody}
 use Rattle.ft_grammar.specs.declared.syntax.Body.TheVariants as body
 use Rattle.ft_grammar.specs.declared.syntax.Premise.{Premise as AnyPremise}
-use Rattle.ft_meaning.specs.Trees.{ValueType, judgement, Binder, Premise, form, binder, premise, premise_by, equation_body}
-use Rattle.ft_meaning.specs.Typing.{TypeFault, Scope, with_value, ensure_new}
+use Rattle.ft_meaning.specs.Trees.{ValueType, judgement, Binder, Premise, binder, premise, premise_by, equation_body}
+use Rattle.ft_meaning.specs.Typing.{Scope, with_value, ensure_new}
 use Rattle.ft_meaning.specs.CommandTyping.{binders_scope, body_typed, premise_typed, premises_scope}
 use Rattle.ft_types.specs.declared.fault.TypeWhy.TheVariants as why
 use Rattle.ft_types.specs.declared.fault.TypeFault.{TypeFault as AnyFault}

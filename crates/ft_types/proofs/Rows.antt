@@ -1,5 +1,5 @@
 -- Rows and their types.
-use Rattle.std.proofs.Common.{◌≡◌, ◌≤◌, ◌<◌, ◌+◌, ◌∙◌, ◌++◌, sym, ap, ap₂, refl, subst, zero, suc, ℕ, List, [], ◌∷◌, length, Some, None, append_assoc, append-nil, inl, inr, arith, ◌⊎◌}
+use Rattle.std.proofs.Common.{◌≡◌, ◌≤◌, ◌<◌, ◌+◌, ◌∙◌, ◌++◌, sym, ap, ap₂, refl, subst, zero, suc, ℕ, List, [], ◌∷◌, length, Some, None, inl, inr, arith, ◌⊎◌}
 use Rattle.std.specs.Prelude.{slice_index_or, slice_get, Bool, true, false, cond}
 use Rattle.std.specs.Map.{lookup}
 use Rattle.std.proofs.lemmas.Option.{slice_get_within, slice_get-get_or}
@@ -11,7 +11,7 @@ use Rattle.ft_types.specs.declared.types.KnownType.{KnownType}
 use Rattle.ft_types.specs.declared.types.KnownType.TheVariants as known
 use Rattle.ft_types.specs.declared.types.Row.{Row}
 use Rattle.ft_types.specs.declared.types.Row.TheVariants as row
-use Rattle.ft_types.specs.Types.{type_in, Below, rank_of, type_at, types_after, types_of, FitsBelow, same_row, IsTable, Extends}
+use Rattle.ft_types.specs.Types.{type_in, Below, rank_of, type_at, types_after, types_of, FitsBelow, same_row, IsTable}
 
 -- ---- known types over tables that go on
 

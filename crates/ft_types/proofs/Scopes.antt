@@ -1,6 +1,6 @@
 -- Names in a scope.
-use Rattle.std.proofs.Common.{◌≡◌, ◌≤◌, ◌<◌, ◌-◌, ◌+◌, ◌∙◌, ◌++◌, sym, ap, ap₂, subst, refl, ℕ, zero, suc, List, [], ◌∷◌, length, get_or, take, drop, take-append-drop, length-drop, append-nil, append_assoc, arith}
-use Rattle.std.specs.Prelude.{cond, Bool, true, false, Option, Some, None, IfSome, option_map}
+use Rattle.std.proofs.Common.{◌≡◌, ◌≤◌, ◌<◌, ◌-◌, ◌+◌, ◌∙◌, ◌++◌, sym, ap, ap₂, subst, refl, ℕ, zero, suc, List, [], ◌∷◌, length, get_or, take, drop, take-append-drop, length-drop, append_assoc, arith}
+use Rattle.std.specs.Prelude.{cond, Bool, true, false, Option, Some, None, option_map}
 use Rattle.ft_items.specs.Item.{Name}
 use Rattle.std.specs.Str.{bytes_eq}
 use Rattle.std.proofs.Math.Seq.{take-suc}
@@ -216,7 +216,6 @@ pub last_other : (xs : List (Entry KnownType)) (k : ℕ) (x : Entry KnownType) (
     → named (listed (take k xs)) n ≡ named (listed (take (k - 1) xs)) n
 last_other xs k x n some l is e =
     last_step xs k x n some l is ∙ ap (λ b. cond b (Some x.meaning) (named (listed (take (k - 1) xs)) n)) (sym (bytes_eq-names x.name n) ∙ e)
-
 
 -- ---- a table that goes on
 

@@ -1,11 +1,10 @@
 -- Tables of types that go on.
-use Rattle.std.proofs.Common.{◌≡◌, ◌≤◌, ◌<◌, ◌∙◌, ◌++◌, sym, ap, refl, ℕ, List, [], length, append_assoc, append-nil, arith}
+use Rattle.std.proofs.Common.{◌≡◌, ◌≤◌, ◌∙◌, ◌++◌, sym, ap, List, [], length, append_assoc, append-nil, arith}
 use Rattle.std.specs.Prelude.{slice_index_or}
 use Rattle.std.proofs.lemmas.List.{length-append}
 use Rattle.std.proofs.Math.ListN.{get_or-append}
 use Rattle.ft_meaning.specs.Trees.{ValueType, judgement}
 use Rattle.ft_types.specs.declared.types.KnownType.{KnownType}
-use Rattle.ft_types.specs.declared.types.Row.{Row}
 use Rattle.ft_types.specs.Types.{type_in, Below, Extends}
 use Rattle.ft_types.proofs.Rows.{below_more, type_kept}
 

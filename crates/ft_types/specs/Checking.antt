@@ -1,9 +1,8 @@
 -- What is kept while a command is checked, and what the functions that check ensure.
-use Rattle.std.specs.Prelude.{ℕ, ◌≡◌, ◌≢◌, ◌<◌, Bool, true, false, Option, Some, None, List, [], ◌∷◌, ◌++◌, map, length, reverse, Result, Ok, Err}
+use Rattle.std.specs.Prelude.{ℕ, ◌≡◌, ◌≢◌, List, [], ◌∷◌, ◌++◌, length, reverse, Result, Ok, Err}
 use Rattle.ft_items.specs.Item.{Name}
-use Rattle.ft_grammar.specs.declared.syntax.AmlType.{AmlType}
 use Rattle.ft_grammar.specs.declared.syntax.Named.{Named}
-use Rattle.ft_meaning.specs.Trees.{Pattern, Form, place, ValueType, judgement, boundary, unit, bool, pair, list, option, value_type}
+use Rattle.ft_meaning.specs.Trees.{Pattern, Form, place, ValueType, value_type}
 use Rattle.ft_meaning.specs.Typing.{Wanted, Exactly, PairOf, ListOf, OptionOf, TypeWhy, Unbound, Twice, Mismatch, Arity, TypeFault, RuleType, Scope, fault_at, meant_by, ensure_arity, ensure_new, wanted, with_value, Bindings, case_scope, type_of}
 use Rattle.ft_equality.specs.Results.{ensure, some_or, ◌>>=◌, ◌>>◌}
 use Rattle.ft_types.specs.declared.fault.Wanted.{Wanted as AnyWanted}

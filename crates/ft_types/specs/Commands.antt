@@ -1,9 +1,8 @@
 -- The parts of commands, and what the functions that check them ensure.
-use Rattle.std.specs.Prelude.{◌≡◌, ◌≢◌, List, [], ◌++◌, map, Option, Result, Ok, Err}
+use Rattle.std.specs.Prelude.{◌≡◌, ◌≢◌, List, [], ◌++◌, map, Result, Ok, Err}
 use Rattle.ft_equality.specs.Results.{◌>>=◌}
 use Rattle.ft_items.specs.Item.{Name}
 use Rattle.ft_grammar.specs.declared.syntax.Named.{Named}
-use Rattle.ft_grammar.specs.declared.syntax.Ast.{Ast}
 use Rattle.ft_grammar.specs.declared.syntax.Body.{Body as AnyBody}
 use Rattle.ft_grammar.specs.declared.syntax.Body.TheVariants as body
 use Rattle.ft_grammar.specs.declared.syntax.Premise.{Premise as AnyPremise}

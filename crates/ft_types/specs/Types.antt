@@ -1,5 +1,5 @@
 -- The types that rows stand for.
-use Rattle.std.specs.Prelude.{ℕ, ◌≡◌, ◌<◌, ◌+◌, List, [], ◌∷◌, ◌++◌, length, slice_index_or, slice_get, Option, Some, None, Bool}
+use Rattle.std.specs.Prelude.{ℕ, ◌≡◌, ◌<◌, ◌+◌, List, [], ◌∷◌, ◌++◌, slice_index_or, slice_get, Option, Some, None, Bool}
 use Rattle.std.specs.Map.{lookup}
 use Rattle.ft_meaning.specs.Trees.{ValueType, judgement, boundary, unit, bool, pair, list, option}
 use Rattle.ft_types.specs.contracts.types.RowPartialEq.TheImpl as row_eq

@@ -56,13 +56,13 @@ impl Model for Checker {
     ghost coded = { Prim.hlevel (codes, coded_type) };
 
     ghost view = { λ c. record {
-        top = record {
-            values = renamed (type_in c.types) c.values;
-            rules = renamed rule_in c.rules;
-            operations = renamed (operation_in c.types) c.operations
-        };
-        locals = renamed (type_in c.types) (listed c.locals.items);
-        types = c.types
+      top = record {
+        values = renamed (type_in c.types) c.values;
+        rules = renamed rule_in c.rules;
+        operations = renamed (operation_in c.types) c.operations;
+      };
+      locals = renamed (type_in c.types) (listed c.locals.items);
+      types = c.types;
     } };
 
     ghost invariant = { λ c. IsChecker (length c.types) c.values c.operations (listed c.locals.items) };
@@ -221,11 +221,7 @@ impl Checker {
     }
 
     /// The types of the parts of pairs of the type found.
-    pub fn pair_parts(
-        &self,
-        at: u64,
-        found: KnownType,
-    ) -> Result<(KnownType, KnownType), TypeFault>
+    pub fn pair_parts(&self, at: u64, found: KnownType) -> Result<(KnownType, KnownType), TypeFault>
         requires { Below (length self.now.types) found }
         ensures below { IfOk result (λ p. Below (length self.now.types) p.0 × Below (length self.now.types) p.1) }
         ensures means { Gives (pair_wanted at (type_in self.now.types found)) result (λ p. (type_in self.now.types p.0, type_in self.now.types p.1)) }

@@ -64,10 +64,13 @@ impl Checker {
         }
         let argument = self.written(from)?;
         let given = self.written(to)?;
-        self.add_operation(&n.name, OperationShape {
-            argument,
-            result: given,
-        })?;
+        self.add_operation(
+            &n.name,
+            OperationShape {
+                argument,
+                result: given,
+            },
+        )?;
         Ok(())
     }
 

@@ -81,11 +81,8 @@ impl Checker {
     {
         match word {
             TwoForm::Equal => Ok(self.of_row(Row::Opt(KnownType::Judgement))?),
-            TwoForm::Trans
-            | TwoForm::Convert
-            | TwoForm::Widen
-            | TwoForm::Rewrite
-            | TwoForm::Fill => Ok(KnownType::Judgement),
+            TwoForm::Trans | TwoForm::Convert | TwoForm::Widen | TwoForm::Rewrite | TwoForm::Fill =>
+                Ok(KnownType::Judgement),
         }
     }
 
@@ -262,12 +259,7 @@ impl Checker {
     // Each case, for values of the one type, has the other.
     #[cycle(typing)]
     #[tactic(auto, using(crate::proofs::Rules::keeping))]
-    fn other_cases(
-        &mut self,
-        cs: &[Case],
-        t: KnownType,
-        wanted: KnownType,
-    ) -> Result<(), TypeFault>
+    fn other_cases(&mut self, cs: &[Case], t: KnownType, wanted: KnownType) -> Result<(), TypeFault>
         requires { Below (length self.old.types) t × Below (length self.old.types) wanted }
         ensures keeps { Keeps self.old self.new }
         ensures finds { Passes (cases_have (cases (map case cs.now)) (type_in self.old.types t) (type_in self.old.types wanted) (scope_of self.old)) result self.old self.new }

@@ -169,7 +169,10 @@ impl Types {
             KnownType::Compound(place) => place,
         };
         match self.row(place) {
-            Row::Pair(a, b) => Ok(AmlType::Pair(Boxed::new(self.alloc, self.tree(a)?)?, Boxed::new(self.alloc, self.tree(b)?)?)),
+            Row::Pair(a, b) => Ok(AmlType::Pair(
+                Boxed::new(self.alloc, self.tree(a)?)?,
+                Boxed::new(self.alloc, self.tree(b)?)?,
+            )),
             Row::List(a) => Ok(AmlType::List(Boxed::new(self.alloc, self.tree(a)?)?)),
             Row::Opt(a) => Ok(AmlType::Opt(Boxed::new(self.alloc, self.tree(a)?)?)),
         }

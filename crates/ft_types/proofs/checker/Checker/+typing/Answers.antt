@@ -1,10 +1,10 @@
-use Rattle.std.proofs.Common.{rules, ◌≡◌, ◌∙◌, ◌+◌, ◌∷◌, [], sym, ap, drop, map, length, Ok, Err, arith}
+use Rattle.std.proofs.Common.{rules, ◌≡◌, ◌∙◌, ◌+◌, sym, ap, drop, map, Ok, Err, arith}
 use Rattle.ft_equality.specs.Results.{◌>>◌}
 use Rattle.ft_meaning.specs.Trees.{form, place, cases, handlers}
 use Rattle.ft_meaning.specs.Typing.{wanted, cases_have, handlers_have}
 use Rattle.ft_meaning.proofs.Written.{case, handler}
-use Rattle.ft_types.specs.Types.{type_in, Below}
-use Rattle.ft_types.specs.Checking.{scope_of, last_first, Keeps}
+use Rattle.ft_types.specs.Types.{type_in}
+use Rattle.ft_types.specs.Checking.{scope_of}
 use Rattle.ft_types.proofs.Keeping.{keeps_trans, below_kept, type_kept_on}
 use Rattle.ft_types.proofs.Cases.{first_case, first_case_fails, next_case, next_case_fails, next_handler, handler_fails, scope_same, case_same, first_at, case_at, handler_at, handler_same, passes_err, finds_err, finds_ok}
 use Rattle.ft_types.proofs.CaseRest.{cases_rest}
@@ -92,11 +92,11 @@ other_cases-loop-c-preserved t c =
       kept = keeps_trans v w x c.loop-c.invariant.kept c.case.ensures.keeps;
       locals = c.in_ok-found.ensures.finds.2 ∙ c.loop-c.invariant.locals;
       left = sym (sym c.loop-c.invariant.left
-      ∙ case_at c.args.cs.now c.loop-c.c-index c.c-item.result _ _ _ c.c-item.is c.loop-c-test.true
-      ∙ next_case c.c-item.result _ _ _ _ _ (case_same c.c-item.result _ _ _ _ _ A s c.in_ok-found.ensures.finds.0)
-      ∙ ap (λ r. r >> cases_have (cases (map case (drop (c.loop-c.c-index + 1) c.args.cs.now))) (type_in v.types c.args.t) (type_in v.types c.args.wanted) (scope_of v))
-      (sym (ap (λ k. wanted k (type_in x.types c.args.wanted) (type_in x.types c.in_ok-found.found)) at
-      ∙ ap (λ X. wanted (place (form c.c-item.result.body)) X (type_in x.types c.in_ok-found.found)) B) ∙ c.in_ok-wanted.ensures));
+          ∙ case_at c.args.cs.now c.loop-c.c-index c.c-item.result _ _ _ c.c-item.is c.loop-c-test.true
+          ∙ next_case c.c-item.result _ _ _ _ _ (case_same c.c-item.result _ _ _ _ _ A s c.in_ok-found.ensures.finds.0)
+          ∙ ap (λ r. r >> cases_have (cases (map case (drop (c.loop-c.c-index + 1) c.args.cs.now))) (type_in v.types c.args.t) (type_in v.types c.args.wanted) (scope_of v))
+          (sym (ap (λ k. wanted k (type_in x.types c.args.wanted) (type_in x.types c.in_ok-found.found)) at
+          ∙ ap (λ X. wanted (place (form c.c-item.result.body)) X (type_in x.types c.in_ok-found.found)) B) ∙ c.in_ok-wanted.ensures));
     }
 
 pub handlers-returns-in_err-handler-clause-finds : goal.handlers-returns-in_err-handler-clause-finds
@@ -122,7 +122,7 @@ handlers-loop-h-preserved t c =
       kept = keeps_trans v w x c.loop-h.invariant.kept c.handler.ensures.keeps;
       locals = c.in_ok-handler.ensures.finds.1 ∙ c.loop-h.invariant.locals;
       left = sym (sym c.loop-h.invariant.left
-      ∙ handler_at c.args.hs.now c.loop-h.h-index c.h-item.result _ _ _ c.h-item.is c.loop-h-test.true
-      ∙ next_handler c.h-item.result _ _ _ _ (handler_same c.h-item.result _ _ _ _ _ _ A s c.in_ok-handler.ensures.finds.0)
-      ∙ ap (λ ns. handlers_have (handlers (map handler (drop (c.loop-h.h-index + 1) c.args.hs.now))) ns (type_in v.types c.args.t) (scope_of v)) (sym c.in_ok-handler.ensures.seen));
+          ∙ handler_at c.args.hs.now c.loop-h.h-index c.h-item.result _ _ _ c.h-item.is c.loop-h-test.true
+          ∙ next_handler c.h-item.result _ _ _ _ (handler_same c.h-item.result _ _ _ _ _ _ A s c.in_ok-handler.ensures.finds.0)
+          ∙ ap (λ ns. handlers_have (handlers (map handler (drop (c.loop-h.h-index + 1) c.args.hs.now))) ns (type_in v.types c.args.t) (scope_of v)) (sym c.in_ok-handler.ensures.seen));
     }

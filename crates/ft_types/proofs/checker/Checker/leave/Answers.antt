@@ -1,4 +1,4 @@
-use Rattle.std.proofs.Common.{◌≡◌, ◌≤◌, ◌-◌, ◌+◌, ◌∙◌, sym, ap, subst, length, drop, List, [], ◌∷◌, arith}
+use Rattle.std.proofs.Common.{◌≡◌, ◌≤◌, ◌-◌, ap, length, drop, [], arith}
 use Rattle.ft_types.specs.Types.{type_in}
 use Rattle.ft_types.specs.Names.{listed}
 use Rattle.ft_types.specs.Checking.{Checking, renamed}

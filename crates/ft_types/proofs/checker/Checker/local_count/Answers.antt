@@ -1,5 +1,4 @@
-use Rattle.std.proofs.Common.{◌≡◌, ◌∙◌, ◌+◌, sym, ap, length, arith, List, []}
-use Rattle.ft_meaning.specs.Trees.{ValueType}
+use Rattle.std.proofs.Common.{ap, length, arith, []}
 use Rattle.ft_types.specs.Types.{type_in}
 use Rattle.ft_types.specs.Names.{listed}
 use Rattle.ft_types.specs.Checking.{Checking}

@@ -3,7 +3,7 @@ use Rattle.ft_grammar.specs.declared.syntax.Named.{Named}
 use Rattle.ft_meaning.specs.Trees.{judgement, premise}
 use Rattle.ft_meaning.specs.Typing.{with_value}
 use Rattle.ft_meaning.specs.CommandTyping.{premises_scope}
-use Rattle.ft_types.specs.Checking.{Checking, scope_of, with_local, last_first}
+use Rattle.ft_types.specs.Checking.{scope_of, with_local, last_first}
 use Rattle.ft_types.specs.Commands.{name_in}
 use Rattle.ft_types.proofs.PremiseSteps.{next_premise, premise_fails}
 use Rattle.ft_types.proofs.PremiseLoops.{premise_at, pushed_scope, pushed_keeps, pushed_adds, enters_err}
@@ -32,8 +32,8 @@ loop-p-preserved c =
       kept = pushed_keeps n judgement v w x y c.loop-p.invariant.kept c.premise.ensures.keeps pushed;
       added = pushed_adds n judgement v w x y c.loop-p.invariant.added c.in_ok-premise.ensures.passes.1 pushed;
       left = sym (sym c.loop-p.invariant.left
-      ∙ premise_at c.args.ps.now c.loop-p.p-index p _ (scope_of w) c.p-item.is c.loop-p-test.true
-      ∙ next_premise p _ _ (scope_of w) c.in_ok-premise.ensures.passes.0
-      ∙ ap (λ ns. premises_scope rest ns (with_value n judgement (scope_of w))) (sym c.in_ok-premise.ensures.seen)
-      ∙ ap (premises_scope rest (last_first c.premise.new.seen.items)) (sym (pushed_scope n w x y pushed c.premise.ensures.keeps.top c.in_ok-premise.ensures.passes.1)));
+          ∙ premise_at c.args.ps.now c.loop-p.p-index p _ (scope_of w) c.p-item.is c.loop-p-test.true
+          ∙ next_premise p _ _ (scope_of w) c.in_ok-premise.ensures.passes.0
+          ∙ ap (λ ns. premises_scope rest ns (with_value n judgement (scope_of w))) (sym c.in_ok-premise.ensures.seen)
+          ∙ ap (premises_scope rest (last_first c.premise.new.seen.items)) (sym (pushed_scope n w x y pushed c.premise.ensures.keeps.top c.in_ok-premise.ensures.passes.1)));
     }

@@ -1,6 +1,5 @@
-use Rattle.std.proofs.Common.{◌≡◌, ◌∙◌, sym, ap, subst, length, List, [], ◌∷◌}
+use Rattle.std.proofs.Common.{sym, ap, subst, length, []}
 use Rattle.ft_types.specs.Types.{type_in, Below}
-use Rattle.ft_types.specs.Names.{listed}
 use Rattle.ft_types.specs.Checking.{Checking, with_local}
 use Rattle.ft_types.proofs.Listed.{listed_append}
 use Rattle.ft_types.proofs.Scopes.{pushed_checker}

@@ -1,9 +1,9 @@
-use Rattle.std.proofs.Common.{rules, ◌≡◌, ◌∙◌, ◌<◌, sym, ap, subst, length, [], ◌∷◌, ◌++◌, ℕ, List, Some, None, arith}
+use Rattle.std.proofs.Common.{rules, ◌≡◌, ◌∙◌, ◌<◌, sym, ap, subst, length, [], ◌∷◌, List, Some, None}
 use Rattle.std.specs.Prelude.{cond}
 use Rattle.std.specs.Map.{lookup}
 use Rattle.ft_meaning.specs.Trees.{ValueType}
 use Rattle.ft_types.specs.declared.types.KnownType.TheVariants as known
-use Rattle.ft_types.specs.Types.{type_in, type_at, types_of, same_row, FitsBelow, IsTable, Extends}
+use Rattle.ft_types.specs.Types.{type_in, type_at, types_of, same_row, FitsBelow}
 use Rattle.ft_types.proofs.Rows.{row_found, row_made, table_push, types_len, types_more}
 use Rattle.ft_types.proofs.types.Types.of_row.Goals as goal
 

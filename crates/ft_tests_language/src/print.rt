@@ -59,24 +59,33 @@ fn each_judgement_that_is_shown_has_its_sequent(rt: HostRuntime) -> Result<(), F
     Ok(())
 }
 
-// What an expression claims, as two lines.
-#[tactic(auto, using(crate::proofs::Theses::claimed_thesis))]
-fn twice(alloc: Global, session: &mut Session, a: &Application) -> Result<Text, Fault> {
-    let claimed = session.claim(a)?;
-    let lines = sequent_lines(alloc, session.kernel(), &[claimed.entry, claimed.entry])?;
+// The lines of what two expressions claim.
+#[tactic(auto, using(crate::proofs::Theses::claimed_thesis, crate::proofs::Theses::kept_thesis))]
+fn two_lines(
+    alloc: Global,
+    session: &mut Session,
+    a: &Application,
+    b: &Application,
+) -> Result<Text, Fault> {
+    let first = session.claim(a)?;
+    let second = session.claim(b)?;
+    let lines = sequent_lines(alloc, session.kernel(), &[first.entry, second.entry])?;
     Ok(lines)
 }
 
 #[test]
 fn judgements_have_a_line_each(rt: HostRuntime) -> Result<(), Fail> {
     let alloc = rt.alloc();
-    let commands = read_source(alloc, b"rule Nat type rule O : Nat show O".as_slice())?;
+    let commands = read_source(
+        alloc,
+        b"rule Nat type rule O : Nat show O show Nat".as_slice(),
+    )?;
     let mut session = run(alloc, commands.as_slice(), &mut Text::new(alloc))?.session;
     let found = match commands.as_slice() {
-        [.., Command::Show(a)] => twice(alloc, &mut session, a)?,
+        [.., Command::Show(a), Command::Show(b)] => two_lines(alloc, &mut session, a, b)?,
         _ => Text::new(alloc),
     };
-    assert!(rt; found.bytes() == b"|- O : Nat\n|- O : Nat\n".as_slice());
+    assert!(rt; found.bytes() == b"|- O : Nat\n|- Nat type\n".as_slice());
     Ok(())
 }
 
@@ -204,37 +213,54 @@ fn nested(alloc: Global, count: usize) -> Result<String, Memory> {
     Ok(source)
 }
 
+// Whether the text is this one.
+fn is(found: Result<Text, Memory>, wanted: &str) -> Result<bool, Memory> {
+    Ok(found?.bytes() == wanted.as_bytes())
+}
+
 #[test]
-fn each_line_of_a_run_has_its_text(rt: HostRuntime) -> Result<(), Fail> {
+fn each_command_has_its_line(rt: HostRuntime) -> Result<(), Fail> {
     let alloc = rt.alloc();
     let nat = Name::new(alloc, "Nat")?.ok_or("no name")?;
-    let coerce = Name::new(alloc, "coerce")?.ok_or("no name")?;
+    assert!(rt; is(accepted_line(alloc, &nat), "accepted Nat\n")?);
+    assert!(rt; is(none_line(alloc), "none\n")?);
+    Ok(())
+}
+
+#[test]
+fn a_source_without_commands_has_its_line(rt: HostRuntime) -> Result<(), Fail> {
+    let alloc = rt.alloc();
     let deep = nested(alloc, 201)?;
-    for (found, wanted) in [
-        (accepted_line(alloc, &nat)?, "accepted Nat\n"),
-        (none_line(alloc)?, "none\n"),
-        (too_long_line(alloc)?, "error too long\n"),
-        (no_text_line(alloc, 7)?, "error not utf-8 at byte 7\n"),
-        (
-            unexpected_line(alloc, "rule rule type", 5)?,
-            "error 1:6 syntax\n",
-        ),
-        (
-            too_nested_line(alloc, &deep, 220)?,
-            "error 3:206 nested too deeply\n",
-        ),
-        (
-            spent_line(alloc, "rule Nat type\nrule O : Nat\n\nlet a = f g", 38)?,
-            "error 4:11 budget spent\n",
-        ),
-        (
-            error_line(alloc, "é x", 3, b"unbound x")?,
-            "error 1:3 unbound x\n",
-        ),
-        (unhandled_text(alloc, &coerce)?, "unhandled coerce"),
-        (no_match_text(alloc)?, "no match"),
-    ] {
-        assert!(rt; found.bytes() == wanted.as_bytes(), "{wanted}");
-    }
+    assert!(rt; is(too_long_line(alloc), "error too long\n")?);
+    assert!(rt; is(no_text_line(alloc, 7), "error not utf-8 at byte 7\n")?);
+    assert!(rt;
+        is(
+            unexpected_line(alloc, "rule rule type", 5),
+            "error 1:6 syntax\n"
+        )?
+    );
+    assert!(rt;
+        is(
+            too_nested_line(alloc, &deep, 220),
+            "error 3:206 nested too deeply\n"
+        )?
+    );
+    Ok(())
+}
+
+#[test]
+fn a_run_that_ends_tells_why(rt: HostRuntime) -> Result<(), Fail> {
+    let alloc = rt.alloc();
+    let source = "rule Nat type\nrule O : Nat\n\nlet a = f g";
+    let coerce = Name::new(alloc, "coerce")?.ok_or("no name")?;
+    assert!(rt; is(spent_line(alloc, source, 38), "error 4:11 budget spent\n")?);
+    assert!(rt;
+        is(
+            error_line(alloc, "é x", 3, b"unbound x"),
+            "error 1:3 unbound x\n"
+        )?
+    );
+    assert!(rt; is(unhandled_text(alloc, &coerce), "unhandled coerce")?);
+    assert!(rt; is(no_match_text(alloc), "no match")?);
     Ok(())
 }

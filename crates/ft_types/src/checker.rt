@@ -12,7 +12,8 @@ ghost use Rattle.ft_types.specs.Names.{listed};
 ghost use Rattle.ft_types.specs.Checking.{scope_of, with_local, with_top, with_rule};
 ghost use Rattle.ft_types.specs.Checking.{with_operation, rule_in, operation_in, renamed};
 ghost use Rattle.ft_types.specs.Checking.{ValuesBelow, wanted_of, list_wanted, option_wanted};
-ghost use Rattle.ft_types.specs.Checking.{pair_wanted, Keeps, Says, Gives, Tests, last_first, SeesNext};
+ghost use Rattle.ft_types.specs.Checking.{pair_wanted, Keeps, Says, Gives, Tests, last_first};
+ghost use Rattle.ft_types.specs.Checking.{SeesNext};
 
 use crate::fault::{TypeFault, TypeWhy, Wanted};
 use crate::names::{Entry, Names};

@@ -7,7 +7,7 @@ use Rattle.ft_items.specs.Equal.{is_thesis}
 use Rattle.ft_items.specs.Item.{by_var, by_generic, by_meta, by_metacong, by_abs, by_subst, by_substeq, by_refl, by_sym, by_trans, by_conv, by_conveq, by_left, by_right, by_typeof, by_domain, by_boundary, by_widen, by_btype, by_bterm, by_beqty, by_beqtm, by_rule, by_rulewith, by_inst, by_cong, by_convprem, by_convback, by_arg, by_natural, by_metainst, Stated, Entry, Item, variable, metavariable, rule, entry, shown}
 use Rattle.ft_items.specs.Store.{Store, Resolved, each, entry_named, rule_named, with_one, with_two, with_three, with_four, resolve, empty_store, add}
 use Rattle.ft_items.specs.Rows.{conclusion, result_set, concludes_thesis}
-use Rattle.ft_items.specs.Good.{Reject, Kind, Premise, unless, of_kind, same_kind, reason_of_result, reason_of_entry, reason_in, found_at, first_rejected, Counts, counts, Accepted, Rejected, verdict_by}
+use Rattle.ft_items.specs.Good.{Reject, Kind, Premise, unless, of_kind, same_truth, reason_of_result, reason_of_entry, reason_in, found_at, first_rejected, Counts, counts, Accepted, Rejected, verdict_by}
 use Rattle.ft_common.proofs.Options.{none_some}
 use Rattle.ft_check.specs.Built.{is_built, conclusion_built, reason_by, reason_built, first_rejected_by, IsBuilt, AllBuilt, BuiltIsVerdict, AcceptedIsAccepted, RejectedIsRejected}
 
@@ -68,7 +68,7 @@ resolved_built W (by_metainst p ms qs) s e = three_built by_metainst false (λ x
 entry_same : (W : Store) (o : Option Resolved) (e : Entry) → ((s : Resolved) → o ≡ Some s → is_built s ≡ true) → reason_by conclusion_built W o e ≡ reason_of_entry W o e
 entry_same W None e h = refl
 entry_same W (Some s) e h =
-    ap (λ b. unless (of_kind s && same_kind (concludes_thesis s) (is_thesis e.statement)) Kind (reason_of_result (cond b (conclusion W s) None) (result_set s) e)) (h s refl)
+    ap (λ b. unless (of_kind s && same_truth (concludes_thesis s) (is_thesis e.statement)) Kind (reason_of_result (cond b (conclusion W s) None) (result_set s) e)) (h s refl)
 
 pub built_same : (W : Store) (i : Item) → IsBuilt i → reason_built W i ≡ reason_in W i
 built_same W (variable v n p) h = refl
@@ -90,11 +90,11 @@ tested_other false false c S e why n h = h
 
 entry_none : (W : Store) (o : Option Resolved) (e : Entry) → reason_by conclusion_built W o e ≡ None → reason_of_entry W o e ≡ None
 entry_none W None e h = h
-entry_none W (Some s) e h = tested_none (of_kind s && same_kind (concludes_thesis s) (is_thesis e.statement)) (is_built s) (conclusion W s) (result_set s) e h
+entry_none W (Some s) e h = tested_none (of_kind s && same_truth (concludes_thesis s) (is_thesis e.statement)) (is_built s) (conclusion W s) (result_set s) e h
 
 entry_other : (W : Store) (o : Option Resolved) (e : Entry) (why : Reject) → why ≢ Premise → reason_by conclusion_built W o e ≡ Some why → reason_of_entry W o e ≡ Some why
 entry_other W None e why n h = h
-entry_other W (Some s) e why n h = tested_other (of_kind s && same_kind (concludes_thesis s) (is_thesis e.statement)) (is_built s) (conclusion W s) (result_set s) e why n h
+entry_other W (Some s) e why n h = tested_other (of_kind s && same_truth (concludes_thesis s) (is_thesis e.statement)) (is_built s) (conclusion W s) (result_set s) e why n h
 
 pub built_none : (W : Store) (i : Item) → reason_built W i ≡ None → reason_in W i ≡ None
 built_none W (variable v n p) h = h

@@ -9,7 +9,7 @@ use Rattle.ft_items.specs.Item.{Item, Entry, variable, metavariable, rule, entry
 use Rattle.ft_items.specs.Store.{Store, Resolved, Derivable, nth, resolve, add, add_all, empty_store, store_of, entries_in, rules_in}
 use Rattle.ft_items.specs.Levels.{level}
 use Rattle.ft_items.specs.Rows.{conclusion, result_set, concludes_thesis}
-use Rattle.ft_items.specs.Good.{Reject, Kind, unless, of_kind, same_kind, reason_of_result, Good, level_of_step, level_in, shown_in, marks, greatest_level, found_at, Counts, counts, Accepted, Rejected, verdict_by, verdict}
+use Rattle.ft_items.specs.Good.{Reject, Kind, unless, of_kind, same_truth, reason_of_result, Good, level_of_step, level_in, shown_in, marks, greatest_level, found_at, Counts, counts, Accepted, Rejected, verdict_by, verdict}
 use Rattle.ft_items.proofs.Lists.{entries_all}
 use Rattle.ft_sound.specs.Soundness.{EachEntry}
 use Rattle.ft_sound.proofs.Theorems.{accepted_are_good, accepted_are_derivable}
@@ -184,7 +184,7 @@ built_step W e h = go (resolve W e.step) refl h
     go (Some s) q h = record {
       step = s;
       is = q;
-      built = tested_built (of_kind s && same_kind (concludes_thesis s) (is_thesis e.statement)) (is_built s) (conclusion W s) (result_set s) e h;
+      built = tested_built (of_kind s && same_truth (concludes_thesis s) (is_thesis e.statement)) (is_built s) (conclusion W s) (result_set s) e h;
     }
 
 -- the level of what is stated

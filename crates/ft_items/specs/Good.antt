@@ -121,9 +121,9 @@ abbrev pub unless : Bool → Reject → Option Reject → Option Reject
 unless b why next = cond b next (Some why)
 
 -- the test that two tests have the same outcome
-abbrev pub same_kind : Bool → Bool → Bool
-same_kind true b = b
-same_kind false b = not b
+abbrev pub same_truth : Bool → Bool → Bool
+same_truth true b = b
+same_truth false b = not b
 
 -- the reason against an entry whose step has this conclusion and this set: Premise, Conclusion, Set
 abbrev pub reason_of_result : Option Statement → List Atom → Entry → Option Reject
@@ -133,7 +133,7 @@ reason_of_result (Some x) S e = unless (equal_statements x e.statement) Conclusi
 -- the reason against an entry: Reference, Kind, and those of its result
 abbrev pub reason_of_entry : Declarations → Option Resolved → Entry → Option Reject
 reason_of_entry W None e = Some Reference
-reason_of_entry W (Some s) e = unless (of_kind s && same_kind (concludes_thesis s) (is_thesis e.statement)) Kind (reason_of_result (conclusion W s) (result_set s) e)
+reason_of_entry W (Some s) e = unless (of_kind s && same_truth (concludes_thesis s) (is_thesis e.statement)) Kind (reason_of_result (conclusion W s) (result_set s) e)
 
 -- the reason against a variable whose number is right: Reference, Kind, Premise
 abbrev pub reason_of_variable : Option Assertion → Option Reject

@@ -133,23 +133,37 @@ metavariable_named W m = option_map (λ d. (m, d)) (nth W.metavariables m)
 abbrev pub rule_named : Declarations → ℕ → Option (ℕ × Rule)
 rule_named W r = option_map (λ R. (r, R)) (rule_at W.rules r)
 
+-- What is declared with an entry, for which an assertion stands.
+
+-- what is declared of a variable with this name and this type: both, and the set on which the type rests
+abbrev pub declared_variable : Name → Assertion → Annotation
+declared_variable n p = record { name = n; annotation = type_in p.statement; set = p.set }
+
+-- what is declared of a metavariable with this name and this boundary: both, and the set on which the boundary rests
+abbrev pub declared_metavariable : Name → Assertion → Declared
+declared_metavariable n b = record { name = n; boundary = b.statement; set = b.set }
+
+-- the rule with these premises and this boundary as its conclusion
+abbrev pub declared_rule : List (ℕ × Declared) → Assertion → Rule
+declared_rule ds c = record { premises = premises_of ds; conclusion = claim_in c.statement }
+
 -- What an item adds. It adds nothing where it names what is not there.
 
 -- a variable with the type and the set of its entry
 abbrev pub add_variable : Declarations → ℕ → Name → Option Assertion → Declarations
 add_variable W v n None = W
-add_variable W v n (Some p) = record W { variables = W.variables ++ ((v, record { name = n; annotation = type_in p.statement; set = p.set }) ∷ []) }
+add_variable W v n (Some p) = record W { variables = W.variables ++ ((v, declared_variable n p) ∷ []) }
 
 -- a metavariable with the boundary and the set of its entry
 abbrev pub add_metavariable : Declarations → Name → Option Assertion → Declarations
 add_metavariable W n None = W
-add_metavariable W n (Some p) = record W { metavariables = W.metavariables ++ (record { name = n; boundary = p.statement; set = p.set } ∷ []) }
+add_metavariable W n (Some p) = record W { metavariables = W.metavariables ++ (declared_metavariable n p ∷ []) }
 
 -- a rule with the boundaries of its metavariables and the conclusion of its entry
 abbrev pub add_rule : Declarations → Name → Option (List (ℕ × Declared)) → Option Assertion → Declarations
 add_rule W n None p = W
 add_rule W n (Some ms) None = W
-add_rule W n (Some ms) (Some p) = record W { rules = W.rules ++ (record { premises = premises_of ms; conclusion = claim_in p.statement } ∷ []); names = W.names ++ (n ∷ []) }
+add_rule W n (Some ms) (Some p) = record W { rules = W.rules ++ (declared_rule ms p ∷ []); names = W.names ++ (n ∷ []) }
 
 -- the store after one more item; a shown mark adds nothing
 abbrev pub add : Store → Item → Store
@@ -214,18 +228,18 @@ rules_in (shown p ∷ items) = rules_in items
 -- what a variable declares, given its entry; with a dummy where there is none
 abbrev pub annotated : ℕ × Name × ℕ → Option Assertion → ℕ × Annotation
 annotated x None = (x.0, record { name = x.1; annotation = bound zero; set = [] })
-annotated x (Some a) = (x.0, record { name = x.1; annotation = type_in a.statement; set = a.set })
+annotated x (Some a) = (x.0, declared_variable x.1 a)
 
 -- what a metavariable declares, given its entry; with a dummy where there is none
 abbrev pub declared : Name × ℕ → Option Assertion → Declared
 declared x None = record { name = x.0; boundary = plain type_goal; set = [] }
-declared x (Some a) = record { name = x.0; boundary = a.statement; set = a.set }
+declared x (Some a) = declared_metavariable x.0 a
 
 -- the rule that is declared, given its metavariables and its entry; a dummy where one of them is missing
 abbrev pub ruled : Option (List (ℕ × Declared)) → Option Assertion → Rule
 ruled None o = record { premises = []; conclusion = type_goal }
 ruled (Some ds) None = record { premises = []; conclusion = type_goal }
-ruled (Some ds) (Some a) = record { premises = premises_of ds; conclusion = claim_in a.statement }
+ruled (Some ds) (Some a) = declared_rule ds a
 
 -- Steps with what their numbers name.
 

@@ -4,9 +4,8 @@ use Rattle.std.specs.Prelude.{ℕ, ◌≡◌, Option, Some, None, List, [], ◌�
 use Rattle.ft_theory.specs.Rules.{Rule}
 use Rattle.ft_theory.specs.Steps.{Sequent}
 use Rattle.ft_items.specs.Item.{Name, Item, variable, metavariable, rule, entry, shown}
-use Rattle.ft_items.specs.Store.{Assertion, Declared, Store, each, entry_named, metavariable_named, sequent_in, Derivable, add, empty_store}
+use Rattle.ft_items.specs.Store.{Assertion, Declared, Store, each, entry_named, metavariable_named, sequent_in, Derivable, add, empty_store, declared_rule}
 use Rattle.ft_items.specs.Good.{Good}
-use Rattle.ft_reference.specs.Declare.{declared_rule}
 use Rattle.ft_meaning.specs.Commands.{Done, Accepted, ShownNone, Quiet}
 use Rattle.ft_meaning.specs.Commands as command
 

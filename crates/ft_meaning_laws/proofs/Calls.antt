@@ -7,7 +7,7 @@ use Rattle.std.proofs.lemmas.Option.{same_Some}
 use Rattle.ft_common.proofs.Options.{none_some}
 use Rattle.ft_items.specs.Equal.{is_thesis}
 use Rattle.ft_items.specs.Item.{Name, Stated, Item, variable, entry}
-use Rattle.ft_items.specs.Store.{Assertion, Annotation, Declared, Store, nth, each, entry_named, variable_named, metavariable_named, rule_named, with_one, with_two, resolve, Resolved, add_variable, add, empty_store, store_of}
+use Rattle.ft_items.specs.Store.{Assertion, Annotation, Declared, Store, nth, each, entry_named, variable_named, metavariable_named, rule_named, with_one, with_two, resolve, Resolved, add_variable, add, empty_store, store_of, declared_variable}
 use Rattle.ft_items.specs.Rows.{conclusion, result_set, concludes_thesis}
 use Rattle.ft_items.specs.Good.{of_kind, given, is_plain_type, is_next}
 use Rattle.ft_items.proofs.Lists.{nth_end, store_last}
@@ -16,7 +16,7 @@ use Rattle.ft_sound.proofs.Steps.{resolved}
 use Rattle.ft_sound.proofs.KindRows.{conclusion_kind}
 use Rattle.ft_reference.specs.Refusals.{Refusal, WrongForm}
 use Rattle.ft_reference.specs.Calls.{answer}
-use Rattle.ft_reference.specs.Declare.{outcome, refused_unless, declared_variable, new_variable}
+use Rattle.ft_reference.specs.Declare.{outcome, refused_unless, new_variable}
 use Rattle.ft_nucleus_laws.proofs.Calls.{answers_its_row, answer_gives}
 use Rattle.ft_equality.specs.Programs.{spend_from}
 use Rattle.ft_meaning.specs.Names.{number_of, rule_of_name}

@@ -6,14 +6,14 @@ use Rattle.ft_theory.specs.Statements.{Statement, is_type, has_type, plain}
 use Rattle.ft_items.specs.Sets.{Atom, met, var, has, metavariables_only}
 use Rattle.ft_items.specs.Equal.{is_plain}
 use Rattle.ft_items.specs.Item.{Name, Item, metavariable, by_var, by_generic, by_abs, by_btype, by_bterm, by_beqty, by_beqtm}
-use Rattle.ft_items.specs.Store.{Assertion, Annotation, Declared, Store, with_one, with_two, with_three, nth, entry_named, add_metavariable, add, empty_store, store_of, Resolved}
+use Rattle.ft_items.specs.Store.{Assertion, Annotation, Declared, Store, with_one, with_two, with_three, nth, entry_named, add_metavariable, add, empty_store, store_of, Resolved, Declarations, declared_metavariable}
 use Rattle.ft_items.specs.Rows.{term_boundary, type_equation_boundary, term_equation_boundary, atoms, conclusion, concludes_thesis}
 use Rattle.ft_items.specs.Good.{is_next}
 use Rattle.ft_items.proofs.Lists.{nth_end, store_last, each_before}
 use Rattle.ft_common.proofs.Options.{none_some, some_none}
 use Rattle.ft_sound.proofs.Structural.{from_when}
 use Rattle.ft_reference.specs.Calls.{answer}
-use Rattle.ft_reference.specs.Declare.{Outcome as Declaration, outcome, declared_metavariable, next_metavariable, RuleFault, OpenPremise, Draft, name_fault, first_outside, begin, premise}
+use Rattle.ft_reference.specs.Declare.{Outcome as Declaration, outcome, next_metavariable, RuleFault, OpenPremise, Draft, name_fault, first_outside, begin, premise}
 use Rattle.ft_nucleus_laws.specs.Laws.{numbers, IsDraft}
 use Rattle.ft_nucleus_laws.proofs.Declaring.{map_none, drafts_grow}
 use Rattle.ft_meaning.specs.Trees.{Form, Binder, Body, type_body, term_body, types_body, terms_body, Premise}

@@ -3,12 +3,12 @@ use Rattle.std.proofs.Common.{◌≡◌, ℕ, true, Option, Some, None, Result, 
 use Rattle.std.specs.Prelude.{map, option_map}
 use Rattle.ft_theory.specs.Rules.{Rule, rule_at}
 use Rattle.ft_items.specs.Item.{Name, Item, shown}
-use Rattle.ft_items.specs.Store.{Assertion, Store, sequent_in, Derivable, add_rule, add, empty_store, store_of}
+use Rattle.ft_items.specs.Store.{Assertion, Store, sequent_in, Derivable, add_rule, add, empty_store, store_of, declared_rule}
 use Rattle.ft_items.specs.Rows.{atoms}
 use Rattle.ft_items.specs.Good.{is_next}
 use Rattle.ft_sound.specs.Soundness.{MembersHold}
 use Rattle.ft_sound.proofs.Valid.{Valid}
-use Rattle.ft_reference.specs.Declare.{Outcome as Declaration, outcome, first_of, RuleFault, OpenConclusion, Draft, name_fault, first_outside, begin, declared_rule, next_rule, finish}
+use Rattle.ft_reference.specs.Declare.{Outcome as Declaration, outcome, first_of, RuleFault, OpenConclusion, Draft, name_fault, first_outside, begin, next_rule, finish}
 use Rattle.ft_nucleus_laws.specs.Laws.{drafted}
 use Rattle.ft_nucleus_laws.proofs.Declaring.{finishes_allowed}
 use Rattle.ft_meaning.specs.Trees.{Body, Premise, Command, rule_command, let_command, operation_command, computation_command, extensionality_command, show_command}

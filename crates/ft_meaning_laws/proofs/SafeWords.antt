@@ -6,6 +6,7 @@ use Rattle.ft_theory.specs.Statements.{Statement, is_type, has_type, equal_types
 use Rattle.ft_items.specs.Rows.{when}
 use Rattle.ft_items.specs.Item.{Name}
 use Rattle.ft_items.specs.Store.{Assertion, Annotation, Store}
+use Rattle.ft_items.specs.Good.{same_truth}
 use Rattle.ft_reference.specs.Refusals.{Refusal, WrongForm}
 use Rattle.ft_reference.specs.Nucleus.{fits_boundary}
 use Rattle.ft_reference.specs.Nucleus as reference
@@ -24,7 +25,7 @@ use Rattle.ft_meaning.specs.Trees.{ValueType, Pattern, cons_pattern, some_patter
 use Rattle.ft_meaning.specs.Trees as type
 use Rattle.ft_meaning.specs.Typing.{same_type, RuleType, Scope, meant_by, wanted, either_wanted, ensure_arity, pattern_count, fault_at, Unbound, Twice, Bindings, bindings, all_bindings, word_type, first_wanted, word_type_of_two}
 use Rattle.ft_meaning.specs.Values.{Value, judgement, boundary, unit, truth, pair, nil, cons, none, some, Environment, Refused, fails, performs, Run, pure, end, settled, checker, nucleus, the_rule}
-use Rattle.ft_meaning.specs.Matching.{is_applied, if_found, ◌and_also◌, same_truth, matches, match_arguments}
+use Rattle.ft_meaning.specs.Matching.{is_applied, if_found, ◌and_also◌, matches, match_arguments}
 use Rattle.ft_meaning.specs.Forms.{judged, bounded, fitting, abstract_value, substitute_value, equation_if, compare, normalise, conversion, word_at, word_at_two}
 use Rattle.ft_equality_laws.specs.Laws.{UsesUnits}
 use Rattle.ft_equality_laws.proofs.Counts.{units_are_kept}

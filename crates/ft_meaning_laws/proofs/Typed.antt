@@ -8,11 +8,11 @@ use Rattle.ft_common.proofs.Options.{one_value}
 use Rattle.ft_common.proofs.Results.{ok_ok, err_ok}
 use Rattle.ft_theory.specs.Rules.{Rule}
 use Rattle.ft_items.specs.Item.{Name}
-use Rattle.ft_items.specs.Store.{Assertion, Annotation, Store, add_variable}
+use Rattle.ft_items.specs.Store.{Assertion, Annotation, Store, add_variable, declared_variable}
 use Rattle.ft_items.specs.Good.{equal_names, is_next, is_plain_type}
 use Rattle.ft_items.proofs.Names.{same_name}
 use Rattle.ft_reference.specs.Refusals.{Refusal, WrongForm}
-use Rattle.ft_reference.specs.Declare.{Outcome as Declaration, outcome, refused_unless, declared_variable, new_variable}
+use Rattle.ft_reference.specs.Declare.{Outcome as Declaration, outcome, refused_unless, new_variable}
 use Rattle.ft_equality.specs.Results as results
 use Rattle.ft_equality.specs.Programs.{spend_from}
 use Rattle.ft_equality_laws.proofs.Stores.{next_more}

@@ -10,14 +10,14 @@ use Rattle.ft_theory.specs.Rules.{look_up, Rule, rule_at}
 use Rattle.ft_theory.specs.Derivability.{FinitaryUpTo}
 use Rattle.ft_items.specs.Sets.{Atom, met, var, has, is_within, metavariables_only, Has}
 use Rattle.ft_items.specs.Item.{Name, variable, metavariable}
-use Rattle.ft_items.specs.Store.{Assertion, Annotation, Declared, Store, nth, each, entry_named, variable_named, metavariable_named, rule_named, add_variable, add_metavariable, add_rule, empty_store, store_of}
+use Rattle.ft_items.specs.Store.{Assertion, Annotation, Declared, Store, nth, each, entry_named, variable_named, metavariable_named, rule_named, add_variable, add_metavariable, add_rule, empty_store, store_of, declared_variable, declared_metavariable, declared_rule}
 use Rattle.ft_items.specs.Rows.{atoms, differ, on_earlier}
 use Rattle.ft_items.specs.Good.{is_plain_type, is_next, is_new, Allowed}
 use Rattle.ft_items.proofs.SetLemmas.{by_bool, has_true, has_false}
 use Rattle.ft_items.proofs.Lists.{store_last, good_last, Before, nth_before, each_before, nth_end, nth_past, store_append, before_all}
 use Rattle.ft_sound.proofs.Theorems.{rules_finitary}
 use Rattle.ft_reference.specs.Refusals.{Refusal, WrongForm, OpenBoundary}
-use Rattle.ft_reference.specs.Declare.{outcome, refused_unless, first_of, declared_variable, new_variable, first_variable, declared_metavariable, next_metavariable, new_metavariable, RuleFault, Duplicate, TooMany, OpenPremise, OpenConclusion, Draft, name_fault, first_outside, begin, premise, declared_rule, next_rule, finish}
+use Rattle.ft_reference.specs.Declare.{outcome, refused_unless, first_of, new_variable, first_variable, next_metavariable, new_metavariable, RuleFault, Duplicate, TooMany, OpenPremise, OpenConclusion, Draft, name_fault, first_outside, begin, premise, next_rule, finish}
 use Rattle.ft_nucleus_laws.specs.Laws.{LeavesOld, RefusalsChangeNothing, VariablesAllowed, MetavariablesAllowed, numbers, IsDraft, DraftsGrow, DraftsStay, drafted, FinishesAllowed, FinishedIsFinitary, VariableIsThere, MetavariableIsThere, PremiseIsThere, RuleIsThere}
 use Rattle.ft_sound.proofs.Good.{atoms_last}
 

@@ -6,14 +6,14 @@ use Rattle.ft_theory.specs.Rules.{look_up, Rule}
 use Rattle.ft_items.specs.Sets.{Atom, var, Has, precedes, Ascending}
 use Rattle.ft_items.specs.Equal.{is_thesis, is_plain, is_object, head}
 use Rattle.ft_items.specs.Item.{Name, Stated, Item, variable, metavariable, rule, entry, by_generic}
-use Rattle.ft_items.specs.Store.{Assertion, Annotation, Declared, Store, entry_named, variable_named, metavariable_named, rule_named, each, resolve, Resolved, Derivable, store_of}
+use Rattle.ft_items.specs.Store.{Assertion, Annotation, Declared, Store, entry_named, variable_named, metavariable_named, rule_named, each, resolve, Resolved, Derivable, store_of, Declarations, declared_variable}
 use Rattle.ft_items.specs.Rows.{rests_on, atoms, differ, on_earlier}
 use Rattle.ft_items.specs.Good.{given, is_next, is_new, Allowed, Good}
 use Rattle.ft_reference.specs.Refusals.{Refusal, TooBig, Check, holds, refusal_of, first_refusal, formed, AllSmall}
 use Rattle.ft_reference.specs.Compare.{fit_checks}
 use Rattle.ft_reference.specs.Checks.{first_dependent, checks}
 use Rattle.ft_reference.specs.Calls.{may_be_made, answer}
-use Rattle.ft_reference.specs.Declare.{Outcome, Duplicate, TooMany, OpenPremise, OpenConclusion, Draft, declared_variable, new_variable, next_metavariable, new_metavariable, first_variable, first_outside, begin, premise, next_rule, finish}
+use Rattle.ft_reference.specs.Declare.{Outcome, Duplicate, TooMany, OpenPremise, OpenConclusion, Draft, new_variable, next_metavariable, new_metavariable, first_variable, first_outside, begin, premise, next_rule, finish}
 
 -- A call answers a statement and its set exactly where its row gives these after the store's items and all that it forms is
 -- small.

@@ -3,7 +3,7 @@ use Rattle.std.specs.Prelude.{ℕ, suc, Bool, cond, nat_lt, Option, Some, None, 
 use Rattle.ft_theory.specs.Rules.{Rule}
 use Rattle.ft_items.specs.Sets.{Atom, met, var, has}
 use Rattle.ft_items.specs.Item.{Name}
-use Rattle.ft_items.specs.Store.{Assertion, Annotation, Declared, Store, type_in, claim_in, premises_of, add_variable, add_metavariable, add_rule}
+use Rattle.ft_items.specs.Store.{Assertion, Annotation, Declared, Store, declared_variable, declared_metavariable, declared_rule, add_variable, add_metavariable, add_rule}
 use Rattle.ft_items.specs.Rows.{atoms}
 use Rattle.ft_items.specs.Good.{is_plain_type, is_new}
 use Rattle.ft_reference.specs.Refusals.{Refusal, WrongForm, OpenBoundary}
@@ -29,17 +29,9 @@ first_of (Some e) o = Some e
 
 -- Variables and metavariables. What is answered is the number with what is declared under it.
 
--- what is declared of a variable with this name and this type: both, and the set on which the type rests
-abbrev pub declared_variable : Name → Assertion → Annotation
-declared_variable n p = record { name = n; annotation = type_in p.statement; set = p.set }
-
 -- A variable of number v at a type, which is to be plain. The number is to be greater than those of the earlier variables.
 abbrev pub new_variable : Store → ℕ → Name → Assertion → Outcome Store (ℕ × Annotation) Refusal
 new_variable W v n p = outcome (refused_unless (is_plain_type p.statement) WrongForm) W (add_variable W v n (Some p)) (v, declared_variable n p)
-
--- what is declared of a metavariable with this name and this boundary: both, and the set on which the boundary rests
-abbrev pub declared_metavariable : Name → Assertion → Declared
-declared_metavariable n b = record { name = n; boundary = b.statement; set = b.set }
 
 -- the metavariable that is declared next with them, with its number
 abbrev pub next_metavariable : Store → Name → Assertion → ℕ × Declared
@@ -89,10 +81,6 @@ abbrev pub premise : Store → Draft → Name → Assertion → Outcome (Store �
 premise W d n b = outcome (option_map (OpenPremise (suc (length d.premises))) (first_outside (atoms d.premises) b.set)) (W, d)
     (add_metavariable W n (Some b), record d { premises = d.premises ++ (next_metavariable W n b ∷ []) })
     (next_metavariable W n b)
-
--- the rule with these premises and this boundary as its conclusion
-abbrev pub declared_rule : List (ℕ × Declared) → Assertion → Rule
-declared_rule ds c = record { premises = premises_of ds; conclusion = claim_in c.statement }
 
 -- the rule that is declared next with them, with its number
 abbrev pub next_rule : Store → List (ℕ × Declared) → Assertion → ℕ × Rule

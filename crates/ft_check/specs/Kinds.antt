@@ -1,7 +1,7 @@
 -- Tests of what the numbers in a step name: None where a number names nothing.
 use Rattle.std.specs.Prelude.{ℕ, ◌&&◌, not, Bool, true, Option, option_map, List}
 use Rattle.ft_items.specs.Equal.{is_thesis}
-use Rattle.ft_items.specs.Store.{Store, each, entry_named, variable_named, metavariable_named, rule_named, Resolved, with_two}
+use Rattle.ft_items.specs.Store.{Store, each, entry_named, variable_named, metavariable_named, rule_named, Resolved, with_two, Declarations}
 use Rattle.ft_items.specs.Rows.{concludes_thesis}
 use Rattle.ft_items.specs.Good.{all_theses, of_kind, same_truth}
 
@@ -25,13 +25,13 @@ theses_named W ps = option_map all_theses (each (entry_named W) ps)
 abbrev pub entry_there : Store → ℕ → Option Bool
 entry_there W p = option_map (λ a. true) (entry_named W p)
 
-abbrev pub variable_there : Store → ℕ → Option Bool
+abbrev pub variable_there : Declarations → ℕ → Option Bool
 variable_there W v = option_map (λ d. true) (variable_named W v)
 
-abbrev pub metavariable_there : Store → ℕ → Option Bool
+abbrev pub metavariable_there : Declarations → ℕ → Option Bool
 metavariable_there W m = option_map (λ d. true) (metavariable_named W m)
 
-abbrev pub rule_there : Store → ℕ → Option Bool
+abbrev pub rule_there : Declarations → ℕ → Option Bool
 rule_there W r = option_map (λ R. true) (rule_named W r)
 
 -- both tests, where all is there

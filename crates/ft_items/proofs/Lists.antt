@@ -68,7 +68,7 @@ pub record Before (W X : Store) : Type 0 where
   pub metavariables : (m : ℕ) (d : Declared) → nth W.declarations.metavariables m ≡ Some d → nth X.declarations.metavariables m ≡ Some d
 
 -- the metavariables of the one stand in the other
-abbrev Kept : Declarations → Declarations → Type 0
+abbrev pub Kept : Declarations → Declarations → Type 0
 Kept W X = (m : ℕ) (d : Declared) → nth W.metavariables m ≡ Some d → nth X.metavariables m ≡ Some d
 
 kept_variable : (W : Declarations) (v : ℕ) (n : Name) (o : Option Assertion) → Kept W (add_variable W v n o)

@@ -6,7 +6,7 @@ use Rattle.ft_common.proofs.Options.{none_some}
 use Rattle.ft_common.proofs.Results.{ok_ok, err_ok}
 use Rattle.ft_theory.specs.Statements.{is_type, has_type, type_goal, term_goal, type_equation_goal, term_equation_goal, Statement, plain}
 use Rattle.ft_items.specs.Item.{Name, by_btype, by_bterm, by_beqty, by_beqtm}
-use Rattle.ft_items.specs.Store.{Assertion, Annotation, Declared, Store, Resolved, claim_in, add_metavariable}
+use Rattle.ft_items.specs.Store.{Assertion, Annotation, Declared, Resolved, claim_in, add_metavariable, Declarations}
 use Rattle.ft_items.specs.Rows.{atoms, when, term_boundary, type_equation_boundary, term_equation_boundary, conclusion, result_set}
 use Rattle.ft_items.specs.Equal.{is_object_goal}
 use Rattle.ft_items.specs.Good.{of_kind, given}
@@ -58,7 +58,7 @@ answered_is (Some r) p a e = absurd (err_ok r a e)
 answered_is None (Some b) a e = ap Some (ok_ok b a e)
 answered_is None None a e = absurd (err_ok WrongForm a e)
 
-concludes : (W : Store) (s : Resolved) (a : Assertion) → answer W s ≡ Ok a → conclusion W s ≡ Some a.statement
+concludes : (W : Declarations) (s : Resolved) (a : Assertion) → answer W s ≡ Ok a → conclusion W s ≡ Some a.statement
 concludes W s a e = go (of_kind s) (conclusion W s) (answered_is (first_refusal (checks W s)) (given W s) a e)
   where
     go : (b : Bool) (o : Option Statement) → cond b (option_map (λ x. record { statement = x; set = result_set s }) o) None ≡ Some a → o ≡ Some a.statement
@@ -129,10 +129,10 @@ safe_premise : (sc : Scope) (at : ℕ) (d : Draft) (n : Name) (b : Assertion) �
 safe_premise sc at d n b s f = go (option_map (OpenPremise (suc (length d.premises))) (first_outside (atoms d.premises) b.set))
   where
     M : ℕ × Declared
-    M = next_metavariable s.store n b
+    M = next_metavariable s.declarations n b
 
-    result : Option RuleFault → Declaration (Store × Draft) (ℕ × Declared) RuleFault
-    result o = outcome o (s.store, d) (add_metavariable s.store n (Some b), record d { premises = d.premises ++ (M ∷ []) }) M
+    result : Option RuleFault → Declaration (Declarations × Draft) (ℕ × Declared) RuleFault
+    result o = outcome o (s.declarations, d) (add_metavariable s.declarations n (Some b), record d { premises = d.premises ++ (M ∷ []) }) M
 
     more : length (d.premises ++ (M ∷ [])) ≡ suc (length d.premises)
     more = length-append d.premises (M ∷ []) ∙ omega arith

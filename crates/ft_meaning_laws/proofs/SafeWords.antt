@@ -5,7 +5,7 @@ use Rattle.ft_theory.specs.Rules.{Rule}
 use Rattle.ft_theory.specs.Statements.{Statement, is_type, has_type, equal_types, equal_terms, plain}
 use Rattle.ft_items.specs.Rows.{when}
 use Rattle.ft_items.specs.Item.{Name}
-use Rattle.ft_items.specs.Store.{Assertion, Annotation, Store}
+use Rattle.ft_items.specs.Store.{Assertion, Annotation, Declarations}
 use Rattle.ft_items.specs.Good.{same_truth}
 use Rattle.ft_reference.specs.Refusals.{Refusal, WrongForm}
 use Rattle.ft_reference.specs.Nucleus.{fits_boundary}
@@ -43,10 +43,10 @@ pub as_type : (sc : Scope) (A B : ValueType) (m : Run Value) → okay A ≡ okay
 as_type sc A B m e k = subst (λ z. IsSafe Value sc (Of z) m) (ok_ok A B e) k
 
 -- calls
-pub safe_judged : (sc : Scope) (at : ℕ) (ask : Store → Result Assertion Refusal) → IsSafe Value sc (Of type.judgement) (judged at ask)
+pub safe_judged : (sc : Scope) (at : ℕ) (ask : Declarations → Result Assertion Refusal) → IsSafe Value sc (Of type.judgement) (judged at ask)
 safe_judged sc at ask = safe_bind Assertion Value sc Any (Of type.judgement) (nucleus at ask) (λ j. pure (judgement j)) (safe_nucleus sc at ask) (λ j p. safe_pure Value sc (Of type.judgement) (judgement j) tt)
 
-safe_bounded : (sc : Scope) (at : ℕ) (ask : Store → Result Assertion Refusal) → IsSafe Value sc (Of type.boundary) (bounded at ask)
+safe_bounded : (sc : Scope) (at : ℕ) (ask : Declarations → Result Assertion Refusal) → IsSafe Value sc (Of type.boundary) (bounded at ask)
 safe_bounded sc at ask = safe_bind Assertion Value sc Any (Of type.boundary) (nucleus at ask) (λ b. pure (boundary b)) (safe_nucleus sc at ask) (λ b p. safe_pure Value sc (Of type.boundary) (boundary b) tt)
 
 pub safe_fitting : (sc : Scope) → CanCoerce sc → (at : ℕ) (j b : Assertion) → IsSafe Assertion sc Any (fitting at j b)
@@ -87,13 +87,13 @@ safe_substitute sc at v t A h (inl e) = of_judgement sc (Of A) (λ v. substitute
 safe_substitute sc at v t A h (inr e) = of_boundary sc (Of A) (λ v. substitute_value at v t) v (subst (HasType v) e h) (λ b. subst (λ z. IsSafe Value sc (Of z) (substitute_value at (boundary b) t)) (sym e) (safe_bounded sc at (λ W. reference.substitute W b t)))
 
 -- equality
-safe_checker : (A : Type 0) (sc : Scope) (at : ℕ) (ask : Store → EqualityRules → Units → Answer A) → ((W : Store) (E : EqualityRules) (u : Units) → UsesUnits u (ask W E u)) → IsSafe A sc Any (checker at ask)
-safe_checker A sc at ask uses s r = go (ask s.store s.equality_rules s.units) (uses s.store s.equality_rules s.units).1
+safe_checker : (A : Type 0) (sc : Scope) (at : ℕ) (ask : Declarations → EqualityRules → Units → Answer A) → ((W : Declarations) (E : EqualityRules) (u : Units) → UsesUnits u (ask W E u)) → IsSafe A sc Any (checker at ask)
+safe_checker A sc at ask uses s r = go (ask s.declarations s.equality_rules s.units) (uses s.declarations s.equality_rules s.units).1
   where
     go : (a : Answer A) → s.units.used ≤ a.1.used → Safe A sc Any s (settled at s a)
-    go (Ok a, u) h = record { names = refl; rules = refl; units = next_more s.store.variables s.units.used u.used h r.units; allows = tt }
-    go (Err Spent, u) h = record { names = refl; rules = refl; units = next_more s.store.variables s.units.used u.used h r.units; allows = tt }
-    go (Err NotSmall, u) h = record { names = refl; rules = refl; units = next_more s.store.variables s.units.used u.used h r.units; allows = tt }
+    go (Ok a, u) h = record { names = refl; rules = refl; units = next_more s.declarations.variables s.units.used u.used h r.units; allows = tt }
+    go (Err Spent, u) h = record { names = refl; rules = refl; units = next_more s.declarations.variables s.units.used u.used h r.units; allows = tt }
+    go (Err NotSmall, u) h = record { names = refl; rules = refl; units = next_more s.declarations.variables s.units.used u.used h r.units; allows = tt }
 
 equation_has_type : (b : Bool) (x : Statement) (j k : Assertion) → HasType (equation_if b x j k) (type.option type.judgement)
 equation_has_type true x j k = tt

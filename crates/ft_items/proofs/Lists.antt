@@ -1,11 +1,13 @@
 -- Good lists item by item, and the store of a good list in terms of the list's own items.
-use Rattle.std.proofs.Common.{◌≡◌, ℕ, zero, suc, ◌<◌, ◌≤◌, length, get_or, arith, Option, Some, None, List, [], ◌∷◌, ◌++◌, refl, sym, ap, ap₂, ◌∙◌, append_assoc, append-nil}
-use Rattle.std.specs.Prelude.{map, option_map, option_and_then}
+use Rattle.std.proofs.Common.{◌≡◌, ℕ, zero, suc, true, ◌<◌, ◌≤◌, length, get_or, arith, Option, Some, None, List, [], ◌∷◌, ◌++◌, refl, sym, ap, ap₂, ◌∙◌, append_assoc, append-nil}
+use Rattle.std.specs.Prelude.{map, nat_lt, option_map, option_and_then}
+use Rattle.std.proofs.lemmas.Bool.{ltb-true, and_parts}
 use Rattle.ft_common.proofs.Options.{none_some}
-use Rattle.ft_theory.specs.Rules.{Rule}
+use Rattle.ft_common.proofs.Choices.{if_same, if_other}
+use Rattle.ft_theory.specs.Rules.{look_up, Rule, rule_at}
 use Rattle.ft_items.specs.Item.{Name, Item, variable, metavariable, rule, entry, shown}
 use Rattle.ft_items.specs.Store.{Assertion, Annotation, Declared, Declarations, Store, nth, each, entry_named, metavariable_named, add_variable, add_metavariable, add_rule, add, add_all, empty_store, store_of, declared_by, entries_in, variables_in, metavariables_in, rules_in, annotated, declared, ruled}
-use Rattle.ft_items.specs.Good.{AllowedIn, GoodAfter, Good}
+use Rattle.ft_items.specs.Good.{is_next, AllowedIn, GoodAfter, Good}
 
 -- what stands at a place of a list
 pub nth_before : {A : Type 0} (xs ys : List A) (n : ℕ) (x : A) → nth xs n ≡ Some x → nth (xs ++ ys) n ≡ Some x
@@ -37,6 +39,18 @@ pub nth_end : {A : Type 0} (xs : List A) (x : A) → nth (xs ++ x ∷ []) (lengt
 nth_end [] x = refl
 nth_end (y ∷ xs) x = nth_end xs x
 
+pub rule_end : (T : List Rule) (R : Rule) → rule_at (T ++ (R ∷ [])) (length T) ≡ Some R
+rule_end [] R = refl
+rule_end (S ∷ T) R = rule_end T R
+
+-- the last variable, whose number is greater than those of the others
+pub look_new : (G : List (ℕ × Annotation)) (v : ℕ) (d : Annotation) → is_next G v ≡ true → look_up (G ++ ((v, d) ∷ [])) v ≡ Some d
+look_new [] v d h = if_same v v (Some d) None refl
+look_new (p ∷ G) v d h =
+    let k : (nat_lt p.0 v ≡ true) × (is_next G v ≡ true) = and_parts (nat_lt p.0 v) (is_next G v) h in
+    let below : p.0 < v = ltb-true p.0 v k.0 in
+    if_other v p.0 (Some p.1) (look_up (G ++ ((v, d) ∷ [])) v) (λ e. omega (arith, below, e)) ∙ look_new G v d k.1
+
 -- a list and one more item
 pub store_append : (W : Store) (items more : List Item) → add_all W (items ++ more) ≡ add_all (add_all W items) more
 store_append W [] more = refl
@@ -44,6 +58,9 @@ store_append W (i ∷ items) more = store_append (add W i) items more
 
 pub store_last : (W : Store) (items : List Item) (i : Item) → add_all W (items ++ (i ∷ [])) ≡ add (add_all W items) i
 store_last W items i = store_append W items (i ∷ [])
+
+pub declared_last : (items : List Item) (i : Item) → declared_by (items ++ (i ∷ [])) ≡ (add (store_of items) i).declarations
+declared_last items i = ap (λ (W : Store). W.declarations) (store_last empty_store items i)
 
 pub good_last : (W : Store) (items : List Item) (i : Item) → GoodAfter W items → AllowedIn (add_all W items) i → GoodAfter W (items ++ (i ∷ []))
 good_last W [] i g h = (h, tt)

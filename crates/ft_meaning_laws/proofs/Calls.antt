@@ -10,7 +10,7 @@ use Rattle.ft_items.specs.Item.{Name, Stated, Item, variable, entry}
 use Rattle.ft_items.specs.Store.{Assertion, Annotation, Declared, nth, each, entry_named, variable_named, metavariable_named, rule_named, with_one, with_two, resolve, Resolved, add_variable, add, empty_store, store_of, declared_variable, Declarations, declared_by, Store}
 use Rattle.ft_items.specs.Rows.{conclusion, result_set, concludes_thesis}
 use Rattle.ft_items.specs.Good.{of_kind, given, is_plain_type, is_next}
-use Rattle.ft_items.proofs.Lists.{nth_end, store_last}
+use Rattle.ft_items.proofs.Lists.{nth_end, look_new, store_last, declared_last}
 use Rattle.ft_sound.proofs.Valid.{WellFormedStore}
 use Rattle.ft_sound.proofs.Steps.{resolved}
 use Rattle.ft_sound.proofs.KindRows.{conclusion_kind}
@@ -24,7 +24,7 @@ use Rattle.ft_meaning.specs.Values.{Value, judgement, boundary, State, Refused, 
 use Rattle.ft_meaning.specs.Stages.{Stage}
 use Rattle.ft_meaning.specs.Values as values
 use Rattle.ft_meaning.specs.Forms.{judged, bounded, make_variable}
-use Rattle.ft_meaning_laws.proofs.Grows.{quiet_self, quiet_last, next_later, next_last, look_new}
+use Rattle.ft_meaning_laws.proofs.Grows.{quiet_self, quiet_last, next_later, next_last}
 use Rattle.ft_meaning_laws.proofs.Lists.{sound_last, AreAccepted}
 use Rattle.ft_meaning_laws.proofs.Made.{IsEntry, AllTheses, IsMade, holds_last, Kept, Keeps, keeps_bind, keeps_pure, keeps_halt, keeps_weaken}
 
@@ -178,7 +178,7 @@ module _ (B : Stage) where
       fresh = subst (λ (z : Declarations). is_next z.variables (suc v) ≡ true) (sym named) (next_last W.variables v x.1 h.next)
 
       there : IsVariable (items ++ (i ∷ [])) x
-      there = subst (λ (z : Declarations). look_up z.variables v ≡ Some x.1) (sym (ap (λ (z : Store). z.declarations) (store_last empty_store items i) ∙ named)) (look_new W.variables v x.1 h.next)
+      there = subst (λ (z : Declarations). look_up z.variables v ≡ Some x.1) (sym (declared_last items i ∙ named)) (look_new W.variables v x.1 h.next)
 
       made : (t : State) → t.declarations ≡ s.declarations → t.equality_rules ≡ s.equality_rules → t.units.used ≡ suc v → (b : Bool) → is_plain_type A.statement ≡ b
           → Kept B (ℕ × Annotation) IsVariable items (after_declaration Refused at (outcome (refused_unless b WrongForm) t.declarations (add_variable t.declarations v n (Some A)) x).after (outcome (refused_unless b WrongForm) t.declarations (add_variable t.declarations v n (Some A)) x).answer t)

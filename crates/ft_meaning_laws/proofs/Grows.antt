@@ -98,10 +98,3 @@ next_last (p ∷ G) v d h =
     let l : p.0 < v = ltb-true p.0 v k.0 in
     let m : p.0 < suc v = omega arith in
     and_from (nat_lt p.0 (suc v)) (is_next (G ++ ((v, d) ∷ [])) (suc v)) (lt-ltb p.0 (suc v) m) (next_last G v d k.1)
-
-pub look_new : (G : List (ℕ × Annotation)) (v : ℕ) (d : Annotation) → is_next G v ≡ true → look_up (G ++ ((v, d) ∷ [])) v ≡ Some d
-look_new [] v d h = if_same v v (Some d) None refl
-look_new (p ∷ G) v d h =
-    let k : (nat_lt p.0 v ≡ true) × (is_next G v ≡ true) = and_parts (nat_lt p.0 v) (is_next G v) h in
-    let below : p.0 < v = ltb-true p.0 v k.0 in
-    if_other v p.0 (Some p.1) (look_up (G ++ ((v, d) ∷ [])) v) (λ e. omega (arith, below, e)) ∙ look_new G v d k.1

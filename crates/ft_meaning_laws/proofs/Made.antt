@@ -4,7 +4,7 @@ use Rattle.ft_items.specs.Equal.{is_thesis}
 use Rattle.ft_items.specs.Item.{Name, Item}
 use Rattle.ft_items.specs.Store.{Assertion, nth, add, empty_store, store_of, declared_by, Store}
 use Rattle.ft_items.specs.Good.{is_next}
-use Rattle.ft_items.proofs.Lists.{store_last}
+use Rattle.ft_items.proofs.Lists.{store_last, declared_last}
 use Rattle.ft_equality.specs.Programs.{spend_from}
 use Rattle.ft_meaning.specs.Values.{Value, judgement, boundary, unit, truth, pair, nil, cons, none, some, Environment, State, End, performs, halts, Halt, stuck, Outcome, Run, ◌>>=◌, ◌>>◌, pure, end, halt, the, settled, spend, as_judgement, as_judgements}
 use Rattle.ft_meaning.specs.Stages.{Stage}
@@ -126,7 +126,7 @@ module _ (B : Stage) where
   holds_last items i s t h l r e n = record {
     list = l;
     equality = subst (AreAccepted (declared_by (items ++ (i ∷ []))).rules) (sym r) (accepted_later (declared_by items).rules (declared_by (items ++ (i ∷ []))).rules s.equality_rules (grows_last items i).declarations.rules h.equality);
-    declarations = e ∙ ap (λ (z : Store). z.declarations) (sym (store_last empty_store items i));
+    declarations = e ∙ sym (declared_last items i);
     next = subst (λ (z : Store). is_next z.declarations.variables t.units.used ≡ true) (sym (store_last empty_store items i)) n;
   }
 

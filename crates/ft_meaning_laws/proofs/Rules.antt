@@ -6,10 +6,10 @@ use Rattle.ft_theory.specs.Statements.{Statement, is_type, has_type, plain}
 use Rattle.ft_items.specs.Sets.{Atom, met, var, has, metavariables_only}
 use Rattle.ft_items.specs.Equal.{is_plain}
 use Rattle.ft_items.specs.Item.{Name, Item, metavariable, by_var, by_generic, by_abs, by_btype, by_bterm, by_beqty, by_beqtm}
-use Rattle.ft_items.specs.Store.{Assertion, Annotation, Declared, with_one, with_two, with_three, nth, entry_named, add_metavariable, add, empty_store, store_of, Resolved, Declarations, declared_metavariable, declared_by, Store}
+use Rattle.ft_items.specs.Store.{Assertion, Annotation, Declared, with_one, with_two, with_three, nth, entry_named, add_metavariable, add, store_of, Resolved, Declarations, declared_metavariable, declared_by}
 use Rattle.ft_items.specs.Rows.{term_boundary, type_equation_boundary, term_equation_boundary, atoms, conclusion, concludes_thesis}
 use Rattle.ft_items.specs.Good.{is_next}
-use Rattle.ft_items.proofs.Lists.{nth_end, store_last, each_before}
+use Rattle.ft_items.proofs.Lists.{nth_end, each_before, declared_last}
 use Rattle.ft_common.proofs.Options.{none_some, some_none}
 use Rattle.ft_sound.proofs.Structural.{from_when}
 use Rattle.ft_reference.specs.Calls.{answer}
@@ -123,7 +123,7 @@ module _ (B : Stage) where
           let grown : IsDraft (premise W d n b).after.0 (premise W d n b).after.1 = drafts_grow.1 W d n b (next_metavariable W n b) i.0 (ap (λ z. (done z W).answer) e) in
           let here : Added (add_metavariable W n (Some b)) W = (nth_end W.metavariables (declared_metavariable n b), subst (λ z. IsDraft (done z W).after.0 (done z W).after.1) e grown) in
           let there : Added (add_metavariable W n (Some b)) s.declarations = subst (Added (add_metavariable W n (Some b))) (sym h.declarations) here in
-          let last : Added (declared_by (items ++ (item ∷ []))) s.declarations = subst (λ z. Added z s.declarations) (sym (ap (λ (z : Store). z.declarations) (store_last empty_store items item) ∙ named)) there in
+          let last : Added (declared_by (items ++ (item ∷ []))) s.declarations = subst (λ z. Added z s.declarations) (sym (declared_last items item ∙ named)) there in
           record {
             later = items ++ (item ∷ []);
             quiet = quiet_last items item refl;

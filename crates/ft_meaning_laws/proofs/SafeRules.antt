@@ -11,6 +11,7 @@ use Rattle.ft_items.specs.Store.{Assertion, Declared, premises_of, claim_in, add
 use Rattle.ft_items.specs.Good.{equal_names, is_new}
 use Rattle.ft_items.specs.Equal.{is_object_goal}
 use Rattle.ft_items.specs.Rows.{atoms}
+use Rattle.ft_items.proofs.Lists.{rule_end}
 use Rattle.ft_items.proofs.Names.{same_name}
 use Rattle.ft_reference.specs.Declare.{Outcome as Declaration, outcome, first_of, refused_unless, RuleFault, Duplicate, OpenConclusion, Draft, name_fault, first_outside, begin, next_rule, finish}
 use Rattle.ft_nucleus_laws.proofs.Declaring.{unless_true, both_none}
@@ -50,10 +51,6 @@ number_within (k ∷ ns) m i e = go (equal_names k m) e (number_of ns m) refl (n
     go false e None q ih = none_some (sym (ap (option_map suc) q) ∙ e)
 
 -- the rules of a list with one more
-rule_end : (T : List Rule) (R : Rule) (i : ℕ) → i ≡ length T → rule_at (T ++ (R ∷ [])) i ≡ Some R
-rule_end [] R i e = ap (rule_at (R ∷ [])) e
-rule_end (S ∷ T) R i e = ap (rule_at (S ∷ T ++ (R ∷ []))) e ∙ rule_end T R (length T) refl
-
 rule_within : (T : List Rule) (R : Rule) (i : ℕ) → i < length T → rule_at (T ++ (R ∷ [])) i ≡ rule_at T i
 rule_within [] R i h = absurd (omega (arith, h))
 rule_within (S ∷ T) R zero h = refl
@@ -67,7 +64,7 @@ rule_last : (ns : List Name) (T : List Rule) (n m : Name) (R : Rule) → length 
 rule_last ns T n m R l h = ap (rule_in (T ++ (R ∷ []))) (number_last ns n m h) ∙ go (equal_names n m) (number_of ns m) refl
   where
     go : (b : Bool) (o : Option ℕ) → number_of ns m ≡ o → rule_in (T ++ (R ∷ [])) (cond b (Some (length ns)) o) ≡ cond b (Some (length ns, R)) (rule_in T o)
-    go true o q = ap (option_map (λ S. (length ns, S))) (rule_end T R (length ns) l)
+    go true o q = ap (option_map (λ S. (length ns, S))) (ap (rule_at (T ++ (R ∷ []))) l ∙ rule_end T R)
     go false (Some i) q = let w : i < length ns = number_within ns m i q in ap (option_map (λ S. (i, S))) (rule_within T R i (omega arith))
     go false None q = refl
 

@@ -23,7 +23,7 @@ use Rattle.ft_grammar.specs.declared.syntax.Named.{Named}
 use Rattle.ft_meaning.specs.Names.{named}
 use Rattle.ft_meaning.specs.Trees.{ValueType, Pattern, cons_pattern, some_pattern, symbol_pattern, name_pattern, wildcard, truth_pattern, unit_pattern, none_pattern, nil_pattern, pair_pattern, Patterns, no_patterns, and_pattern, Form, let_in, if_then, match_with, handle_with, abstraction, cons_of, one, two, argument, congruence, perform, call, substitution, truth_of, unit_of, pair_of, none_of, nil_of, Forms, no_forms, and_form, Cases, no_cases, and_case, ValueCase, no_value_case, value_case, Handlers, no_handlers, and_handler, place}
 use Rattle.ft_meaning.specs.Trees as type
-use Rattle.ft_meaning.specs.Typing.{same_type, RuleType, Scope, meant_by, wanted, either_wanted, ensure_arity, pattern_count, fault_at, Unbound, Twice, Bindings, bindings, all_bindings, word_type, first_wanted, word_type_of_two}
+use Rattle.ft_meaning.specs.Typing.{same_type, RuleType, Scope, meant_by, ensure_type, ensure_statement, ensure_arity, pattern_count, fault_at, Unbound, Twice, Bindings, bindings, all_bindings, word_type, first_wanted, word_type_of_two}
 use Rattle.ft_meaning.specs.Values.{Value, judgement, boundary, unit, truth, pair, nil, cons, none, some, Environment, Refused, fails, performs, Run, pure, end, settled, checker, nucleus, the_rule}
 use Rattle.ft_meaning.specs.Matching.{is_applied, if_found, ◌and_also◌, matches, match_arguments}
 use Rattle.ft_meaning.specs.Forms.{judged, bounded, fitting, abstract_value, substitute_value, equation_if, compare, normalise, conversion, word_at, word_at_two}
@@ -67,7 +67,7 @@ pub either_or : (a b : Bool) → (a || b) ≡ true → (a ≡ true) ⊎ (b ≡ t
 either_or true b e = inl refl
 either_or false b e = inr e
 
-pub either_is : (at : ℕ) (A : ValueType) (u : Unit {0}) → either_wanted at A ≡ Ok u → (A ≡ type.judgement) ⊎ (A ≡ type.boundary)
+pub either_is : (at : ℕ) (A : ValueType) (u : Unit {0}) → ensure_statement at A ≡ Ok u → (A ≡ type.judgement) ⊎ (A ≡ type.boundary)
 either_is at A u e = go (either_or (same_type A type.judgement) (same_type A type.boundary) (ensured (same_type A type.judgement || same_type A type.boundary) _ u e))
   where
     go : (same_type A type.judgement ≡ true) ⊎ (same_type A type.boundary ≡ true) → (A ≡ type.judgement) ⊎ (A ≡ type.boundary)
@@ -116,16 +116,16 @@ safe_normalise sc at j (plain (has_type t A)) =
 safe_normalise sc at j x = safe_halt Value sc (Of type.judgement) (fails (Refused WrongForm) at) tt
 
 -- words
-of_wanted_judgement : (sc : Scope) (at p : ℕ) (w : OneForm) (v : Value) (A C : ValueType) → results.◌>>◌ (wanted p type.judgement A) (okay type.judgement) ≡ okay C → HasType v A
+of_wanted_judgement : (sc : Scope) (at p : ℕ) (w : OneForm) (v : Value) (A C : ValueType) → results.◌>>◌ (ensure_type p type.judgement A) (okay type.judgement) ≡ okay C → HasType v A
     → ((j : Assertion) → IsSafe Value sc (Of type.judgement) (word_at at w (judgement j))) → IsSafe Value sc (Of C) (word_at at w v)
 of_wanted_judgement sc at p w v A C u h k =
-    let e : ((x : Unit {0}) × (wanted p type.judgement A ≡ Ok x)) × (okay type.judgement ≡ okay C) = ok_both (wanted p type.judgement A) (okay type.judgement) C u in
+    let e : ((x : Unit {0}) × (ensure_type p type.judgement A ≡ Ok x)) × (okay type.judgement ≡ okay C) = ok_both (ensure_type p type.judgement A) (okay type.judgement) C u in
     as_type sc type.judgement C (word_at at w v) e.1 (of_judgement sc (Of type.judgement) (word_at at w) v (subst (HasType v) (wanted_is p type.judgement A e.0.0 e.0.1) h) k)
 
-of_wanted_either : (sc : Scope) (at p : ℕ) (w : OneForm) (v : Value) (A C : ValueType) → results.◌>>◌ (either_wanted p A) (okay type.judgement) ≡ okay C → HasType v A
+of_wanted_either : (sc : Scope) (at p : ℕ) (w : OneForm) (v : Value) (A C : ValueType) → results.◌>>◌ (ensure_statement p A) (okay type.judgement) ≡ okay C → HasType v A
     → ((j : Assertion) → IsSafe Value sc (Of type.judgement) (word_at at w (judgement j))) → ((b : Assertion) → IsSafe Value sc (Of type.judgement) (word_at at w (boundary b))) → IsSafe Value sc (Of C) (word_at at w v)
 of_wanted_either sc at p w v A C u h k l =
-    let e : ((x : Unit {0}) × (either_wanted p A ≡ Ok x)) × (okay type.judgement ≡ okay C) = ok_both (either_wanted p A) (okay type.judgement) C u in
+    let e : ((x : Unit {0}) × (ensure_statement p A ≡ Ok x)) × (okay type.judgement ≡ okay C) = ok_both (ensure_statement p A) (okay type.judgement) C u in
     as_type sc type.judgement C (word_at at w v) e.1 (of_either sc (Of type.judgement) (word_at at w) v A h (either_is p A e.0.0 e.0.1) k l)
 
 pub safe_word : (sc : Scope) (at p : ℕ) (w : OneForm) (v : Value) (A C : ValueType) → word_type p w A ≡ Ok C → HasType v A → IsSafe Value sc (Of C) (word_at at w v)
@@ -138,7 +138,7 @@ safe_word sc at p Domain v A C u h = of_wanted_either sc at p Domain v A C u h (
 safe_word sc at p Natural v A C u h = of_wanted_judgement sc at p Natural v A C u h (λ j. safe_judged sc at (λ W. reference.natural W j))
 safe_word sc at p Normal v A C u h = of_wanted_judgement sc at p Normal v A C u h (λ j. safe_normalise sc at j j.statement)
 safe_word sc at p Boundaryof v A C u h =
-    let e : ((x : Unit {0}) × (wanted p type.judgement A ≡ Ok x)) × (okay type.boundary ≡ okay C) = ok_both (wanted p type.judgement A) (okay type.boundary) C u in
+    let e : ((x : Unit {0}) × (ensure_type p type.judgement A ≡ Ok x)) × (okay type.boundary ≡ okay C) = ok_both (ensure_type p type.judgement A) (okay type.boundary) C u in
     as_type sc type.boundary C (word_at at Boundaryof v) e.1 (of_judgement sc (Of type.boundary) (word_at at Boundaryof) v (subst (HasType v) (wanted_is p type.judgement A e.0.0 e.0.1) h) (λ j. safe_bounded sc at (λ W. reference.boundary W j)))
 safe_word sc at p SomeWord v A C u h = as_type sc (type.option A) C (pure (some v)) u (safe_pure Value sc (Of (type.option A)) (some v) h)
 

@@ -19,7 +19,7 @@ use Rattle.ft_equality_laws.proofs.Stores.{next_more}
 use Rattle.ft_meaning.specs.Names.{named, rule_of_name}
 use Rattle.ft_meaning.specs.Trees.{ValueType}
 use Rattle.ft_meaning.specs.Trees as type
-use Rattle.ft_meaning.specs.Typing.{same_type, TypeFault, RuleType, Scope, fault_at, Unbound, meant_by, wanted}
+use Rattle.ft_meaning.specs.Typing.{same_type, TypeFault, RuleType, Scope, fault_at, Unbound, meant_by, ensure_type}
 use Rattle.ft_meaning.specs.Values.{Value, judgement, boundary, unit, truth, pair, nil, cons, none, some, Environment, State, Refused, Halt, fails, spent, stuck, End, performs, halts, Outcome, Run, ◌>>=◌, ◌>>◌, pure, end, halt, the, declare, settled, spend, answered, nucleus, after_declaration, the_rule, as_judgement, as_judgements}
 use Rattle.ft_meaning.specs.Values as values
 use Rattle.ft_meaning.specs.Forms.{make_variable}
@@ -225,7 +225,7 @@ pub ensured : {E : Type 0} (b : Bool) (x : E) (u : Unit {0}) → results.ensure 
 ensured true x u e = refl
 ensured false x u e = absurd (err_ok x u e)
 
-pub wanted_is : (at : ℕ) (A B : ValueType) (u : Unit {0}) → wanted at A B ≡ Ok u → B ≡ A
+pub wanted_is : (at : ℕ) (A B : ValueType) (u : Unit {0}) → ensure_type at A B ≡ Ok u → B ≡ A
 wanted_is at A B u e = same_type_true B A (ensured (same_type B A) _ u e)
 
 pub meant_is : {A : Type 0} (ns : List (Name × A)) (n : Named) (a : A) → meant_by ns n ≡ Ok a → named ns n.name ≡ Some a

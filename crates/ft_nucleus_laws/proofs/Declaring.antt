@@ -14,12 +14,12 @@ use Rattle.ft_items.specs.Store.{Assertion, Annotation, Declared, nth, each, ent
 use Rattle.ft_items.specs.Rows.{atoms, differ, on_earlier}
 use Rattle.ft_items.specs.Good.{is_plain_type, is_next, is_new, Allowed}
 use Rattle.ft_items.proofs.SetLemmas.{by_bool, has_true, has_false}
-use Rattle.ft_items.proofs.Lists.{store_last, good_last, Kept, nth_before, each_before, nth_end, nth_past, store_append, before_all}
+use Rattle.ft_items.proofs.Lists.{declared_last, good_last, Kept, nth_before, each_before, nth_end, nth_past, rule_end, look_new, store_append, before_all}
 use Rattle.ft_sound.proofs.Theorems.{rules_finitary}
 use Rattle.ft_reference.specs.Refusals.{Refusal, WrongForm, OpenBoundary}
 use Rattle.ft_reference.specs.Declare.{outcome, refused_unless, first_of, new_variable, first_variable, next_metavariable, new_metavariable, RuleFault, Duplicate, TooMany, OpenPremise, OpenConclusion, Draft, name_fault, first_outside, begin, premise, next_rule, finish}
 use Rattle.ft_nucleus_laws.specs.Laws.{LeavesOld, RefusalsChangeNothing, VariablesAllowed, MetavariablesAllowed, numbers, IsDraft, DraftsGrow, DraftsStay, drafted, FinishesAllowed, FinishedIsFinitary, VariableIsThere, MetavariableIsThere, PremiseIsThere, RuleIsThere}
-use Rattle.ft_sound.proofs.Good.{atoms_last}
+use Rattle.ft_sound.proofs.Good.{atoms_last, has_last}
 
 -- outcomes
 ok_path : {A E : Type 0} (a b : A) (x y : Result A E) → x ≡ Ok a → y ≡ Ok b → x ≡ y → a ≡ b
@@ -86,7 +86,7 @@ variables_allowed items v p n a next named = (there, back)
           (next, a, named, unless_true (is_plain_type a.statement) WrongForm k.0),
           (none_answers (refused_unless (is_plain_type a.statement) WrongForm) W (add_variable W v n (Some a)) x k.0).1
               ∙ ap (add_variable W v n) (sym named)
-              ∙ sym (ap (λ (z : Store). z.declarations) (store_last empty_store items (variable v n p))),
+              ∙ sym (declared_last items (variable v n p)),
         )
 
     back : Allowed items (variable v n p) × ((new_variable W v n a).after ≡ declared_by (items ++ (variable v n p ∷ []))) → (new_variable W v n a).answer ≡ Ok x
@@ -123,7 +123,7 @@ metavariables_allowed items p n a kind named = (there, back)
           (a, named, kind, no_first a.set (map_none OpenBoundary (first_variable a.set) k.0)),
           (none_answers o W (add_metavariable W n (Some a)) x k.0).1
               ∙ ap (add_metavariable W n) (sym named)
-              ∙ sym (ap (λ (z : Store). z.declarations) (store_last empty_store items (metavariable n p))),
+              ∙ sym (declared_last items (metavariable n p)),
         )
 
     back : Allowed items (metavariable n p) × ((new_metavariable W n a).after ≡ declared_by (items ++ (metavariable n p ∷ []))) → (new_metavariable W n a).answer ≡ Ok x
@@ -186,18 +186,8 @@ not_there W (d ∷ ds) es m h k i = go (parts W d.0 (numbers ds) es h) i (λ es 
     go p (inl e) ih = none_some (sym (ap (λ z. option_map (λ d. (z, d)) (nth W.metavariables z)) (sym (met_path m d.0 e)) ∙ ap (option_map (λ d. (m, d))) k) ∙ p.2)
     go p (inr i) ih = ih p.1 p.3 i
 
-has_last : (b a : Atom) (S : List Atom) → Has b (S ++ (a ∷ [])) → Has b S ⊎ (b ≡ a)
-has_last b a [] (inl e) = inr e
-has_last b a [] (inr k) = inl k
-has_last b a (c ∷ S) (inl e) = inl (inl e)
-has_last b a (c ∷ S) (inr k) = go (has_last b a S k)
-  where
-    go : Has b S ⊎ (b ≡ a) → Has b (c ∷ S) ⊎ (b ≡ a)
-    go (inl k) = inl (inr k)
-    go (inr e) = inr e
-
 not_has : (b a : Atom) (S : List Atom) → has b S ≡ false → b ≢ a → not (has b (S ++ (a ∷ []))) ≡ true
-not_has b a S h n = by_bool (not (has b (S ++ (a ∷ []))) ≡ true) (has b (S ++ (a ∷ []))) (λ k. absurd (go (has_last b a S (has_true b (S ++ (a ∷ [])) k)))) (λ k. ap not k)
+not_has b a S h n = by_bool (not (has b (S ++ (a ∷ []))) ≡ true) (has b (S ++ (a ∷ []))) (λ k. absurd (go (has_last S a b (has_true b (S ++ (a ∷ [])) k)))) (λ k. ap not k)
   where
     go : Has b S ⊎ (b ≡ a) → ⊥
     go (inl k) = has_false b S h k
@@ -293,7 +283,7 @@ finishes_allowed items d p c i named kind flat = (there, back)
           ),
           (none_answers o W made x k).1
               ∙ ap₂ (add_rule W d.name) (sym i.named) (sym named)
-              ∙ sym (ap (λ (z : Store). z.declarations) (store_last empty_store items (drafted d p))),
+              ∙ sym (declared_last items (drafted d p)),
         )
 
     back : Allowed items (drafted d p) × ((finish W d c).after ≡ declared_by (items ++ (drafted d p ∷ []))) → (finish W d c).answer ≡ Ok x
@@ -332,18 +322,11 @@ finished_is_finitary items d p c k g i named kind flat = go o refl
     go (Some f) e = subst (λ (z : Declarations). FinitaryUpTo k z.rules) (sym (stays o W (add_rule W d.name (Some d.premises) (Some c)) x f (ap (λ z. (outcome z W (add_rule W d.name (Some d.premises) (Some c)) x).answer) e))) (rules_finitary items g k)
 
 -- what is answered is there
-look_up_next : (G : List (ℕ × Annotation)) (v : ℕ) (a : Annotation) → is_next G v ≡ true → look_up (G ++ ((v, a) ∷ [])) v ≡ Some a
-look_up_next [] v a h = if_same v v (Some a) None refl
-look_up_next (p ∷ G) v a h =
-    let k : (nat_lt p.0 v ≡ true) × (is_next G v ≡ true) = and_parts (nat_lt p.0 v) (is_next G v) h in
-    let below : p.0 < v = ltb-true p.0 v k.0 in
-    if_other v p.0 (Some p.1) (look_up (G ++ ((v, a) ∷ [])) v) (λ e. omega (arith, below, e)) ∙ look_up_next G v a k.1
-
 pub variable_is_there : VariableIsThere
 variable_is_there W v n p x next h =
     let k : (o ≡ None) × ((v, declared_variable n p) ≡ x) = answers_none o W made (v, declared_variable n p) x h in
     ap (λ (z : Declarations). variable_named z v) (none_answers o W made (v, declared_variable n p) k.0).1
-    ∙ ap (option_map (λ d. (v, d))) (look_up_next W.variables v (declared_variable n p) next)
+    ∙ ap (option_map (λ d. (v, d))) (look_new W.variables v (declared_variable n p) next)
     ∙ ap Some k.1
   where
     o : Option Refusal
@@ -379,10 +362,6 @@ premise_is_there W d n b m h =
 
     made : Declarations × Draft
     made = (add_metavariable W n (Some b), record d { premises = d.premises ++ (next_metavariable W n b ∷ []) })
-
-rule_end : (T : List Rule) (R : Rule) → rule_at (T ++ (R ∷ [])) (length T) ≡ Some R
-rule_end [] R = refl
-rule_end (S ∷ T) R = rule_end T R
 
 pub rule_is_there : RuleIsThere
 rule_is_there W d c r h =

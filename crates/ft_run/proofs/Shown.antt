@@ -56,29 +56,29 @@ more_rule W n None o = more_none W.rules W.rules refl
 more_rule W n (Some ds) None = more_none W.rules W.rules refl
 more_rule W n (Some ds) (Some a) = (_, refl)
 
-more_after : (W : Store) (i : Item) → HasMore W.declarations.rules (add W i).rules
-more_after W (variable v n p) = more_variable W v n (entry_named W p)
-more_after W (metavariable n p) = more_metavariable W n (entry_named W p)
-more_after W (rule n ms p) = more_rule W n (each (metavariable_named W.declarations) ms) (entry_named W p)
+more_after : (W : Store) (i : Item) → HasMore W.declarations.rules (add W i).declarations.rules
+more_after W (variable v n p) = more_variable W.declarations v n (entry_named W p)
+more_after W (metavariable n p) = more_metavariable W.declarations n (entry_named W p)
+more_after W (rule n ms p) = more_rule W.declarations n (each (metavariable_named W.declarations) ms) (entry_named W p)
 more_after W (entry e) = more_none W.declarations.rules W.declarations.rules refl
 more_after W (shown p) = more_none W.declarations.rules W.declarations.rules refl
 
 more_then : (T U V : List Rule) → HasMore T U → HasMore U V → HasMore T V
 more_then T U V f g = (f.0 ++ g.0, g.1 ∙ ap (λ us. us ++ g.0) f.1 ∙ append_assoc T f.0 g.0)
 
-more_all : (W : Store) (items : List Item) → HasMore W.declarations.rules (add_all W items).rules
+more_all : (W : Store) (items : List Item) → HasMore W.declarations.rules (add_all W items).declarations.rules
 more_all W [] = more_none W.declarations.rules W.declarations.rules refl
-more_all W (i ∷ items) = more_then W.declarations.rules (add W i).rules (add_all (add W i) items).rules (more_after W i) (more_all (add W i) items)
+more_all W (i ∷ items) = more_then W.declarations.rules (add W i).declarations.rules (add_all (add W i) items).declarations.rules (more_after W i) (more_all (add W i) items)
 
 derivable_in : (items : List Item) (j : ℕ) (c : Claim) → Good items → nth (entries_in items) j ≡ Some (record { statement = plain c; set = [] }) → Prim (declared_by items).rules [] [] (plain c)
 derivable_in items j c g h =
     let x = placed items j (record { statement = plain c; set = [] }) h in
     let before : Store = store_of x.before in
-    let here : Prim before.rules [] [] (plain c) =
-    subst (λ (a : Assertion). Derivable before a.statement a.set) x.is (entries_derivable items g x.before x.after x.this x.split) in
+    let here : Prim before.declarations.rules [] [] (plain c) =
+    subst (λ (a : Assertion). Derivable before.declarations a.statement a.set) x.is (entries_derivable items g x.before x.after x.this x.split) in
     let all : store_of items ≡ add_all before (entry x.this ∷ x.after) = ap store_of x.split ∙ add_append empty_store x.before (entry x.this ∷ x.after) in
-    let more : HasMore before.rules (add_all before (entry x.this ∷ x.after)).rules = more_all before (entry x.this ∷ x.after) in
-    subst (λ T. Prim T [] [] (plain c)) (sym more.1 ∙ ap (λ (W : Declarations). W.rules) (sym all)) (law_longer_theory_primitive before.rules more.0 [] [] (plain c) here)
+    let more : HasMore before.declarations.rules (add_all before (entry x.this ∷ x.after)).declarations.rules = more_all before (entry x.this ∷ x.after) in
+    subst (λ T. Prim T [] [] (plain c)) (sym more.1 ∙ ap (λ (W : Store). W.declarations.rules) (sym all)) (law_longer_theory_primitive before.declarations.rules more.0 [] [] (plain c) here)
 
 -- what is claimed is derivable
 pub claimed_derivable : (s : State) (ks : List Known) (p : Progress) (j : ℕ) (c : Claim) → IsSession s ks → Good s.items → record { state = s; rules = declarations s.trees ks } ≡ p → HasEntry p.state j c

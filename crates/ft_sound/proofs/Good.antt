@@ -192,7 +192,7 @@ pub atoms_last : (ms : List (ℕ × Declared)) (d : ℕ × Declared) → atoms (
 atoms_last [] d = refl
 atoms_last (c ∷ ms) d = ap (λ z. met c.0 ∷ z) (atoms_last ms d)
 
-has_last : (S : List Atom) (a c : Atom) → Has c (S ++ (a ∷ [])) → Has c S ⊎ (c ≡ a)
+pub has_last : (S : List Atom) (a c : Atom) → Has c (S ++ (a ∷ [])) → Has c S ⊎ (c ≡ a)
 has_last [] a c (inl e) = inr e
 has_last [] a c (inr k) = absurd k
 has_last (b ∷ S) a c (inl e) = inl (inl e)

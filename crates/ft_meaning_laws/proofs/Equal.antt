@@ -21,7 +21,7 @@ use Rattle.ft_equality_laws.proofs.Normal.{AllCompute}
 use Rattle.ft_equality_laws.proofs.ByType.{AllCompare}
 use Rattle.ft_equality_laws.proofs.Answers.{types_answer, terms_answer, normal_answer}
 use Rattle.ft_equality_laws.proofs.Accepted.{flat_of}
-use Rattle.ft_equality_laws.proofs.Stores.{next_more, below_next, declared_in}
+use Rattle.ft_equality_laws.proofs.GoodLists.{next_more, below_next, declared_in}
 use Rattle.ft_reference.specs.Refusals.{WrongForm}
 use Rattle.ft_meaning.specs.Stages.{Stage, equality}
 use Rattle.ft_meaning.specs.Values.{Value, judgement, none, some, State, ◌>>=◌, Refused, fails, pure, settled}

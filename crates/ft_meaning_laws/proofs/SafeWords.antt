@@ -29,7 +29,7 @@ use Rattle.ft_meaning.specs.Matching.{is_applied, if_found, ◌and_also◌, matc
 use Rattle.ft_meaning.specs.Forms.{judged, bounded, fitting, abstract_value, substitute_value, equation_if, compare, normalise, conversion, word_at, word_at_two}
 use Rattle.ft_equality_laws.specs.Laws.{UsesUnits}
 use Rattle.ft_equality_laws.proofs.Counts.{units_are_kept}
-use Rattle.ft_equality_laws.proofs.Stores.{next_more}
+use Rattle.ft_equality_laws.proofs.GoodLists.{next_more}
 use Rattle.ft_common.proofs.Results.{ok_ok}
 use Rattle.ft_meaning_laws.specs.Fits.{HasType, HaveTypes, CanCoerce}
 use Rattle.ft_meaning_laws.proofs.Typed.{ground, Safe, IsSafe, Any, safe_bind, safe_pure, safe_end, safe_halt, safe_cond, safe_nucleus, safe_rule, okay, ok_then, ok_both, not_ok, same_type_true, wanted_is, meant_is, ensured}

@@ -15,7 +15,7 @@ use Rattle.ft_reference.specs.Refusals.{Refusal, WrongForm}
 use Rattle.ft_reference.specs.Declare.{Outcome as Declaration, outcome, refused_unless, new_variable}
 use Rattle.ft_equality.specs.Results as results
 use Rattle.ft_equality.specs.Programs.{spend_from}
-use Rattle.ft_equality_laws.proofs.Stores.{next_more}
+use Rattle.ft_equality_laws.proofs.GoodLists.{next_more}
 use Rattle.ft_meaning.specs.Names.{named, rule_of_name}
 use Rattle.ft_meaning.specs.Trees.{ValueType}
 use Rattle.ft_meaning.specs.Trees as type

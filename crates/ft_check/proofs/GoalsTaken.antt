@@ -7,7 +7,7 @@ use Rattle.ft_theory.specs.Statements.{plain}
 use Rattle.ft_theory.specs.Rules.{Rule, rule_at}
 use Rattle.ft_items.specs.Item.{Name, Item}
 use Rattle.ft_items.specs.Equal.{is_thesis, is_plain}
-use Rattle.ft_items.specs.Store.{Store, claim_in, premises_of, ruled, each, entry_named, metavariable_named, store_of, rules_in, nth, Declarations, declared_by}
+use Rattle.ft_items.specs.Store.{Store, claim_in, premises_of, ruled, each, entry_named, metavariable_named, store_of, rules_in, nth, declared_by}
 use Rattle.ft_items.specs.Good.{Good}
 use Rattle.ft_judge.specs.Meaning.{goal_in, under, thesis_in, boundary_in}
 use Rattle.ft_judge.specs.declared.judgement.Goal.{Goal}
@@ -39,7 +39,7 @@ rule_gone {P} items r R g e h = go (nth (rules_in items) r) refl h
     go None q h = none_some (sym (rule_is_line items r g ∙ ap (option_map (λ (x : Name × List ℕ × ℕ). ruled (each (metavariable_named (declared_by items)) x.1) (entry_named (store_of items) x.2))) q) ∙ e)
     go (Some x) q h = none_some h
 
-pub record KnownRule (X : Declarations) (ms : List ℕ) (p : ℕ) (R : Rule) : Type 0 where
+pub record KnownRule (X : Store) (ms : List ℕ) (p : ℕ) (R : Rule) : Type 0 where
   pub line : Ruled X ms p
   pub premises : R.premises ≡ premises_of line.premises
   pub conclusion : R.conclusion ≡ claim_in line.conclusion.statement

@@ -23,7 +23,7 @@ pub record Ruled (X : Store) (ms : List ℕ) (p : ℕ) : Type 0 where
 ruled_stays : (W X : Store) (ms : List ℕ) (p : ℕ) (n : Name) → Before W X → AllowedRule W n ms p → Ruled X ms p
 ruled_stays W X ms p n b h = record {
   premises = h.2;
-  are = each_before W X b ms h.2 h.3;
+  are = each_before W.declarations X.declarations b.metavariables ms h.2 h.3;
   conclusion = h.4;
   is = b.entries p h.4 h.5;
   boundary = h.7;

@@ -1,5 +1,5 @@
 -- Patterns against values.
-use Rattle.std.specs.Prelude.{ℕ, suc, Bool, true, false, cond, nat_eq, Option, Some, None, ◌∷◌}
+use Rattle.std.specs.Prelude.{ℕ, suc, Bool, false, cond, nat_eq, Option, Some, None, ◌∷◌}
 use Rattle.ft_theory.specs.Expressions.{symbol}
 use Rattle.ft_theory.specs.Statements.{is_type, has_type, Statement, plain}
 use Rattle.ft_items.specs.Store.{Assertion}

@@ -1,18 +1,17 @@
 -- Declaring variables, metavariables and rules: allowed items, and what stays after a refusal.
-use Rattle.std.proofs.Common.{◌≡◌, ◌≢◌, ℕ, suc, ◌<◌, Bool, true, false, cond, nat_lt, ◌&&◌, not, Option, Some, None, List, [], ◌∷◌, ◌++◌, ◌⊎◌, length, inl, inr, refl, sym, ap, ap₂, ◌∙◌, subst, append_assoc, append-nil, arith}
+use Rattle.std.proofs.Common.{◌≡◌, ◌≢◌, ℕ, suc, Bool, true, false, cond, nat_lt, ◌&&◌, not, Option, Some, None, List, [], ◌∷◌, ◌++◌, ◌⊎◌, length, inl, inr, refl, sym, ap, ap₂, ◌∙◌, subst, append_assoc, append-nil, arith}
 use Rattle.std.specs.Prelude.{option_map, option_and_then, Result, Ok, Err}
 use Rattle.std.proofs.lemmas.Bool.{ltb-true, lt-ltb, and_parts, and_from, not-true}
 use Rattle.std.proofs.lemmas.Option.{same_Some}
 use Rattle.ft_common.proofs.Options.{none_some, some_none}
 use Rattle.ft_common.proofs.Booleans.{false_true}
-use Rattle.ft_common.proofs.Choices.{if_same, if_other}
-use Rattle.ft_theory.specs.Rules.{look_up, Rule, rule_at}
+use Rattle.ft_theory.specs.Rules.{Rule}
 use Rattle.ft_theory.specs.Derivability.{FinitaryUpTo}
 use Rattle.ft_items.specs.Sets.{Atom, met, var, has, is_within, metavariables_only, Has}
 use Rattle.ft_items.specs.Item.{Name, variable, metavariable}
 use Rattle.ft_items.specs.Store.{Assertion, Annotation, Declared, nth, each, entry_named, variable_named, metavariable_named, rule_named, add_variable, add_metavariable, add_rule, empty_store, declared_variable, declared_metavariable, declared_rule, Declarations, declared_by, Store, store_of}
 use Rattle.ft_items.specs.Rows.{atoms, differ, on_earlier}
-use Rattle.ft_items.specs.Good.{is_plain_type, is_next, is_new, Allowed}
+use Rattle.ft_items.specs.Good.{is_plain_type, is_new, Allowed}
 use Rattle.ft_items.proofs.SetLemmas.{by_bool, has_true, has_false}
 use Rattle.ft_items.proofs.Lists.{declared_last, good_last, Kept, nth_before, each_before, nth_end, nth_past, rule_end, look_new, store_append, before_all}
 use Rattle.ft_sound.proofs.Theorems.{rules_finitary}

@@ -6,7 +6,7 @@ use Rattle.ft_common.proofs.Booleans.{false_true}
 use Rattle.ft_common.proofs.Options.{none_some}
 use Rattle.ft_common.proofs.Choices.{if_same, if_other}
 use Rattle.ft_theory.specs.Statements.{is_type, Statement, plain, abstracted, IsObject, IsEquation}
-use Rattle.ft_theory.specs.Rules.{look_up, Rule, rule_at}
+use Rattle.ft_theory.specs.Rules.{look_up, Rule}
 use Rattle.ft_theory.specs.Steps.{Prim}
 use Rattle.ft_theory.specs.Derivability.{DerUpTo, PremisesHold, RuleHolds, FinitaryAfter, FinitaryUpTo}
 use Rattle.ft_laws.proofs.Opens.{by_test}
@@ -16,10 +16,10 @@ use Rattle.ft_laws.proofs.Finitary.{scoped}
 use Rattle.ft_laws.proofs.Admissible.{finitary_sound, law, rule_before}
 use Rattle.ft_items.specs.Sets.{Atom, met, var, Has, Within, is_within, same_set, metavariables_only, has}
 use Rattle.ft_items.specs.Equal.{equal_statements, is_thesis, is_plain}
-use Rattle.ft_items.specs.Item.{Name, Entry, variable, metavariable, rule, entry}
-use Rattle.ft_items.specs.Store.{Assertion, Annotation, Declared, Store, nth, each, entry_named, metavariable_named, type_in, claim_in, premises_of, Derivable, Resolved, resolve, add_variable, add_metavariable, add_rule, add, Declarations, declared_variable, declared_metavariable, declared_rule}
+use Rattle.ft_items.specs.Item.{Name, Entry, entry}
+use Rattle.ft_items.specs.Store.{Assertion, Annotation, Declared, Store, nth, type_in, claim_in, premises_of, Derivable, Resolved, resolve, add_variable, add_metavariable, add_rule, add, Declarations, declared_variable, declared_metavariable, declared_rule}
 use Rattle.ft_items.specs.Rows.{conclusion, result_set, atoms, differ, on_earlier, concludes_thesis}
-use Rattle.ft_items.specs.Good.{Reject, Kind, Premise, Conclusion, Set, Named, Number, Many, Loose, unless, of_kind, same_truth, is_next, is_plain_type, is_new, reason_of_result, reason_of_entry, reason_of_variable, reason_of_metavariable, reason_of_rule, reason_in}
+use Rattle.ft_items.specs.Good.{Reject, Kind, Conclusion, Set, unless, of_kind, same_truth, is_next, is_plain_type, reason_of_result, reason_of_entry, reason_in}
 use Rattle.ft_items.proofs.Lists.{nth_before, nth_within}
 use Rattle.ft_items.proofs.SetLemmas.{same_set_true, no_variable, within_true, has_false}
 use Rattle.ft_sound.proofs.EqualLemmas.{statement_true, boundary_kind}

@@ -2,7 +2,7 @@
 -- and what the verdict tells.
 -- After the soundness of context-free theories in Haselwarter and Bauer, "Finitary type theories with and without contexts".
 use Rattle.std.specs.Prelude.{ℕ, Some, None, ◌≡◌, ◌≢◌, ◌↔◌, List, [], ◌∷◌, ◌++◌, length}
-use Rattle.ft_theory.specs.Statements.{is_type, plain, StatementMentionsOnly}
+use Rattle.ft_theory.specs.Statements.{StatementMentionsOnly}
 use Rattle.ft_theory.specs.Rules.{look_up}
 use Rattle.ft_theory.specs.Derivability.{FinitaryUpTo}
 use Rattle.ft_items.specs.Sets.{Atom, met, var, Has, Within}

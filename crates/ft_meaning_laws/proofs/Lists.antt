@@ -3,7 +3,6 @@ use Rattle.std.proofs.Common.{◌≡◌, ℕ, true, false, Some, Result, Ok, Lis
 use Rattle.ft_common.proofs.Booleans.{false_true}
 use Rattle.ft_common.proofs.Results.{ok_ok}
 use Rattle.ft_laws.proofs.Finitary.{Sound}
-use Rattle.ft_theory.specs.Statements.{is_type, plain}
 use Rattle.ft_theory.specs.Rules.{Rule, rule_at}
 use Rattle.ft_items.specs.Item.{Item, entry, by_btype}
 use Rattle.ft_items.specs.Store.{Assertion, nth, add, empty_store, store_of, declared_by, Store}

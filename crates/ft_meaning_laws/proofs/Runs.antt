@@ -3,7 +3,7 @@ use Rattle.std.proofs.Common.{◌≡◌, ℕ, true, Option, Some, None, Result, 
 use Rattle.std.specs.Prelude.{map, option_map}
 use Rattle.ft_theory.specs.Rules.{Rule, rule_at}
 use Rattle.ft_items.specs.Item.{Name, Item, shown}
-use Rattle.ft_items.specs.Store.{Assertion, sequent_in, Derivable, add_rule, add, empty_store, declared_rule, Declarations, declared_by, store_of}
+use Rattle.ft_items.specs.Store.{Assertion, sequent_in, add_rule, add, empty_store, declared_rule, Declarations, declared_by, store_of}
 use Rattle.ft_items.specs.Rows.{atoms}
 use Rattle.ft_items.specs.Good.{is_next}
 use Rattle.ft_sound.proofs.Valid.{Valid}
@@ -20,7 +20,7 @@ use Rattle.ft_meaning.specs.Commands as commands
 use Rattle.ft_grammar.specs.declared.syntax.Named.{Named}
 use Rattle.ft_equality.specs.Shapes.{ShapeFault, EqualityRules, add_computation, add_extensionality}
 use Rattle.ft_meaning.specs.Commands.{shaped, declare_equality, boundary_by, declare_premises, declare_rule, Done, Accepted, ShownNone, Quiet, done, ended, run_command}
-use Rattle.ft_meaning.specs.Events.{Event, shows, EachShown, events_of, shown_in, IsDerivable, Shown, Told, declares, states, told_by_event, told_rule, told_shown, told_from}
+use Rattle.ft_meaning.specs.Events.{Event, shows, EachShown, events_of, shown_in, IsDerivable, Told, declares, states, told_by_event, told_rule, told_shown, told_from}
 use Rattle.ft_meaning_laws.proofs.Grows as grows
 use Rattle.ft_meaning_laws.proofs.Grows.{GrowsStore, grows_self, grows_then, grows_last, told_last, quiet_self}
 use Rattle.ft_meaning_laws.proofs.Lists.{sound_last, AreAccepted, computation_added, extensionality_added}

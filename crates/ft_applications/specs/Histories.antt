@@ -31,9 +31,9 @@ told_shown T (Some p) = states T p.statement p.set ∷ []
 abbrev pub told_by : Store → Item → List Told
 told_by W (variable v n p) = []
 told_by W (metavariable n p) = []
-told_by W (rule n ms p) = told_rule n (each (metavariable_named W) ms) (entry_named W p)
+told_by W (rule n ms p) = told_rule n (each (metavariable_named W.declarations) ms) (entry_named W p)
 told_by W (entry e) = []
-told_by W (shown p) = told_shown W.rules (entry_named W p)
+told_by W (shown p) = told_shown W.declarations.rules (entry_named W p)
 
 -- what items tell after what the store has
 abbrev pub told_from : Store → List Item → List Told

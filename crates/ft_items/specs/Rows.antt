@@ -7,7 +7,7 @@ use Rattle.ft_theory.specs.Rules.{look_up, Rule, rule_at, instance_of, filled_pr
 use Rattle.ft_items.specs.Sets.{Atom, met, var, insert, union, unions, without, has, is_within}
 use Rattle.ft_items.specs.Equal.{equal_expressions, equal_statements, is_thesis, is_object_goal, is_object, has_head, head, fits, fit_all, heads, start_all, right_heads, typed, terms, paired, left_terms, right_terms}
 use Rattle.ft_items.specs.Item.{Justification, by_var, by_generic, by_meta, by_metacong, by_abs, by_subst, by_substeq, by_refl, by_sym, by_trans, by_conv, by_conveq, by_left, by_right, by_typeof, by_domain, by_boundary, by_widen, by_btype, by_bterm, by_beqty, by_beqtm, by_rule, by_rulewith, by_inst, by_cong, by_convprem, by_convback, by_arg, by_natural, by_metainst}
-use Rattle.ft_items.specs.Store.{Assertion, Annotation, Declared, Store, nth, Resolved, premises_of}
+use Rattle.ft_items.specs.Store.{Assertion, Annotation, Declared, Declarations, nth, Resolved, premises_of}
 
 -- x, where the test holds
 abbrev pub when : {A : Type 0} → Bool → A → Option A
@@ -210,7 +210,7 @@ meta_arguments None a = []
 meta_arguments (Some d) a = term_typings d.boundary a
 
 -- the arguments of an application as theses; a variable has none
-abbrev pub arguments_of : Store → Expression → List Statement
+abbrev pub arguments_of : Declarations → Expression → List Statement
 arguments_of W (bound i) = []
 arguments_of W (free v) = []
 arguments_of W (symbol r a) = rule_arguments (rule_at W.rules r) a
@@ -222,7 +222,7 @@ from_one xs zero = None
 from_one xs (suc i) = nth xs i
 
 -- the i-th argument of the application in a plain type or term, as a thesis
-abbrev pub argument : Store → ℕ → Statement → Option Statement
+abbrev pub argument : Declarations → ℕ → Statement → Option Statement
 argument W i (plain (is_type e)) = from_one (arguments_of W e) i
 argument W i (plain (has_type e A)) = from_one (arguments_of W e) i
 argument W i x = None
@@ -243,14 +243,14 @@ natural_of_meta None a = None
 natural_of_meta (Some d) a = type_of_boundary (at d.boundary a)
 
 -- the type that a variable or an application has by its declaration
-abbrev pub natural_type : Store → Expression → Option Expression
+abbrev pub natural_type : Declarations → Expression → Option Expression
 natural_type W (bound i) = None
 natural_type W (free v) = option_map (λ d. d.annotation) (look_up W.variables v)
 natural_type W (symbol r a) = natural_of_rule (rule_at W.rules r) a
 natural_type W (meta m a) = natural_of_meta (nth W.metavariables m) a
 
 -- of a plain term, the equation between the type that it has by its declaration and the stated one
-abbrev pub natural : Store → Statement → Option Statement
+abbrev pub natural : Declarations → Statement → Option Statement
 natural W (plain (has_type e A)) = option_map (λ N. plain (equal_types N A)) (natural_type W e)
 natural W x = None
 
@@ -277,7 +277,7 @@ abbrev pub instantiated : List (ℕ × Declared) → Assertion → List Statemen
 instantiated ms p xs = when (differ (atoms ms) && on_earlier [] ms && is_within p.set (atoms ms) && are_arguments (premises_of ms) xs) (at_arguments (premises_of ms) (heads xs) p.statement)
 
 -- what the step concludes; None where a condition of its row fails
-abbrev pub conclusion : Store → Resolved → Option Statement
+abbrev pub conclusion : Declarations → Resolved → Option Statement
 conclusion W (by_var v) = Some (plain (has_type (free v.0) v.1.annotation))
 conclusion W (by_generic m) = Some (fill m.1.boundary (meta m.0 (bounds (domain_count m.1.boundary))))
 conclusion W (by_meta m ps) = applied_meta m.0 m.1.boundary (statements ps)

@@ -10,7 +10,7 @@ use Rattle.ft_theory.specs.Rules.{conclusion_at}
 use Rattle.ft_theory.specs.Small.{IsSmall}
 use Rattle.ft_items.specs.Equal.{is_object_goal, is_object, head_of_claim, head, heads, fits, right_heads}
 use Rattle.ft_items.specs.Item.{by_var, by_generic, by_meta, by_metacong, by_abs, by_subst, by_substeq, by_refl, by_sym, by_trans, by_conv, by_conveq, by_left, by_right, by_typeof, by_domain, by_boundary, by_widen, by_btype, by_bterm, by_beqty, by_beqtm, by_rule, by_rulewith, by_inst, by_cong, by_convprem, by_convback, by_arg, by_natural, by_metainst}
-use Rattle.ft_items.specs.Store.{Assertion, Store, Resolved, premises_of}
+use Rattle.ft_items.specs.Store.{Assertion, Resolved, premises_of, Declarations}
 use Rattle.ft_items.specs.Rows.{when, statements, bounds, applied_meta, meta_congruence, substitution, equal_substitution, symmetry, transitivity, conversion, equation_conversion, left_side, right_side, type_part, under_domains, first_domain, term_boundary, type_equation_boundary, term_equation_boundary, at_arguments, rule_instance, rule_instance_with, first_premises, later_premises, boundary_instance, congruence_of, moved_argument, argument, natural_type, natural, instantiated, conclusion, result_set}
 use Rattle.ft_items.specs.Good.{of_kind, given}
 use Rattle.ft_reference.specs.Refusals.{Check, asks, forms, formed, AllSmall, claim_expressions, expressions, forms_all, forms_statement, forms_result}
@@ -221,12 +221,12 @@ guarded_small true o z h e = h e
 guarded_small false o z h e = none_some e
 
 -- what an application tells
-argument_small : (W : Store) (i : ℕ) (x z : Statement) → AllSmall (formed (application_checks W i x)) → argument W i x ≡ Some z → AllSmall (expressions z)
+argument_small : (W : Declarations) (i : ℕ) (x z : Statement) → AllSmall (formed (application_checks W i x)) → argument W i x ≡ Some z → AllSmall (expressions z)
 argument_small W i (plain (is_type e)) z h p = result (argument W i (plain (is_type e))) z h p
 argument_small W i (plain (has_type e A)) z h p = result (argument W i (plain (has_type e A))) z h p
 argument_small W i x z h p = none_some p
 
-natural_small : (W : Store) (x z : Statement) → AllSmall (expressions x) → AllSmall (formed (natural_checks W x)) → natural W x ≡ Some z → AllSmall (expressions z)
+natural_small : (W : Declarations) (x z : Statement) → AllSmall (expressions x) → AllSmall (formed (natural_checks W x)) → natural W x ≡ Some z → AllSmall (expressions z)
 natural_small W (plain (has_type e A)) z h k p = go (natural_type W e) k p
   where
     go : (o : Option Expression) → AllSmall (formed (forms_natural o)) → option_map (λ N. plain (equal_types N A)) o ≡ Some z → AllSmall (expressions z)
@@ -241,7 +241,7 @@ one p ps h = (small_split (expressions p.statement) (all_expressions ps) h).0
 rest : (p : Assertion) (ps : List Assertion) → AllSmall (all_expressions (p ∷ ps)) → AllSmall (all_expressions ps)
 rest p ps h = (small_split (expressions p.statement) (all_expressions ps) h).1
 
-row : (W : Store) (s : Resolved) (z : Statement) → is_abstraction s ≡ false → AllSmall (given_expressions s) → AllSmall (formed (checks W s)) → conclusion W s ≡ Some z → AllSmall (expressions z)
+row : (W : Declarations) (s : Resolved) (z : Statement) → is_abstraction s ≡ false → AllSmall (given_expressions s) → AllSmall (formed (checks W s)) → conclusion W s ≡ Some z → AllSmall (expressions z)
 row W (by_var v) z n g f e = at_some (plain (has_type (free v.0) v.1.annotation)) z (true_small (free v.0) refl, g) e
 row W (by_generic m) z n g f e =
     at_some (fill m.1.boundary (meta m.0 (bounds (domain_count m.1.boundary)))) z
@@ -291,7 +291,7 @@ row W (by_natural p) z n g f e = natural_small W p.statement z g f e
 row W (by_metainst p ms qs) z n g f e = ends (all_argument_checks (premises_of ms) (statements qs)) (instantiated ms p (statements qs)) z f e
 
 -- the statement that is given is the conclusion
-pub given_conclusion : (W : Store) (s : Resolved) (a : Assertion) → given W s ≡ Some a → conclusion W s ≡ Some a.statement
+pub given_conclusion : (W : Declarations) (s : Resolved) (a : Assertion) → given W s ≡ Some a → conclusion W s ≡ Some a.statement
 given_conclusion W s a h = go (of_kind s) (conclusion W s) h
   where
     go : (b : Bool) (o : Option Statement) → cond b (option_map (λ x. record { statement = x; set = result_set s }) o) None ≡ Some a → o ≡ Some a.statement

@@ -11,7 +11,7 @@ use Rattle.ft_theory.specs.Rules.{look_up, Rule, conclusion_at}
 use Rattle.ft_items.specs.Sets.{Atom, met, var, is_within}
 use Rattle.ft_items.specs.Equal.{equal_expressions, equal_statements, is_thesis, is_object_goal, is_object, has_head, fits, heads, start_all, right_heads, typed, paired}
 use Rattle.ft_items.specs.Item.{by_var, by_generic, by_meta, by_metacong, by_abs, by_subst, by_substeq, by_refl, by_sym, by_trans, by_conv, by_conveq, by_left, by_right, by_typeof, by_domain, by_boundary, by_widen, by_btype, by_bterm, by_beqty, by_beqtm, by_rule, by_rulewith, by_inst, by_cong, by_convprem, by_convback, by_arg, by_natural, by_metainst}
-use Rattle.ft_items.specs.Store.{Assertion, Annotation, Declared, Store, Resolved, premises_of}
+use Rattle.ft_items.specs.Store.{Assertion, Annotation, Declared, Resolved, premises_of, Declarations}
 use Rattle.ft_items.specs.Rows.{when, statements, bounds, applied_meta, meta_congruence, rests_on, depends, substitution, equal_substitution, symmetry, transitivity, conversion, equation_conversion, left_side, right_side, type_part, under_domains, first_domain, term_boundary, type_equation_boundary, term_equation_boundary, at_arguments, are_arguments, rule_instance, rule_instance_with, first_premises, later_premises, boundary_instance, congruence_of, moved_argument, arguments_of, from_one, argument, natural_type, natural, atoms, differ, on_earlier, instantiated, conclusion, theses, boundaries}
 use Rattle.ft_items.specs.Good.{all_theses, all_boundaries, of_kind}
 use Rattle.ft_reference.specs.Refusals.{DependentVariable, forms_statement, forms_result, none_check, expressions}
@@ -212,13 +212,13 @@ no_place (suc i) = refl
 with_result : (b : Bool) (o : Option Statement) → (b && asked (forms_result o)) ≡ b
 with_result b o = ap (λ z. b && z) (asked_result o) ∙ and-true b
 
-place_asked : (W : Store) (i : ℕ) (e : Expression) (x : Statement) → asked (place_checks W i e x) ≡ is_some (from_one (arguments_of W e) i)
+place_asked : (W : Declarations) (i : ℕ) (e : Expression) (x : Statement) → asked (place_checks W i e x) ≡ is_some (from_one (arguments_of W e) i)
 place_asked W i (bound j) x = no_place i
 place_asked W i (free v) x = no_place i
 place_asked W i (symbol r a) x = with_result (is_some (from_one (arguments_of W (symbol r a)) i)) (argument W i x)
 place_asked W i (meta m a) x = with_result (is_some (from_one (arguments_of W (meta m a)) i)) (argument W i x)
 
-argument_asked : (W : Store) (i : ℕ) (x : Statement) → asked (application_checks W i x) ≡ is_some (argument W i x)
+argument_asked : (W : Declarations) (i : ℕ) (x : Statement) → asked (application_checks W i x) ≡ is_some (argument W i x)
 argument_asked W i (plain (is_type e)) = place_asked W i e (plain (is_type e))
 argument_asked W i (plain (has_type e A)) = place_asked W i e (plain (has_type e A))
 argument_asked W i x = refl
@@ -227,7 +227,7 @@ natural_expression : (o : Option Expression) → asked (forms_natural o) ≡ is_
 natural_expression None = refl
 natural_expression (Some N) = refl
 
-natural_asked : (W : Store) (x : Statement) → asked (natural_checks W x) ≡ is_some (natural W x)
+natural_asked : (W : Declarations) (x : Statement) → asked (natural_checks W x) ≡ is_some (natural W x)
 natural_asked W (plain (has_type e A)) = natural_expression (natural_type W e) ∙ sym (is_some-option_map (λ N. plain (equal_types N A)) (natural_type W e))
 natural_asked W x = refl
 
@@ -241,7 +241,7 @@ instantiated_asked ms p xs h k =
     ∙ sym (when_some (differ (atoms ms) && on_earlier [] ms && is_within p.set (atoms ms) && are_arguments (premises_of ms) xs) _)
 
 -- each row
-row : (W : Store) (s : Resolved) → all_theses (theses s) ≡ true → all_boundaries (boundaries s) ≡ true → instance_allowed s ≡ true → asked (checks W s) ≡ is_some (conclusion W s)
+row : (W : Declarations) (s : Resolved) → all_theses (theses s) ≡ true → all_boundaries (boundaries s) ≡ true → instance_allowed s ≡ true → asked (checks W s) ≡ is_some (conclusion W s)
 row W (by_var v) h b i = refl
 row W (by_generic m) h b i = application_asked (is_object m.1.boundary) (meta m.0 (bounds (domain_count m.1.boundary)))
 row W (by_meta m ps) h b i = meta_asked m.0 m.1.boundary (statements ps)
@@ -279,7 +279,7 @@ row W (by_natural p) h b i = natural_asked W p.statement
 row W (by_metainst p ms qs) h b i = instantiated_asked ms p (statements qs) (theses_of qs h) i
 
 -- A call that may be made asks what its row asks.
-pub asks_its_row : (W : Store) (s : Resolved) → may_be_made s ≡ true → asked (checks W s) ≡ is_some (conclusion W s)
+pub asks_its_row : (W : Declarations) (s : Resolved) → may_be_made s ≡ true → asked (checks W s) ≡ is_some (conclusion W s)
 asks_its_row W s h =
     let k : (of_kind s ≡ true) × (instance_allowed s ≡ true) = and_parts (of_kind s) (instance_allowed s) h in
     let l : (all_theses (theses s) ≡ true) × (all_boundaries (boundaries s) ≡ true) = and_parts (all_theses (theses s)) (all_boundaries (boundaries s)) k.0 in

@@ -8,9 +8,8 @@ use Rattle.ft_theory.specs.Rules.{Rule}
 use Rattle.ft_theory.specs.Steps.{Prim}
 use Rattle.ft_items.specs.Item.{Name, shown}
 use Rattle.ft_items.specs.Equal.{is_thesis}
-use Rattle.ft_items.specs.Store.{empty_store}
 use Rattle.ft_items.specs.Good.{Allowed, is_new}
-use Rattle.ft_items.proofs.Lists.{store_last}
+use Rattle.ft_items.proofs.Lists.{declared_last}
 use Rattle.ft_base.specs.declared.memory.Memory.{Memory}
 use Rattle.ft_applications.specs.declared.syntax.Application.{Application}
 use Rattle.ft_applications.specs.declared.syntax.Premise.{Premise}
@@ -254,7 +253,7 @@ mark_allowed s ks p x v h =
 
 session_marked : (s : State) (j : ℕ) (ks : List Known) → IsSession s ks → IsSession (with_item s (shown j)) ks
 session_marked s j ks h =
-    let more = store_last empty_store s.items (shown j) in
+    let more = declared_last s.items (shown j) in
     record {
       known = h.known;
       rules = ap (λ W. W.rules) more ∙ h.rules;

@@ -4,7 +4,7 @@ use Rattle.ft_theory.specs.Expressions.{Expression, bound, free, symbol, meta, A
 use Rattle.ft_theory.specs.Statements.{Claim, is_type, has_type, equal_types, equal_terms, type_goal, term_goal, type_equation_goal, term_equation_goal, Statement, plain, abstracted}
 use Rattle.ft_theory.specs.Rules.{Rule}
 use Rattle.ft_items.specs.Item.{Item, Entry, entry}
-use Rattle.ft_items.specs.Store.{Assertion, Declared, nth, store_of, entries_in, metavariables_in}
+use Rattle.ft_items.specs.Store.{Assertion, Declared, nth, entries_in, metavariables_in, declared_by}
 use Rattle.ft_judge.specs.Meaning.{claim_in, goal_in, FormBelow, GoalBelow}
 use Rattle.ft_judge.specs.declared.judgement.Goal.{Goal}
 use Rattle.ft_kernel.specs.State.{State}
@@ -88,8 +88,8 @@ AreKnown ts (k ∷ ks) = FitsKnown ts k × AreKnown ts ks
 -- the store of the kernel's list has the declared rules, and no others; each item of the list is of this language
 pub record IsSession (s : State) (ks : List Known) : Type 0 where
   pub known : AreKnown s.trees ks
-  pub rules : (store_of s.items).rules ≡ theory (declarations s.trees ks)
-  pub names_are : (store_of s.items).names ≡ names (declarations s.trees ks)
+  pub rules : (declared_by s.items).rules ≡ theory (declarations s.trees ks)
+  pub names_are : (declared_by s.items).names ≡ names (declarations s.trees ks)
   pub steps : AllOfApplications s.items
 
 -- an entry has the claim, as a thesis without domains that rests on nothing
@@ -157,7 +157,7 @@ assertions cs = map (λ c. record { statement = plain c; set = [] }) cs
 
 -- the store has the metavariable m, with this goal as its boundary, which rests on nothing
 abbrev pub HasMet : State → ℕ → Claim → Type 0
-HasMet s m g = (d : Declared) × (nth (store_of s.items).metavariables m ≡ Some d) × (d.boundary ≡ plain g) × (d.set ≡ [])
+HasMet s m g = (d : Declared) × (nth (declared_by s.items).metavariables m ≡ Some d) × (d.boundary ≡ plain g) × (d.set ≡ [])
 
 -- the metavariables ms are numbered from m, and have these goals
 abbrev pub AreMade : State → ℕ → List Claim → List ℕ → Type 0

@@ -14,7 +14,7 @@ use Rattle.ft_laws.proofs.Finitary.{premise_at}
 use Rattle.ft_laws.proofs.Statements.{object_goal-map}
 use Rattle.ft_items.specs.Equal.{equal_expressions, equal_statements, is_thesis_claim, is_thesis, is_object_goal, is_object, has_head, head, fits, heads, start_all, right_heads, typed, terms, paired, left_terms, right_terms}
 use Rattle.ft_items.specs.Item.{by_var, by_generic, by_meta, by_metacong, by_abs, by_subst, by_substeq, by_refl, by_sym, by_trans, by_conv, by_conveq, by_left, by_right, by_typeof, by_domain, by_boundary, by_widen, by_btype, by_bterm, by_beqty, by_beqtm, by_rule, by_rulewith, by_inst, by_cong, by_convprem, by_convback, by_arg, by_natural, by_metainst}
-use Rattle.ft_items.specs.Store.{Declared, Store, nth, Resolved, premises_of}
+use Rattle.ft_items.specs.Store.{Declared, nth, Resolved, premises_of, Declarations}
 use Rattle.ft_items.specs.Rows.{statements, bounds, conclusion, concludes_thesis, theses, boundaries}
 use Rattle.ft_items.specs.Rows as row
 use Rattle.ft_items.specs.Good.{all_theses, of_kind}
@@ -203,7 +203,7 @@ from_one_kind : (xs : List Statement) (i : ℕ) (y : Statement) → AllTheses xs
 from_one_kind xs zero y h e = none_some e
 from_one_kind xs (suc i) y h e = place_kind xs i y h e
 
-arguments_kind : (W : Store) (e : Expression) → AllTheses (row.arguments_of W e)
+arguments_kind : (W : Declarations) (e : Expression) → AllTheses (row.arguments_of W e)
 arguments_kind W (bound i) = tt
 arguments_kind W (free v) = tt
 arguments_kind W (symbol r a) = go (rule_at W.rules r)
@@ -217,12 +217,12 @@ arguments_kind W (meta m a) = go (nth W.metavariables m)
     go None = tt
     go (Some d) = typings_kind a d.boundary
 
-argument_kind : (W : Store) (i : ℕ) (x y : Statement) → row.argument W i x ≡ Some y → Thesis y
+argument_kind : (W : Declarations) (i : ℕ) (x y : Statement) → row.argument W i x ≡ Some y → Thesis y
 argument_kind W i (plain (is_type t)) y e = from_one_kind (row.arguments_of W t) i y (arguments_kind W t) e
 argument_kind W i (plain (has_type t A)) y e = from_one_kind (row.arguments_of W t) i y (arguments_kind W t) e
 argument_kind W i x y e = none_some e
 
-natural_kind : (W : Store) (x y : Statement) → row.natural W x ≡ Some y → Thesis y
+natural_kind : (W : Declarations) (x y : Statement) → row.natural W x ≡ Some y → Thesis y
 natural_kind W (plain (has_type t A)) y e = go (row.natural_type W t) e
   where
     go : (o : Option Expression) → option_map (λ N. plain (equal_types N A)) o ≡ Some y → Thesis y
@@ -238,7 +238,7 @@ cond_kind : (b : Bool) (o : Option Statement) (y : Statement) → cond b o None 
 cond_kind true o y e = e
 cond_kind false o y e = none_some e
 
-instance_kind : (W : Store) → WellFormed W → (r : ℕ) (R : Rule) → rule_at W.rules r ≡ Some R → (xs : List Statement) (y : Statement) → row.boundary_instance R xs ≡ Some y → is_thesis y ≡ false
+instance_kind : (W : Declarations) → WellFormed W → (r : ℕ) (R : Rule) → rule_at W.rules r ≡ Some R → (xs : List Statement) (y : Statement) → row.boundary_instance R xs ≡ Some y → is_thesis y ≡ false
 instance_kind W F r R q xs y e = from_when (λ z. is_thesis z ≡ false) (row.are_arguments (row.first_premises R xs) xs) (row.next_boundary R (row.first_premises R xs) (heads xs) (row.later_premises R xs)) y e
     (λ h. go (row.first_premises R xs) (row.later_premises R xs) (take-append-drop (length xs) R.premises))
   where
@@ -248,7 +248,7 @@ instance_kind W F r R q xs y e = from_when (λ z. is_thesis z ≡ false) (row.ar
         map_kind n.1 (λ l. act free (instance_of ps (heads xs))) zero
         ∙ statement_boundary n.1 (premise_at (λ M x. Prim W.rules M [] x) [] ps n later (subst (PremisesHold (λ M x. Prim W.rules M [] x) []) (sym w) (sound_rules W F r R q).0)).0
 
-pub conclusion_kind : (W : Store) (F : WellFormed W) (s : Resolved) → Parts W F s → of_kind s ≡ true → (y : Statement) → conclusion W s ≡ Some y → is_thesis y ≡ concludes_thesis s
+pub conclusion_kind : (W : Declarations) (F : WellFormed W) (s : Resolved) → Parts W F s → of_kind s ≡ true → (y : Statement) → conclusion W s ≡ Some y → is_thesis y ≡ concludes_thesis s
 conclusion_kind W F (by_var v) h k y e = subst Thesis (same_Some (plain (has_type (free v.0) v.1.annotation)) y e) refl
 conclusion_kind W F (by_generic m) h k y e = subst Thesis (same_Some (fill m.1.boundary (meta m.0 (bounds (domain_count m.1.boundary)))) y e) (fill_kind m.1.boundary (meta m.0 (bounds (domain_count m.1.boundary))))
 conclusion_kind W F (by_meta m ps) h k y e = from_when Thesis (typed m.1.boundary (statements ps)) (fill (at m.1.boundary (terms (statements ps))) (meta m.0 (terms (statements ps)))) y e (λ t. fill_kind (at m.1.boundary (terms (statements ps))) (meta m.0 (terms (statements ps))))

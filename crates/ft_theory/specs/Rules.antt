@@ -1,6 +1,6 @@
 -- Rules, theories, and instances of rules.
 -- After Haselwarter and Bauer, "Finitary type theories with and without contexts".
-use Rattle.std.specs.Prelude.{ℕ, zero, suc, Option, Some, None, cond, nat_eq, ◌≡◌, List, [], ◌∷◌, ◌&&◌}
+use Rattle.std.specs.Prelude.{ℕ, zero, suc, Option, Some, None, cond, nat_eq, ◌≡◌, List, [], ◌∷◌, ◌++◌, ◌&&◌}
 use Rattle.ft_theory.specs.Expressions.{Expression, bound, free, Arguments, no_arguments, with_body, dummy, Terms, no_terms, also, act}
 use Rattle.ft_theory.specs.Statements.{Claim, has_type, equal_terms, Statement, plain, map_claim, act_statement, opened, domain, domain_count, fill, equate, IsObject, IsEquation}
 
@@ -22,6 +22,12 @@ abbrev pub rule_at : List Rule → ℕ → Option Rule
 rule_at [] r = None
 rule_at (R ∷ T) zero = Some R
 rule_at (R ∷ T) (suc r) = rule_at T r
+
+-- BoundaryAfter R ps b: after its premises ps the rule has the boundary b. That is the next premise's, or the conclusion's after
+-- all premises.
+pub data BoundaryAfter (R : Rule) : List (ℕ × Statement) → Statement → Type 0 where
+  next_premise : (ps qs : List (ℕ × Statement)) (m : ℕ) (b : Statement) → R.premises ≡ ps ++ ((m, b) ∷ qs) → BoundaryAfter R ps b
+  its_conclusion : (ps : List (ℕ × Statement)) → R.premises ≡ ps → BoundaryAfter R ps (plain R.conclusion)
 
 -- The instance that maps the premises' metavariables to the bodies of the arguments in their places. A metavariable is
 -- replaced where it stands at as many terms as its argument has binders.

@@ -3,7 +3,7 @@
 use Rattle.std.specs.Prelude.{ℕ, zero, Some, ◌≡◌, List, [], ◌∷◌, ◌++◌}
 use Rattle.ft_theory.specs.Expressions.{Expression, bound, free, symbol, meta, Arguments, Terms, count, open_at}
 use Rattle.ft_theory.specs.Statements.{Claim, is_type, has_type, equal_types, equal_terms, term_goal, type_equation_goal, term_equation_goal, Statement, plain, abstracted, act_statement, opened, domain_count, at, fill_goal, fill, equate_goal, equate, IsObjectGoal, IsEquationGoal, IsObject, boundary_of}
-use Rattle.ft_theory.specs.Rules.{look_up, Rule, rule_at, instance_of, FitsPremises, filled_premises, equated_premises, conclusion_at, term_typings, term_equations}
+use Rattle.ft_theory.specs.Rules.{look_up, Rule, rule_at, instance_of, BoundaryAfter, FitsPremises, filled_premises, equated_premises, conclusion_at, term_typings, term_equations}
 use Rattle.ft_theory.specs.Steps.{Sequent, sequent, sequents, IsVariableFree}
 
 -- a type or a side of a claim or goal, as a claim
@@ -48,13 +48,11 @@ pub data WideStep (T : List Rule) : ℕ → List Sequent → Sequent → Type 0 
   -- left one.
   equal_substitution : {M : List (ℕ × Statement)} {G : List (ℕ × Expression)} (A s t : Expression) (b : Statement) (h : Expression) → IsObject b
       → WideStep T 4 (sequent M G (abstracted A (fill b h)) ∷ sequent M G (plain (equal_terms s t A)) ∷ []) (sequent M G (equate (opened s (abstracted A b)) (open_at (domain_count b) s h) (open_at (domain_count b) t h)))
-  -- 5, instances: at arguments for the first premises of a rule the next premise's boundary is derivable.
-  next_boundary : {M : List (ℕ × Statement)} {G : List (ℕ × Expression)} (r : ℕ) (R : Rule) (ps qs : List (ℕ × Statement)) (m : ℕ) (b : Statement) (a : Arguments) → rule_at T r ≡ Some R → R.premises ≡ ps ++ ((m, b) ∷ qs) → FitsPremises ps a
+  -- 5, instances: at arguments for the first premises of a rule the boundary after them is derivable: the next premise's, or the
+  -- conclusion's.
+  boundary_at_arguments : {M : List (ℕ × Statement)} {G : List (ℕ × Expression)} (r : ℕ) (R : Rule) (ps : List (ℕ × Statement)) (b : Statement) (a : Arguments) → rule_at T r ≡ Some R → BoundaryAfter R ps b → FitsPremises ps a
       → WideStep T 5 (sequents M G (filled_premises (instance_of ps a) ps a)) (sequent M G (act_statement free (instance_of ps a) b))
-  -- 5: at arguments for all premises the conclusion's boundary is.
-  conclusion_boundary : {M : List (ℕ × Statement)} {G : List (ℕ × Expression)} (r : ℕ) (R : Rule) (a : Arguments) → rule_at T r ≡ Some R → FitsPremises R.premises a
-      → WideStep T 5 (sequents M G (filled_premises (instance_of R.premises a) R.premises a)) (sequent M G (plain (conclusion_at R a)))
-  -- 5: and so is the symbol at the arguments, without its boundary as a premise.
+  -- 5: at arguments for all premises the symbol at them is, without its boundary as a premise.
   object_instance : {M : List (ℕ × Statement)} {G : List (ℕ × Expression)} (r : ℕ) (R : Rule) (a : Arguments) → rule_at T r ≡ Some R → FitsPremises R.premises a → IsObjectGoal R.conclusion
       → WideStep T 5 (sequents M G (filled_premises (instance_of R.premises a) R.premises a)) (sequent M G (plain (fill_goal (conclusion_at R a) (symbol r a))))
   -- 5: or the equation.
@@ -63,11 +61,11 @@ pub data WideStep (T : List Rule) : ℕ → List Sequent → Sequent → Type 0 
   -- 6, equal instances: a symbol at equal arguments is equal to itself, by the left arguments and the equations alone.
   equal_instances : {M : List (ℕ × Statement)} {G : List (ℕ × Expression)} (r : ℕ) (R : Rule) (a b : Arguments) → rule_at T r ≡ Some R → FitsPremises R.premises a → FitsPremises R.premises b → IsObjectGoal R.conclusion
       → WideStep T 6 (sequents M G (filled_premises (instance_of R.premises a) R.premises a ++ equated_premises (instance_of R.premises a) R.premises a b)) (sequent M G (plain (equate_goal (conclusion_at R a) (symbol r a) (symbol r b))))
-  -- 6: a head at the next premise's boundary at arguments is one at that boundary at equal arguments.
-  convert_premise : {M : List (ℕ × Statement)} {G : List (ℕ × Expression)} (r : ℕ) (R : Rule) (ps qs : List (ℕ × Statement)) (m : ℕ) (c : Statement) (a b : Arguments) (h : Expression) → rule_at T r ≡ Some R → R.premises ≡ ps ++ ((m, c) ∷ qs) → FitsPremises ps a → FitsPremises ps b
+  -- 6: a head at the boundary after these premises, at arguments for them, is one at that boundary at equal arguments.
+  convert_premise : {M : List (ℕ × Statement)} {G : List (ℕ × Expression)} (r : ℕ) (R : Rule) (ps : List (ℕ × Statement)) (c : Statement) (a b : Arguments) (h : Expression) → rule_at T r ≡ Some R → BoundaryAfter R ps c → FitsPremises ps a → FitsPremises ps b
       → WideStep T 6 (sequent M G (fill (act_statement free (instance_of ps a) c) h) ∷ sequents M G (filled_premises (instance_of ps a) ps a ++ equated_premises (instance_of ps a) ps a b)) (sequent M G (fill (act_statement free (instance_of ps b) c) h))
   -- 6: and back.
-  convert_back : {M : List (ℕ × Statement)} {G : List (ℕ × Expression)} (r : ℕ) (R : Rule) (ps qs : List (ℕ × Statement)) (m : ℕ) (c : Statement) (a b : Arguments) (h : Expression) → rule_at T r ≡ Some R → R.premises ≡ ps ++ ((m, c) ∷ qs) → FitsPremises ps a → FitsPremises ps b
+  convert_back : {M : List (ℕ × Statement)} {G : List (ℕ × Expression)} (r : ℕ) (R : Rule) (ps : List (ℕ × Statement)) (c : Statement) (a b : Arguments) (h : Expression) → rule_at T r ≡ Some R → BoundaryAfter R ps c → FitsPremises ps a → FitsPremises ps b
       → WideStep T 6 (sequent M G (fill (act_statement free (instance_of ps b) c) h) ∷ sequents M G (filled_premises (instance_of ps a) ps a ++ equated_premises (instance_of ps a) ps a b)) (sequent M G (fill (act_statement free (instance_of ps a) c) h))
   -- 6: a metavariable at equal terms is equal to itself, by its boundary and the equations alone.
   metavariable_at_equal_terms : {M : List (ℕ × Statement)} {G : List (ℕ × Expression)} (m : ℕ) (b : Statement) (a c : Terms) → look_up M m ≡ Some b → IsVariableFree b → IsObject b → count a ≡ domain_count b → count c ≡ domain_count b

@@ -9,6 +9,7 @@ use Rattle.ft_theory.specs.Steps.{Sequent, sequent, sequents, Step, symbol_rule,
 use Rattle.ft_theory.specs.WideSteps.{SideOfClaim, type_of_term, left_type, right_type, type_of_terms, left_term, right_term, type_of_boundary, left_type_side, right_type_side, type_of_sides, left_term_side, right_term_side, Side, plain_side, under_domain, WideStep, weakening, substitution, its_boundary, a_side, first_domain, equal_substitution, boundary_at_arguments, object_instance, equation_instance, equal_instances, convert_premise, convert_back, metavariable_at_equal_terms, argument_in_type, argument_in_term, term_in_type, term_in_term, natural_variable, natural_symbol, natural_metavariable}
 use Rattle.ft_theory.specs.Derivability.{StepUpTo, DerUpTo, PremisesHold, RuleHolds, FinitaryAfter, FinitaryUpTo}
 use Rattle.std.specs.Prelude.{◌++◌}
+use Rattle.ft_laws.specs.Laws.{Each, IsPrimitive, KindIsAdmissible}
 use Rattle.ft_laws.specs.Instances.{statement_at}
 use Rattle.ft_laws.proofs.Induction.{AllOf, induct}
 use Rattle.ft_laws.proofs.Steps.{do_convert_term}
@@ -262,6 +263,14 @@ at_level k T = induct (Step T) (λ c. Tree (StepUpTo k T) c) (λ ps c s ts h. no
 -- The theorem: for each level k, over each theory that is finitary at level k, and for all maps and statements.
 pub law : (k : ℕ) (T : List Rule) → FinitaryUpTo k T → (M : List (ℕ × Statement)) (G : List (ℕ × Expression)) (x : Statement) → DerUpTo k T M G x ↔ Prim T M G x
 law k T f M G x = (all_levels T (finitary_sound k T f) k (sequent M G x), at_level k T (sequent M G x))
+
+-- In a finitary theory each kind is admissible.
+pub kind_is_admissible : (k : ℕ) → KindIsAdmissible k
+kind_is_admissible k T f ps c w h = admissible T (finitary_sound 7 T f) k ps c w (trees ps h)
+  where
+    trees : (ps : List Sequent) → Each (IsPrimitive T) ps → Trees (Step T) ps
+    trees [] h = none
+    trees (p ∷ ps) h = more h.0 (trees ps h.1)
 
 -- finitary at one level is finitary at each
 finitary_after_levels : (k l : ℕ) (T Rs : List Rule) → Sound T → FinitaryAfter (λ T M x. DerUpTo k T M [] x) T Rs → FinitaryAfter (λ T M x. DerUpTo l T M [] x) T Rs

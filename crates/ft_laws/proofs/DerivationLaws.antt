@@ -18,7 +18,7 @@ use Rattle.ft_laws.proofs.Peel.{peel, Peeled}
 use Rattle.ft_laws.proofs.Steps.{do_variable, do_symmetric_types, do_transitive_types}
 use Rattle.ft_laws.proofs.Commute.{ScopedTheory, act-fill}
 use Rattle.ft_laws.proofs.Traverse.{traverse}
-use Rattle.ft_laws.proofs.Substitute.{substitution_maps, weaken}
+use Rattle.ft_laws.proofs.Substitute.{substitution_maps}
 use Rattle.ft_laws.proofs.Equal.{EqualStatements, reify, transport}
 use Rattle.ft_laws.proofs.EqualTerms.{first_domain, at_absent}
 use Rattle.ft_laws.proofs.Instances.{instantiate, equal_instances}
@@ -47,7 +47,7 @@ law_renaming T f M G H r x h p =
 pub law_simultaneous_substitution : LawSimultaneousSubstitution
 law_simultaneous_substitution T f M G H s x c h p =
     traverse T (scoped_of T f) (sequent M G x) p M H s no_bodies
-    (substitution_maps T M M G H s (λ m b q. q) c (λ v A q K g t. weaken T (scoped_of T f) M M H K (plain (has_type (s v) (substitute s A))) (λ m b q. q) g (h v A q)))
+    (substitution_maps T M M G H s (λ m b q. q) c h)
 
 pub law_domain : LawDomain
 law_domain T M G A x p =

@@ -147,7 +147,8 @@ term_equation_boundary x y z = None
 abbrev pub at_arguments : List (ℕ × Statement) → Arguments → Statement → Statement
 at_arguments ps a b = act_statement free (instance_of ps a) b
 
--- the test that the theses are arguments for the premises: as many, and each fits its premise's boundary at their heads
+-- The test that the theses are arguments for the premises: as many, and each fits its premise's boundary at all their heads. Only
+-- the heads before it count there, since a boundary mentions only premises before its own.
 abbrev pub are_arguments : List (ℕ × Statement) → List Statement → Bool
 are_arguments ps xs = fit_all (at_arguments ps (heads xs)) ps xs
 

@@ -4,7 +4,7 @@
 ghost use Rattle.ft_laws.specs.Laws.{KindIsAdmissible, Law, LawInstantiate, LawEqualInstantiate};
 ghost use Rattle.ft_laws.specs.Syntax.{OpenUndoesClose, CloseUndoesOpen, OpenUndoesCloseInStatement, CloseUndoesOpenInStatement, SubstitutionAfterSubstitution, SubstitutionOfAbsent, OpenIsSubstitution, InstanceOfInstance, InstanceOfRuleInstance};
 ghost use Rattle.ft_laws.specs.Derivations.{DerivableIsPrimitive, FinitaryAtEachLevel, LawScope, LawRenaming, LawSimultaneousSubstitution, LawDomain, LawDomainAtEach, LawLongerTheory, LawLongerTheoryPrimitive, LawUniqueType};
-ghost use Rattle.ft_laws.specs.Instances.{LawGeneralInstance, LawGeneralEqualInstances, LawRightInstance};
+ghost use Rattle.ft_laws.specs.Instances.{LawLaterArguments, LawGeneralInstance, LawGeneralEqualInstances, LawRightInstance};
 ghost use Rattle.ft_laws.specs.Examples.{TermsInOrder, ConclusionOfApplication, PremisesOfApplication, TwoIsNatural, ProductsAreFinitary, BetaIsDerivable, NothingFromIllFormedBoundary, NothingFromIllFormedAnnotation, NothingFromIllFormedEquation, NoAbsentVariable, NoLooseVariable, NoughtIsNoType, NoughtIsNotInNought};
 ghost use Rattle.ft_laws.specs.Counterexamples.{LawNeedsFinitary, SidesNeedTheBoundary, SubstitutionNeedsVariableFree, NoStrengthening};
 
@@ -124,6 +124,11 @@ pub fn law_longer_theory()
 /// All types of a term are equal.
 pub fn law_unique_type()
     ensures law { LawUniqueType }
+{}
+
+/// Later arguments of a rule change nothing in the boundaries before them.
+pub fn law_later_arguments()
+    ensures law { LawLaterArguments }
 {}
 
 /// What is derivable is derivable at an instance, where some metavariables are given arguments and the others stay.

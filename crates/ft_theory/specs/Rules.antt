@@ -47,7 +47,9 @@ FitsPremises (p ∷ ps) no_arguments = ⊥
 FitsPremises (p ∷ ps) (with_body n e a) = (n ≡ domain_count p.1) × IsObject p.1 × FitsPremises ps a
 FitsPremises (p ∷ ps) (dummy n a) = (n ≡ domain_count p.1) × IsEquation p.1 × FitsPremises ps a
 
--- the premises' boundaries at an instance, each filled with the argument in its place: what the instance of a rule asks
+-- The premises' boundaries at an instance, each filled with the argument in its place: what the instance of a rule asks. The
+-- instance is that by all arguments, so a boundary stands at an instance by the very argument that fills it. That is no circle:
+-- in a finitary theory a boundary mentions only premises before its own, and later arguments change nothing in it.
 abbrev pub filled_premises : (ℕ → ℕ → Option Expression) → List (ℕ × Statement) → Arguments → List Statement
 filled_premises i [] a = []
 filled_premises i (p ∷ ps) no_arguments = []

@@ -1,11 +1,9 @@
 -- Arguments tested one by one: each premise at the instance of the arguments before it.
-use Rattle.std.proofs.Common.{◌≡◌, ◌≢◌, ℕ, zero, Bool, true, false, cond, ◌&&◌, Option, Some, List, [], ◌∷◌, ◌++◌, refl, sym, ap, ap₂, ◌∙◌, subst, append_assoc}
-use Rattle.std.proofs.lemmas.Bool.{eq-eqb}
-use Rattle.ft_common.proofs.Options.{none_some}
-use Rattle.ft_theory.specs.Expressions.{Expression, free, Arguments, no_arguments, with_body, dummy, MentionsOnly}
+use Rattle.std.proofs.Common.{◌≡◌, ℕ, Bool, true, false, cond, ◌&&◌, Option, Some, List, [], ◌∷◌, ◌++◌, refl, sym, ap, ap₂, ◌∙◌, subst, append_assoc}
+use Rattle.ft_theory.specs.Expressions.{Expression, free, no_arguments, with_body, dummy}
 use Rattle.ft_theory.specs.Statements.{Statement, act_statement, domain_count, IsObject, IsEquation}
 use Rattle.ft_theory.specs.Rules.{Rule, rule_at, instance_of, FitsPremises}
-use Rattle.ft_theory.specs.Steps.{sequent, Prim}
+use Rattle.ft_theory.specs.Steps.{Prim}
 use Rattle.ft_theory.specs.Derivability.{PremisesHold}
 use Rattle.ft_laws.specs.Instances.{followed_by}
 use Rattle.ft_laws.proofs.LaterArguments.{statement_followed}

@@ -147,7 +147,8 @@ term_equation_boundary x y z = None
 abbrev pub at_arguments : List (ℕ × Statement) → Arguments → Statement → Statement
 at_arguments ps a b = act_statement free (instance_of ps a) b
 
--- the test that the theses are arguments for the premises: as many, and each fits its premise's boundary at their heads
+-- The test that the theses are arguments for the premises: as many, and each fits its premise's boundary at all their heads. Only
+-- the heads before it count there, since a boundary mentions only premises before its own.
 abbrev pub are_arguments : List (ℕ × Statement) → List Statement → Bool
 are_arguments ps xs = fit_all (at_arguments ps (heads xs)) ps xs
 
@@ -167,14 +168,18 @@ first_premises R xs = take (length xs) R.premises
 abbrev pub later_premises : Rule → List Statement → List (ℕ × Statement)
 later_premises R xs = drop (length xs) R.premises
 
--- the boundary of the next premise at the arguments a for the premises ps, or the conclusion's where no premise is left
+-- the boundary at the arguments a for the premises ps, where qs are left: the next premise's, or the conclusion's where none is
 abbrev pub next_boundary : Rule → List (ℕ × Statement) → Arguments → List (ℕ × Statement) → Statement
 next_boundary R ps a [] = plain (conclusion_at R a)
 next_boundary R ps a (q ∷ qs) = at_arguments ps a q.1
 
--- the next boundary after arguments for the first premises
+-- the boundary after as many premises as there are theses, at the arguments a
+abbrev pub boundary_after : Rule → List Statement → Arguments → Statement
+boundary_after R xs a = next_boundary R (first_premises R xs) a (later_premises R xs)
+
+-- the boundary after arguments for the first premises, at them
 abbrev pub boundary_instance : Rule → List Statement → Option Statement
-boundary_instance R xs = when (are_arguments (first_premises R xs) xs) (next_boundary R (first_premises R xs) (heads xs) (later_premises R xs))
+boundary_instance R xs = when (are_arguments (first_premises R xs) xs) (boundary_after R xs (heads xs))
 
 -- of an object rule r, the equation between its symbol at the arguments and at the right sides of equations that start at the
 -- arguments' heads, one for each object premise
@@ -182,20 +187,19 @@ abbrev pub congruence_of : ℕ → Rule → List Statement → List Statement �
 congruence_of r R xs es =
     when (is_object_goal R.conclusion && are_arguments R.premises xs && start_all xs es) (plain (equate_goal (conclusion_at R (heads xs)) (symbol r (heads xs)) (symbol r (right_heads xs es))))
 
--- the thesis y, which fits the next premise's boundary at the arguments a, with its head at that boundary at c
-abbrev pub moved_argument : List (ℕ × Statement) → Arguments → Arguments → List (ℕ × Statement) → Statement → Option Statement
-moved_argument ps a c [] y = None
-moved_argument ps a c (q ∷ qs) y = when (fits y (at_arguments ps a q.1)) (fill (at_arguments ps c q.1) (head y))
+-- Of arguments for the first premises of a rule, with equations that start at their heads: the thesis y, which fits the boundary
+-- after these premises at a, with its head at that boundary at c.
+abbrev pub moved : Rule → List Statement → List Statement → Arguments → Arguments → Statement → Option Statement
+moved R xs es a c y =
+    when (are_arguments (first_premises R xs) xs && start_all xs es && fits y (boundary_after R xs a)) (fill (boundary_after R xs c) (head y))
 
--- an argument for the premise after the given ones, moved from the arguments to the right sides of the equations
+-- a thesis of the boundary after such arguments, moved from the arguments to the right sides of the equations
 abbrev pub premise_conversion : Rule → List Statement → List Statement → Statement → Option Statement
-premise_conversion R xs es y = cond (are_arguments (first_premises R xs) xs && start_all xs es)
-    (moved_argument (first_premises R xs) (heads xs) (right_heads xs es) (later_premises R xs) y) None
+premise_conversion R xs es y = moved R xs es (heads xs) (right_heads xs es) y
 
 -- the same from the right sides to the arguments
 abbrev pub premise_conversion_back : Rule → List Statement → List Statement → Statement → Option Statement
-premise_conversion_back R xs es y = cond (are_arguments (first_premises R xs) xs && start_all xs es)
-    (moved_argument (first_premises R xs) (right_heads xs es) (heads xs) (later_premises R xs) y) None
+premise_conversion_back R xs es y = moved R xs es (right_heads xs es) (heads xs) y
 
 -- What an application tells of its arguments and its type.
 

@@ -121,7 +121,7 @@ in_terms (also t a) (suc i) p g = in_terms a i p g
 pub few_binders : (t : Expression) (i : ℕ) (p : Argument) → IsSmall t → slice_get (arguments_of t) i ≡ Some p → p.0 < 2 ^ 32
 few_binders (bound j) i p s g = none_some g
 few_binders (free v) i p s g = none_some g
-few_binders (symbol f a) i p s g = in_arguments a i p s.numbers g
+few_binders (symbol f a) i p s g = in_arguments a i p s.kept.2 g
 few_binders (meta m a) i p s g = in_terms a i p g
 
 -- room for what is below

@@ -1,14 +1,14 @@
 -- The checks of each call of the nucleus, in the order of its refusals. A call is a step with what it names, and what it gives
 -- is that step's row; only the refusals stand here.
-use Rattle.std.specs.Prelude.{ℕ, zero, Bool, true, false, cond, nat_eq, nat_lt, nat_le, not, ◌&&◌, Option, Some, None, is_some, List, [], ◌∷◌, ◌++◌, length}
+use Rattle.std.specs.Prelude.{ℕ, zero, Bool, true, false, cond, nat_eq, nat_le, not, ◌&&◌, Option, Some, None, is_some, List, [], ◌∷◌, ◌++◌, length}
 use Rattle.ft_theory.specs.Expressions.{Expression, bound, free, symbol, meta, Arguments}
 use Rattle.ft_theory.specs.Statements.{is_type, has_type, equal_types, equal_terms, Statement, plain, abstracted, domain_count}
 use Rattle.ft_theory.specs.Rules.{look_up, Rule, conclusion_at}
 use Rattle.ft_items.specs.Sets.{Atom, met, var}
 use Rattle.ft_items.specs.Equal.{is_object_goal, is_object, has_head, heads, right_heads}
 use Rattle.ft_items.specs.Item.{by_var, by_generic, by_meta, by_metacong, by_abs, by_subst, by_substeq, by_refl, by_sym, by_trans, by_conv, by_conveq, by_left, by_right, by_typeof, by_domain, by_boundary, by_widen, by_btype, by_bterm, by_beqty, by_beqtm, by_rule, by_rulewith, by_inst, by_cong, by_convprem, by_convback, by_arg, by_natural, by_metainst}
-use Rattle.ft_items.specs.Store.{Annotation, Resolved, premises_of, Declarations}
-use Rattle.ft_items.specs.Rows.{statements, bounds, rests_on, substitution, equal_substitution, symmetry, left_side, right_side, type_part, under_domains, first_domain, term_boundary, type_equation_boundary, applied_meta, meta_congruence, at_arguments, rule_instance, rule_instance_with, boundary_instance, congruence_of, first_premises, later_premises, arguments_of, from_one, argument, natural_type, instantiated}
+use Rattle.ft_items.specs.Store.{Annotation, Declarations, Resolved, premises_of}
+use Rattle.ft_items.specs.Rows.{statements, bounds, rests_on, substitution, equal_substitution, symmetry, left_side, right_side, type_part, under_domains, first_domain, term_boundary, type_equation_boundary, applied_meta, meta_congruence, at_arguments, rule_instance, rule_instance_with, boundary_after, boundary_instance, congruence_of, first_premises, arguments_of, from_one, argument, natural_type, instantiated}
 use Rattle.ft_reference.specs.Refusals.{WrongForm, NotAbstracted, DependentVariable, ArgumentCount, NotApplication, Check, asks, forms, forms_statement, forms_result, count_check, none_check}
 use Rattle.ft_reference.specs.Compare.{type_check, side_check, boundary_checks, fit_checks, argument_checks, head_count, equation_checks, term_checks, pair_checks}
 
@@ -88,24 +88,23 @@ instance_checks R xs =
 abbrev pub congruence_checks : ℕ → Rule → List Statement → List Statement → List Check
 congruence_checks r R xs es = asks (is_object_goal R.conclusion) WrongForm ∷ (rule_checks r R xs ++ (all_equation_checks xs es ++ forms_result (congruence_of r R xs es)))
 
--- the next premise's boundary at a, which the thesis is to fit; that boundary at c
-abbrev pub moved_checks : List (ℕ × Statement) → Arguments → Arguments → List (ℕ × Statement) → Statement → List Check
-moved_checks ps a c [] y = []
-moved_checks ps a c (q ∷ qs) y = forms_statement (at_arguments ps a q.1) ++ (fit_checks y (at_arguments ps a q.1) ++ forms_statement (at_arguments ps c q.1))
-
--- fewer theses than premises; arguments for the first premises; equations
-abbrev pub before_premise_checks : Rule → List Statement → List Statement → List Check
-before_premise_checks R xs es =
-    asks (nat_lt (length xs) (length R.premises)) (ArgumentCount (length xs) (length R.premises))
+-- no more theses than premises; arguments for the first premises; equations
+abbrev pub equal_argument_checks : Rule → List Statement → List Statement → List Check
+equal_argument_checks R xs es =
+    asks (nat_le (length xs) (length R.premises)) (ArgumentCount (length xs) (length R.premises))
     ∷ (first_argument_checks R xs ++ all_equation_checks xs es)
 
--- all these, and the argument that is moved from the arguments to the right sides
+-- the boundary after the premises at a, which the thesis is to fit; that boundary at c
+abbrev pub moved_checks : Rule → List Statement → Arguments → Arguments → Statement → List Check
+moved_checks R xs a c y = forms_statement (boundary_after R xs a) ++ (fit_checks y (boundary_after R xs a) ++ forms_statement (boundary_after R xs c))
+
+-- all these, and the thesis that is moved from the arguments to the right sides
 abbrev pub premise_checks : Rule → List Statement → List Statement → Statement → List Check
-premise_checks R xs es y = before_premise_checks R xs es ++ moved_checks (first_premises R xs) (heads xs) (right_heads xs es) (later_premises R xs) y
+premise_checks R xs es y = equal_argument_checks R xs es ++ moved_checks R xs (heads xs) (right_heads xs es) y
 
 -- the same from the right sides to the arguments
 abbrev pub premise_back_checks : Rule → List Statement → List Statement → Statement → List Check
-premise_back_checks R xs es y = before_premise_checks R xs es ++ moved_checks (first_premises R xs) (right_heads xs es) (heads xs) (later_premises R xs) y
+premise_back_checks R xs es y = equal_argument_checks R xs es ++ moved_checks R xs (right_heads xs es) (heads xs) y
 
 -- Metavariables.
 

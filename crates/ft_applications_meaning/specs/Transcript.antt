@@ -5,13 +5,13 @@ use Rattle.std.specs.List.{list_all}
 use Rattle.ft_theory.specs.Statements.{Claim, plain}
 use Rattle.ft_theory.specs.Rules.{Rule}
 use Rattle.ft_theory.specs.Steps.{Prim}
+use Rattle.ft_items.specs.Lines.{line_feed}
 use Rattle.ft_grammar.specs.Tokens.{tokens_of}
-use Rattle.ft_applications.specs.declared.syntax.Command.{Command}
-use Rattle.ft_applications.specs.Reading.{kinds}
-use Rattle.ft_applications.specs.Grammar.{AreCommands}
-use Rattle.ft_applications.specs.Texts.{name_text, claim_text}
-use Rattle.ft_applications.specs.Building.{theory, names}
-use Rattle.ft_applications.specs.Events.{Event, accepts, repeats, shows, events, run_of}
+use Rattle.ft_applications_meaning.specs.declared.syntax.Command.{Command}
+use Rattle.ft_applications_meaning.specs.Grammar.{kinds, AreCommands}
+use Rattle.ft_applications_meaning.specs.Texts.{name_text, claim_text}
+use Rattle.ft_applications_meaning.specs.Building.{theory, names}
+use Rattle.ft_applications_meaning.specs.Events.{Event, accepts, repeats, shows, events, run_of}
 
 -- a letter or a digit of ASCII, a space, a line feed, a parenthesis or a colon
 abbrev pub is_plain_character : ℕ → Bool
@@ -23,10 +23,6 @@ is_plain_character c =
 pub record IsPlainSource (bytes : List ℕ) (cs : List Command) : Type 0 where
   pub characters : list_all is_plain_character bytes ≡ true
   pub grammar : AreCommands cs (kinds (tokens_of (chars bytes)))
-
--- a line feed
-abbrev pub line_feed : List ℕ
-line_feed = 10 ∷ []
 
 -- the line of an accepted rule
 abbrev pub accepted_line : List ℕ → List ℕ

@@ -1,13 +1,12 @@
 -- What `check` writes for a derivation file, with its status.
-use Rattle.std.specs.Prelude.{ℕ, List, ◌++◌, codes}
+use Rattle.std.specs.Prelude.{ℕ, Bool, List, ◌++◌, codes}
 use Rattle.std.specs.Fmt.{decimal}
-use Rattle.ft_base.specs.Names.{is_name_token}
-use Rattle.ft_items.specs.Item.{Item}
+use Rattle.ft_items.specs.Item.{Name, Item}
 use Rattle.ft_items.specs.Good.{Reject, Reference, Kind, Premise, Conclusion, Set, Named, Number, Many, Loose, Verdict, Accepted, Rejected}
 use Rattle.ft_items.specs.Texts.{IsTextOf}
 use Rattle.ft_items.specs.Faults.{Fault, Form, Version, HasFault}
-use Rattle.ft_applications.specs.Transcript.{line_feed}
-use Rattle.ft_check.specs.Built.{verdict_built}
+use Rattle.ft_items.specs.Lines.{line_feed}
+use Rattle.ft_items.specs.Built.{verdict_built}
 
 -- the word of a reason
 abbrev pub reason_word : Reject → List ℕ
@@ -37,7 +36,8 @@ abbrev pub fault_line : Fault → List ℕ
 fault_line (Form n) = codes "error line " ++ decimal n ++ codes " form" ++ line_feed
 fault_line (Version n) = codes "error line " ++ decimal n ++ codes " version" ++ line_feed
 
--- What `check` writes for a file, with its status: the verdict on its items, or its fault.
-pub data IsVerdict (bytes : List ℕ) : List ℕ → ℕ → Type 0 where
-  of_items : (items : List Item) → IsTextOf is_name_token bytes items → IsVerdict bytes (verdict_line (verdict_built items)) (verdict_status (verdict_built items))
-  of_fault : (f : Fault) → HasFault is_name_token bytes f → IsVerdict bytes (fault_line f) 16
+-- What `check` writes for a file, with its status: the verdict on its items, or its fault. `is_name` tells the names.
+pub data IsVerdict (is_name : Name → Bool) (bytes : List ℕ) : List ℕ → ℕ → Type 0 where
+  of_items : (items : List Item) → IsTextOf is_name bytes items
+      → IsVerdict is_name bytes (verdict_line (verdict_built items)) (verdict_status (verdict_built items))
+  of_fault : (f : Fault) → HasFault is_name bytes f → IsVerdict is_name bytes (fault_line f) 16

@@ -8,7 +8,7 @@ use Rattle.ft_answers.specs.declared.words.Job.TheVariants as job
 use Rattle.ft_answers.specs.Words.{IsAsked, IsNoJob, limit}
 use Rattle.ft_answers.specs.Statuses.{usage_line, read_line, too_long_line, line_for}
 use Rattle.ft_answers.specs.Exports.{IsExport, BreaksOff}
-use Rattle.ft_items.specs.Verdicts.{IsVerdict}
+use Rattle.ft_verdicts.specs.Verdicts.{IsVerdict}
 
 -- what a job writes for an input, with its status
 abbrev pub IsText : Job → List ℕ → List ℕ → ℕ → Type 0

@@ -1,8 +1,7 @@
 -- The statuses of a call, with their lines.
 use Rattle.std.specs.Prelude.{ℕ, ◌≡◌, ◌<◌, ◌+◌, ◌⊎◌, ◌++◌, List, [], codes, Option}
 use Rattle.ft_streams.specs.Streams.{Rose, Appends, AppendsPrefix, greatest_count}
-use Rattle.ft_items.specs.Lines.{line_feed}
-use Rattle.ft_applications_meaning.specs.Transcript.{not_yet_line}
+use Rattle.ft_applications_meaning.specs.Transcript.{line_feed, not_yet_line}
 use Rattle.ft_answers.specs.declared.words.Job.{Job}
 use Rattle.ft_answers.specs.declared.words.Job.TheVariants as job
 use Rattle.ft_answers.specs.declared.status.Status.{Status}

@@ -5,7 +5,6 @@ use Rattle.std.specs.List.{list_all}
 use Rattle.ft_theory.specs.Statements.{Claim, plain}
 use Rattle.ft_theory.specs.Rules.{Rule}
 use Rattle.ft_theory.specs.Steps.{Prim}
-use Rattle.ft_items.specs.Lines.{line_feed}
 use Rattle.ft_grammar.specs.Tokens.{tokens_of}
 use Rattle.ft_applications_meaning.specs.declared.syntax.Command.{Command}
 use Rattle.ft_applications_meaning.specs.Grammar.{kinds, AreCommands}
@@ -23,6 +22,10 @@ is_plain_character c =
 pub record IsPlainSource (bytes : List ℕ) (cs : List Command) : Type 0 where
   pub characters : list_all is_plain_character bytes ≡ true
   pub grammar : AreCommands cs (kinds (tokens_of (chars bytes)))
+
+-- a line feed
+abbrev pub line_feed : List ℕ
+line_feed = 10 ∷ []
 
 -- the line of an accepted rule
 abbrev pub accepted_line : List ℕ → List ℕ

@@ -4,10 +4,11 @@ use Rattle.std.specs.Prelude.{Ok, Err, List, option_map}
 use Rattle.ft_theory.specs.Statements.{Statement}
 use Rattle.ft_items.specs.Sets.{Atom}
 use Rattle.ft_items.specs.Item.{Stated}
-use Rattle.ft_items.specs.Store.{Assertion, Store, Resolved, empty_store, store_of, entry_named, resolve, with_one, with_two, with_three, nth}
+use Rattle.ft_items.specs.Store.{Assertion, Store, Resolved, empty_store, store_of, entry_named, resolve, with_one, with_two, with_three}
 use Rattle.ft_items.specs.Rows.{conclusion, result_set}
 use Rattle.ft_items.specs.Good.{of_kind, given}
 use Rattle.ft_items.proofs.Lists.{entries_all}
+use Rattle.ft_items.specs.Store.{nth}
 use Rattle.ft_reference.specs.Checks.{checks}
 use Rattle.ft_reference.specs.Calls.{answered}
 use Rattle.ft_judge.specs.declared.fault.Refusal.{Refusal}

@@ -6,13 +6,14 @@ use Rattle.ft_theory.specs.Small.{IsSmall}
 use Rattle.ft_theory.specs.Statements.{Statement}
 use Rattle.ft_theory.specs.Rules.{instance_of}
 use Rattle.ft_items.specs.Equal.{equal_expressions}
-use Rattle.ft_sound.proofs.EqualLemmas.{expression_true, by_equal}
+use Rattle.ft_sound.proofs.EqualLemmas.{expression_true}
 use Rattle.ft_syntax.specs.Arguments.{with_argument}
 use Rattle.ft_syntax.specs.Laws.{instance_extends, tree_extends}
 use Rattle.ft_syntax.specs.Instances.{body_for, instance_in, PairsBelow}
 use Rattle.ft_syntax.specs.Table.{tree, Extends, arguments_in}
 use Rattle.ft_syntax.specs.declared.syntax.Arg.{Arg}
 use Rattle.ft_check.specs.Comparing.{paired}
+use Rattle.ft_sound.proofs.EqualLemmas.{by_equal}
 
 -- What is found is small, and so no instance that is not.
 pub too_big_differs : (e f : Expression) → IsSmall e → (IsSmall f → ⊥) → false ≡ equal_expressions e f

@@ -1,5 +1,5 @@
 -- The same for the rules of commands that have premises.
-use Rattle.std.proofs.Common.{◌≡◌, refl, ℕ, Bool, true, false, ◌&&◌, List, [], ◌∙◌, sym, ap, ◌⊎◌, inl, inr, append_assoc, if◌then◌else◌, ◌∷◌, ◌++◌, length, drop, Ok, Some, None, zero, suc}
+use Rattle.std.proofs.Common.{◌≡◌, refl, ℕ, Bool, true, false, ◌&&◌, List, []}
 use Rattle.std.proofs.lemmas.Bool.{and_parts}
 use Rattle.ft_common.proofs.Booleans.{false_true}
 use Rattle.ft_common.proofs.Options.{none_some}
@@ -9,17 +9,20 @@ use Rattle.ft_grammar.specs.declared.token.Kind.{Kind}
 use Rattle.ft_grammar.specs.declared.token.Kind.TheVariants as kind
 use Rattle.ft_grammar.specs.declared.syntax.Ast.{Ast}
 use Rattle.ft_grammar.specs.declared.syntax.Ast.TheVariants as ast
-use Rattle.ft_grammar.specs.Rules.{expression, is_word, is_mark, is_name, exactly, Is, worded}
+use Rattle.ft_grammar.specs.Rules.{expression, is_word, is_mark, is_name, exactly}
 use Rattle.ft_grammar.specs.Forms.{plain_type, word_pattern, word_expression, one_form, two_form, begins_one, begins_two, begins_atom, begins_pattern_atom, is_no_end}
 use Rattle.ft_grammar.specs.Grammar.{IsPart, atom, call, application, list_expression, any_expression, binder, type_body, term_body, equation_type, equation_body, any_body, premise, type_conclusion, term_conclusion, any_conclusion, rule_command, let_command, operation_command, computation_command, extensionality_command, show_command, any_command, commands}
 use Rattle.ft_grammar_laws.proofs.EveryKind.{within, apart}
 use Rattle.ft_grammar_laws.proofs.Follow.{begins, follows, anything, after_expression, is_right_paren, is_end, after_command, begins_body, begins_conclusion}
-use Rattle.ft_grammar_laws.proofs.Complete.{Fits, shrink, has_name, ends, ReadsBack, Within}
+use Rattle.ft_grammar_laws.proofs.Complete.{Fits, shrink}
+use Rattle.std.proofs.Common.{◌∙◌, sym, ap, ◌⊎◌, inl, inr, append_assoc, if◌then◌else◌, ◌∷◌, ◌++◌, length, drop, Ok, Some, None, zero, suc}
 use Rattle.ft_base.specs.declared.name.Name.{Name}
 use Rattle.ft_base.specs.declared.word.Word.{Word}
 use Rattle.ft_grammar.specs.declared.token.Token.{Token}
 use Rattle.ft_grammar.specs.declared.syntax.Body.{Body}
+use Rattle.ft_grammar.specs.Rules.{Is, worded}
 use Rattle.ft_grammar.specs.Reading.{level, read, kind_of, read_name, too_nested}
+use Rattle.ft_grammar_laws.proofs.Complete.{has_name, ends, ReadsBack, Within}
 use Rattle.ft_grammar_laws.proofs.Cases.{ok_rest}
 use Rattle.ft_grammar_laws.proofs.FitRules.{fits_binder, fits_type_body, fits_term_body, fits_equation_body, fits_any_conclusion, fits_let_command, fits_operation_command, fits_computation_command, fits_extensionality_command, fits_show_command}
 

@@ -4,10 +4,6 @@ use Rattle.std.specs.Str.{encode_utf8_all}
 use Rattle.ft_items.specs.Item.{Name, Item}
 use Rattle.ft_items.specs.Texts.{ItemFits, line_text}
 
--- a line feed
-abbrev pub line_feed : List ℕ
-line_feed = 10 ∷ []
-
 -- the lines with a byte more at the start of the first one
 abbrev pub onto_first : ℕ → List (List ℕ) → List (List ℕ)
 onto_first b [] = (b ∷ []) ∷ []

@@ -3,7 +3,7 @@ use Rattle.std.proofs.Common.{◌≡◌, ◌≢◌, ℕ, ◌+◌, ◌<◌, max, 
 use Rattle.std.proofs.lemmas.List.{map-append, append-nil}
 use Rattle.ft_theory.specs.Expressions.{Expression}
 use Rattle.ft_items.specs.Item.{Name, Item, variable, metavariable, rule, entry, shown}
-use Rattle.ft_items.specs.Store.{variables_in, rules_in, Annotation}
+use Rattle.ft_items.specs.Store.{variables_in, rules_in}
 use Rattle.ft_items.proofs.SetLemmas.{both, wrong}
 use Rattle.ft_kernel.specs.State.{next_number, rule_names}
 use Rattle.ft_kernel.specs.Lines.{item_in, items_in, ContentBelow, AllLinesBelow, is_rule, places, place_if_numbered, place_numbered, AreNumbered}
@@ -13,6 +13,7 @@ use Rattle.ft_kernel.specs.declared.line.Line.{Line}
 use Rattle.ft_kernel.specs.declared.item.VarItem.{VarItem}
 use Rattle.ft_kernel.specs.declared.item.RuleItem.{RuleItem}
 use Rattle.std.proofs.lemmas.Bool.{eq-eqb, ltb-true, ne_eqb}
+use Rattle.ft_items.specs.Store.{Annotation}
 use Rattle.ft_items.specs.Good.{is_next}
 use Rattle.std.proofs.lemmas.Bool.Decides.{eqb_tells}
 

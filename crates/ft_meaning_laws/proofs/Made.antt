@@ -3,13 +3,14 @@ use Rattle.std.proofs.Common.{◌≡◌, ℕ, zero, suc, Bool, true, false, cond
 use Rattle.ft_items.specs.Equal.{is_thesis}
 use Rattle.ft_items.specs.Item.{Name, Item}
 use Rattle.ft_items.specs.Store.{Assertion, Store, nth, add, empty_store, store_of}
-use Rattle.ft_items.specs.Good.{is_next, equal_names}
+use Rattle.ft_items.specs.Good.{is_next}
 use Rattle.ft_items.proofs.Lists.{store_last}
 use Rattle.ft_equality.specs.Programs.{spend_from}
 use Rattle.ft_meaning.specs.Values.{Value, judgement, boundary, unit, truth, pair, nil, cons, none, some, Environment, State, End, performs, halts, Halt, stuck, Outcome, Run, ◌>>=◌, ◌>>◌, pure, end, halt, the, settled, spend, as_judgement, as_judgements}
 use Rattle.ft_meaning.specs.Stages.{Stage}
 use Rattle.ft_meaning.specs.Values as values
 use Rattle.ft_meaning.specs.Names.{named}
+use Rattle.ft_items.specs.Good.{equal_names}
 use Rattle.ft_meaning_laws.proofs.Bare.{bare}
 use Rattle.ft_meaning_laws.proofs.Grows.{GrowsStore, grows_last, Quiet, quiet_self, quiet_then, next_later}
 use Rattle.ft_meaning_laws.proofs.Lists.{IsSound, AreAccepted, accepted_later}

@@ -20,8 +20,7 @@ use Rattle.ft_applications_meaning.specs.declared.syntax.Command.TheVariants as 
 use Rattle.ft_applications_meaning.specs.Building.{Declaration, theory, names, metavariable_count, claim_of, declared, with_rule}
 use Rattle.ft_applications_meaning.specs.Events.{Event, accepts, repeats, shows, event_of_rule, done, events}
 use Rattle.ft_applications_meaning.specs.Texts.{name_text, claim_text}
-use Rattle.ft_items.specs.Lines.{line_feed}
-use Rattle.ft_applications_meaning.specs.Transcript.{accepted_line, repeated_line, shown_line, text_of, status_of, shown_in, AllDerivable}
+use Rattle.ft_applications_meaning.specs.Transcript.{line_feed, accepted_line, repeated_line, shown_line, text_of, status_of, shown_in, AllDerivable}
 use Rattle.ft_applications_meaning.specs.Histories.{told, told_in, told_in_run, told_shown, states}
 use Rattle.ft_judge.specs.Meaning.{claim_in}
 use Rattle.ft_judge.specs.declared.judgement.Form.{Form}

@@ -15,8 +15,8 @@ use Rattle.ft_applications_meaning.specs.Events.{Event, events}
 use Rattle.ft_applications_meaning.specs.Transcript.{IsPlainSource, IsTranscript, text_of, status_of}
 use Rattle.ft_applications_meaning.specs.Histories.{IsDerivationOf}
 use Rattle.ft_run.specs.Steps.{IsStepOfApplications, AllOfApplications}
-use Rattle.ft_items.specs.Built.{is_built, AllBuilt, verdict_built, BuiltIsVerdict, AcceptedIsAccepted}
-use Rattle.ft_items.specs.Verdicts.{IsVerdict, verdict_line, verdict_status, fault_line}
+use Rattle.ft_verdicts.specs.Built.{is_built, AllBuilt, verdict_built, BuiltIsVerdict, AcceptedIsAccepted}
+use Rattle.ft_verdicts.specs.Verdicts.{IsVerdict, verdict_line, verdict_status, fault_line}
 use Rattle.ft_answers.specs.Exports.{IsExport}
 use Rattle.ft_top.specs.Laws.{IsAccepted, Headline, AcceptedIsDerivable, OneVerdict}
 use Rattle.ft_top.proofs.Stating.{shown_derivable}

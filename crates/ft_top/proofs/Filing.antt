@@ -5,9 +5,9 @@ use Rattle.ft_items.specs.Item.{Item}
 use Rattle.ft_items.specs.Good.{Verdict}
 use Rattle.ft_items.specs.Texts.{IsTextOf}
 use Rattle.ft_items.specs.Faults.{Fault, Form, Version, HasFault}
-use Rattle.ft_items.specs.Lines.{line_feed}
-use Rattle.ft_items.specs.Built.{verdict_built}
-use Rattle.ft_items.specs.Verdicts.{IsVerdict, verdict_line, verdict_status, fault_line}
+use Rattle.ft_applications_meaning.specs.Transcript.{line_feed}
+use Rattle.ft_verdicts.specs.Built.{verdict_built}
+use Rattle.ft_verdicts.specs.Verdicts.{IsVerdict, verdict_line, verdict_status, fault_line}
 
 pub items_text : (bs text : List ℕ) (items : List Item) (v : Verdict) (n : ℕ) → IsTextOf is_name_token bs items → v ≡ verdict_built items → text ≡ verdict_line v → n ≡ verdict_status v
     → IsVerdict is_name_token bs text n

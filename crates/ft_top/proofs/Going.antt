@@ -4,7 +4,7 @@ use Rattle.ft_common.proofs.Options.{none_some, one_value}
 use Rattle.ft_base.specs.Names.{is_name_token}
 use Rattle.ft_items.specs.Item.{Item}
 use Rattle.ft_items.specs.Good.{counts}
-use Rattle.ft_items.specs.Built.{BuiltIsVerdict}
+use Rattle.ft_verdicts.specs.Built.{BuiltIsVerdict}
 use Rattle.ft_items.specs.Texts.{IsTextOf, text_of as file_of}
 use Rattle.ft_sound.specs.Soundness.{GoodAreAccepted}
 use Rattle.ft_streams.specs.Streams.{Appends, AppendsPrefix, IsAtEnd}
@@ -25,7 +25,7 @@ use Rattle.ft_answers.specs.declared.status.Status.TheVariants as status
 use Rattle.ft_answers.specs.Words.{limit, ReadsSource}
 use Rattle.ft_answers.specs.Statuses.{IsOfInput, Ends, read_line, too_long_line, line_for, line_of, number_of}
 use Rattle.ft_top.specs.Causes.{IsCauseOfReading, status_of_running}
-use Rattle.ft_items.specs.Verdicts.{IsVerdict}
+use Rattle.ft_verdicts.specs.Verdicts.{IsVerdict}
 use Rattle.ft_answers.specs.Exports.{IsExport, BreaksOff}
 use Rattle.ft_answers.specs.Answer.{IsText}
 use Rattle.ft_top.specs.Calls.{IsNotBuilt, ShowsDerivable, IsRun, WritesFile, IsCause, IsKnown, IsOfBytes, IsBegun, IsLeft, IsCall}

@@ -8,12 +8,12 @@ use Rattle.ft_items.specs.Texts.{IsTextOf}
 use Rattle.ft_items.specs.Faults.{Fault, HasFault}
 use Rattle.ft_sound.specs.Soundness.{EachEntry}
 use Rattle.ft_streams.specs.Streams.{Appends}
-use Rattle.ft_items.specs.Built.{verdict_built}
+use Rattle.ft_verdicts.specs.Built.{verdict_built}
 use Rattle.ft_answers.specs.declared.words.Job.{Job}
 use Rattle.ft_answers.specs.declared.words.Job.TheVariants as job
 use Rattle.ft_answers.specs.Words.{IsAsked, limit, ReadsSource}
 use Rattle.ft_answers.specs.Statuses.{number_of}
-use Rattle.ft_items.specs.Verdicts.{IsVerdict, verdict_line, verdict_status}
+use Rattle.ft_verdicts.specs.Verdicts.{IsVerdict, verdict_line, verdict_status}
 use Rattle.ft_answers.specs.Exports.{IsExport}
 use Rattle.ft_answers.specs.Answer.{IsText}
 use Rattle.ft_top.specs.Calls.{IsAcceptedExport, IsKnown, IsCall}

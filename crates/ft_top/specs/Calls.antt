@@ -5,7 +5,7 @@ use Rattle.ft_base.specs.Names.{is_name_token}
 use Rattle.ft_items.specs.Item.{Item}
 use Rattle.ft_items.specs.Good.{Counts, Accepted}
 use Rattle.ft_items.specs.Texts.{IsTextOf, text_of as file_of}
-use Rattle.ft_items.specs.Verdicts.{IsVerdict, verdict_line}
+use Rattle.ft_verdicts.specs.Verdicts.{IsVerdict, verdict_line}
 use Rattle.ft_streams.specs.Streams.{Rose, Appends, AppendsPrefix, IsAtEnd}
 use Rattle.ft_applications_meaning.specs.declared.syntax.Command.{Command}
 use Rattle.ft_applications_meaning.specs.Events.{Event, events}

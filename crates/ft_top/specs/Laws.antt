@@ -10,8 +10,8 @@ use Rattle.ft_applications_meaning.specs.declared.syntax.Command.{Command}
 use Rattle.ft_applications_meaning.specs.Events.{Event, events}
 use Rattle.ft_applications_meaning.specs.Transcript.{IsPlainSource, IsTranscript, AllDerivable, shown_in, text_of, status_of}
 use Rattle.ft_applications_meaning.specs.Histories.{IsDerivationOf}
-use Rattle.ft_items.specs.Built.{AllBuilt, verdict_built}
-use Rattle.ft_items.specs.Verdicts.{IsVerdict, verdict_line}
+use Rattle.ft_verdicts.specs.Built.{AllBuilt, verdict_built}
+use Rattle.ft_verdicts.specs.Verdicts.{IsVerdict, verdict_line}
 use Rattle.ft_answers.specs.Exports.{IsExport}
 
 -- The bytes are the text of a derivation of these events: each of its entries is derivable, and so is each thesis shown. Its verdict

@@ -5,7 +5,7 @@ ghost use Rattle.ft_streams.specs.Streams.{Rose, IsAtEnd};
 ghost use Rattle.ft_answers.specs.declared.words.Job.TheVariants as asked;
 ghost use Rattle.ft_base.specs.Names.{is_name_token};
 ghost use Rattle.ft_items.specs.Texts.{IsTextOf};
-ghost use Rattle.ft_items.specs.Verdicts.{IsVerdict};
+ghost use Rattle.ft_verdicts.specs.Verdicts.{IsVerdict};
 ghost use Rattle.ft_answers.specs.Statuses.{IsOfInput, number_of};
 ghost use Rattle.ft_top.specs.Calls.{IsCause, IsOfBytes, IsCall};
 

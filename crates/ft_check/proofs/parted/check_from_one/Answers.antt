@@ -1,6 +1,7 @@
-use Rattle.std.proofs.Common.{◌≡◌, Some, length, sym, subst, take}
+use Rattle.std.proofs.Common.{◌≡◌, Some, length, sym, subst}
 use Rattle.std.specs.Prelude.{option_map}
 use Rattle.ft_items.specs.Store.{entry_named, store_of}
+use Rattle.std.proofs.Common.{take}
 use Rattle.ft_items.specs.Good.{reason_of_result}
 use Rattle.ft_steps.specs.Parts.{statement_in, PartsBelow}
 use Rattle.ft_steps.specs.Rows.{from_one}

@@ -1,7 +1,8 @@
-use Rattle.std.proofs.Common.{◌≡◌, ◌∙◌, Some, length, sym, ap₂, subst, take}
+use Rattle.std.proofs.Common.{◌≡◌, ◌∙◌, Some, length, sym, ap₂, subst}
 use Rattle.std.specs.Prelude.{option_map}
 use Rattle.ft_items.specs.Sets.{union}
 use Rattle.ft_items.specs.Store.{entry_named, store_of}
+use Rattle.std.proofs.Common.{take}
 use Rattle.ft_items.specs.Good.{reason_of_result}
 use Rattle.ft_steps.specs.Parts.{statement_in, PartsBelow}
 use Rattle.ft_steps.specs.Rows.{from_two}

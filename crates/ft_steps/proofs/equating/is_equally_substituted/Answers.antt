@@ -1,6 +1,7 @@
-use Rattle.std.proofs.Common.{rules, ◌<◌, ◌≡◌, ◌≢◌, true, false, [], length, drop, ap, ◌∙◌, ℕ, List}
+use Rattle.std.proofs.Common.{rules, ◌<◌, ◌≡◌, ◌≢◌, true, false, [], length, drop, ap, ◌∙◌}
 use Rattle.ft_syntax.specs.Laws.{one_below}
 use Rattle.ft_steps.specs.Parts.{claim_in, statement_in}
+use Rattle.std.proofs.Common.{ℕ, List}
 use Rattle.ft_items.specs.Equal.{equal_claims}
 use Rattle.ft_syntax.specs.Table.{tree}
 use Rattle.ft_steps.specs.Moving.{domains_moved, equated}

@@ -1,6 +1,7 @@
-use Rattle.std.proofs.Common.{rules, ◌≡◌, [], refl}
+use Rattle.std.proofs.Common.{rules, ◌≡◌, []}
 use Rattle.ft_items.specs.Rows.{term_equation_boundary}
 use Rattle.ft_steps.specs.Parts.{plain_in, statement_in}
+use Rattle.std.proofs.Common.{refl}
 use Rattle.ft_steps.proofs.Concluding.{no_length, no_others, some_others, terms_second, terms_third}
 use Rattle.ft_steps.proofs.rows.from_three.Goals as goal
 

@@ -5,8 +5,7 @@ use Rattle.ft_items.specs.Item.{Name, Item}
 use Rattle.ft_items.specs.Good.{Reject, Reference, Kind, Premise, Conclusion, Set, Named, Number, Many, Loose, Verdict, Accepted, Rejected}
 use Rattle.ft_items.specs.Texts.{IsTextOf}
 use Rattle.ft_items.specs.Faults.{Fault, Form, Version, HasFault}
-use Rattle.ft_items.specs.Lines.{line_feed}
-use Rattle.ft_items.specs.Built.{verdict_built}
+use Rattle.ft_verdicts.specs.Built.{verdict_built}
 
 -- the word of a reason
 abbrev pub reason_word : Reject → List ℕ
@@ -23,8 +22,8 @@ reason_word Loose = codes "loose"
 -- the line of a verdict: accepted with the counts, or rejected with the item's number and the reason
 abbrev pub verdict_line : Verdict → List ℕ
 verdict_line (Accepted c) =
-    codes "accepted " ++ decimal c.rules ++ codes " rules, " ++ decimal c.entries ++ codes " entries, " ++ decimal c.shown ++ codes " shown, level " ++ decimal c.level ++ line_feed
-verdict_line (Rejected k why) = codes "rejected " ++ decimal k ++ codes " " ++ reason_word why ++ line_feed
+    codes "accepted " ++ decimal c.rules ++ codes " rules, " ++ decimal c.entries ++ codes " entries, " ++ decimal c.shown ++ codes " shown, level " ++ decimal c.level ++ codes "\n"
+verdict_line (Rejected k why) = codes "rejected " ++ decimal k ++ codes " " ++ reason_word why ++ codes "\n"
 
 -- the status of a verdict
 abbrev pub verdict_status : Verdict → ℕ
@@ -33,8 +32,8 @@ verdict_status (Rejected k why) = 15
 
 -- the line of a file's fault
 abbrev pub fault_line : Fault → List ℕ
-fault_line (Form n) = codes "error line " ++ decimal n ++ codes " form" ++ line_feed
-fault_line (Version n) = codes "error line " ++ decimal n ++ codes " version" ++ line_feed
+fault_line (Form n) = codes "error line " ++ decimal n ++ codes " form\n"
+fault_line (Version n) = codes "error line " ++ decimal n ++ codes " version\n"
 
 -- What `check` writes for a file, with its status: the verdict on its items, or its fault. `is_name` tells the names.
 pub data IsVerdict (is_name : Name → Bool) (bytes : List ℕ) : List ℕ → ℕ → Type 0 where

@@ -1,5 +1,5 @@
 -- What commands that are left to be run do.
-use Rattle.std.specs.Prelude.{◌≡◌, List, ◌++◌, Option, option_map}
+use Rattle.std.specs.Prelude.{◌≡◌, List, ◌++◌, option_map}
 use Rattle.ft_applications_meaning.specs.declared.syntax.Command.{Command}
 use Rattle.ft_applications_meaning.specs.Building.{Declaration}
 use Rattle.ft_applications_meaning.specs.Events.{Event, events}

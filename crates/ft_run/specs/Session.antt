@@ -1,10 +1,9 @@
 -- What a session stands for: the state of its kernel, and the declarations of the language of applications.
 use Rattle.std.specs.Prelude.{ℕ, suc, ◌≡◌, List, [], ◌∷◌, ◌++◌, map, length, Some}
 use Rattle.ft_theory.specs.Expressions.{Expression, bound, free, symbol, meta, Arguments, no_arguments, with_body, dummy}
-use Rattle.ft_theory.specs.Statements.{Claim, is_type, has_type, equal_types, equal_terms, type_goal, term_goal, type_equation_goal, term_equation_goal, Statement, plain, abstracted}
-use Rattle.ft_theory.specs.Rules.{Rule}
+use Rattle.ft_theory.specs.Statements.{Claim, is_type, has_type, equal_types, equal_terms, type_goal, term_goal, type_equation_goal, term_equation_goal, Statement, plain}
 use Rattle.ft_items.specs.Item.{Item, Entry, entry}
-use Rattle.ft_items.specs.Store.{Assertion, Declared, nth, store_of, entries_in, metavariables_in}
+use Rattle.ft_items.specs.Store.{Declared, nth, store_of, entries_in, metavariables_in}
 use Rattle.ft_judge.specs.Meaning.{claim_in, goal_in, FormBelow, GoalBelow}
 use Rattle.ft_judge.specs.declared.judgement.Goal.{Goal}
 use Rattle.ft_kernel.specs.State.{State}

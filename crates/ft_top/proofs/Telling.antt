@@ -1,9 +1,9 @@
 -- What a verdict tells of its file, and an export of its source.
-use Rattle.std.proofs.Common.{◌≡◌, ◌∙◌, sym, ap, refl, subst, ℕ, ◌≤◌, ◌⊎◌, List, length, Option, Some, IfSome, arith, inl, inr}
+use Rattle.std.proofs.Common.{◌≡◌, ◌∙◌, sym, ap, refl, subst, ℕ, ◌⊎◌, List, Option, Some, IfSome, arith, inl, inr}
 use Rattle.ft_base.specs.Names.{is_name_token}
 use Rattle.ft_items.specs.Item.{Item, Entry}
 use Rattle.ft_items.specs.Store.{Derivable}
-use Rattle.ft_items.specs.Good.{Reject, Counts, counts, Verdict, Accepted, Rejected}
+use Rattle.ft_items.specs.Good.{Reject, Counts, Verdict, Accepted, Rejected}
 use Rattle.ft_items.specs.Texts.{IsTextOf}
 use Rattle.ft_items.specs.Faults.{Fault, HasFault}
 use Rattle.ft_sound.specs.Soundness.{EachEntry}
@@ -11,8 +11,7 @@ use Rattle.ft_streams.specs.Streams.{Appends}
 use Rattle.ft_verdicts.specs.Built.{verdict_built}
 use Rattle.ft_answers.specs.declared.words.Job.{Job}
 use Rattle.ft_answers.specs.declared.words.Job.TheVariants as job
-use Rattle.ft_answers.specs.Words.{IsAsked, limit, ReadsSource}
-use Rattle.ft_answers.specs.Statuses.{number_of}
+use Rattle.ft_answers.specs.Words.{IsAsked}
 use Rattle.ft_verdicts.specs.Verdicts.{IsVerdict, verdict_line, verdict_status}
 use Rattle.ft_answers.specs.Exports.{IsExport}
 use Rattle.ft_answers.specs.Answer.{IsText}

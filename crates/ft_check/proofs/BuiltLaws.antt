@@ -9,7 +9,7 @@ use Rattle.ft_items.specs.Store.{Store, Resolved, each, entry_named, rule_named,
 use Rattle.ft_items.specs.Rows.{conclusion, result_set, concludes_thesis}
 use Rattle.ft_items.specs.Good.{Reject, Kind, Premise, unless, of_kind, same_truth, reason_of_result, reason_of_entry, reason_in, found_at, first_rejected, Counts, counts, Accepted, Rejected, verdict_by}
 use Rattle.ft_common.proofs.Options.{none_some}
-use Rattle.ft_check.specs.Built.{is_built, conclusion_built, reason_by, reason_built, first_rejected_by, IsBuilt, AllBuilt, BuiltIsVerdict, AcceptedIsAccepted, RejectedIsRejected}
+use Rattle.ft_verdicts.specs.Built.{is_built, conclusion_built, reason_by, reason_built, first_rejected_by, IsBuilt, AllBuilt, BuiltIsVerdict, AcceptedIsAccepted, RejectedIsRejected}
 
 some_none : {A : Type 0} {x : A} {P : Type 0} → Some x ≡ None → P
 some_none {A} {x} e = none_some (sym e)

@@ -19,7 +19,7 @@ use Rattle.ft_stated.specs.declared.stated.Stated.{Stated}
 use Rattle.ft_stated.specs.declared.stated.Stated.TheVariants.{Var, Met, Rule as RuleLine, Thesis, Boundary, Shown}
 use Rattle.ft_stated.specs.declared.step.StatedStep.{StatedStep}
 use Rattle.ft_stated.specs.declared.step.StatedStep.TheVariants as step
-use Rattle.ft_check.specs.Built.{is_built, conclusion_built, reason_built}
+use Rattle.ft_verdicts.specs.Built.{is_built, conclusion_built, reason_built}
 use Rattle.ft_check.specs.Entries.{with_step}
 use Rattle.ft_check.specs.Kinds.{kinds_right}
 use Rattle.ft_check.specs.Rejects.{reason_of}

@@ -14,7 +14,7 @@ use Rattle.ft_items.proofs.Lists.{entries_all}
 use Rattle.ft_sound.specs.Soundness.{EachEntry}
 use Rattle.ft_sound.proofs.Theorems.{accepted_are_good, accepted_are_derivable}
 use Rattle.ft_stated.specs.Places.{is_entry, is_rule}
-use Rattle.ft_check.specs.Built.{is_built, conclusion_built, reason_by, reason_built, first_rejected_by, verdict_built, AllBuilt}
+use Rattle.ft_verdicts.specs.Built.{is_built, conclusion_built, reason_by, reason_built, first_rejected_by, verdict_built, AllBuilt}
 use Rattle.ft_check.specs.Rejects.{reason_of}
 use Rattle.ft_check.specs.Verdicts.{verdict_of}
 use Rattle.ft_check.specs.declared.verdict.Verdict.{Verdict as Told}

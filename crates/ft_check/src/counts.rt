@@ -11,7 +11,7 @@ ghost use Rattle.ft_judge.specs.Meaning.{goal_in};
 ghost use Rattle.ft_stated.specs.Lines.{item_in};
 ghost use Rattle.ft_stated.specs.Places.{is_entry, is_rule};
 ghost use Rattle.ft_stated.specs.Steps.{stated_step};
-ghost use Rattle.ft_check.specs.Built.{first_rejected_by, reason_built};
+ghost use Rattle.ft_verdicts.specs.Built.{first_rejected_by, reason_built};
 ghost use Rattle.ft_check.specs.Verdicts.{counts_of, IsAtMost};
 
 use crate::applied::rule_at_hand;

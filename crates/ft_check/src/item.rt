@@ -7,7 +7,7 @@ ghost use Rattle.ft_items.specs.Store.{Resolved, nth, resolve, store_of, declare
 ghost use Rattle.ft_items.specs.Rows.{result_set};
 ghost use Rattle.ft_items.specs.Good.{Good, reason_of_result};
 ghost use Rattle.ft_stated.specs.Steps.{stated_step};
-ghost use Rattle.ft_check.specs.Built.{conclusion_built, reason_built, reason_by};
+ghost use Rattle.ft_verdicts.specs.Built.{conclusion_built, reason_built, reason_by};
 ghost use Rattle.ft_check.specs.Entries.{entry_in, EntryBelow, with_step};
 ghost use Rattle.ft_check.specs.Kinds.{kinds_right};
 ghost use Rattle.ft_check.specs.Rejects.{reason_of};

@@ -14,11 +14,11 @@ use Rattle.ft_items.proofs.Lists.{entries_all, declared_last}
 use Rattle.ft_judge.specs.Meaning.{goal_in}
 use Rattle.ft_judge.specs.declared.judgement.Goal.{Goal}
 use Rattle.ft_kernel.specs.State.{State, with_item}
-use Rattle.ft_applications.specs.Building.{Declaration, theory, names, first_named}
+use Rattle.ft_applications_meaning.specs.Building.{Declaration, theory, names, first_named}
 use Rattle.ft_run.specs.declared.session.Known.{Known}
 use Rattle.ft_run.specs.Session.{Progress, numbered, boundaries_in, declaration, declarations, IsSimpleGoal, FitsKnown, AreKnown, IsSession, HasEntry, AreMade, goals_in}
 use Rattle.ft_run.specs.Claiming.{rule_in}
-use Rattle.ft_applications.specs.Histories.{declares, told_rule, told}
+use Rattle.ft_applications_meaning.specs.Histories.{declares, told_rule, told}
 use Rattle.ft_run.proofs.Telling.{told_last, steps_last}
 use Rattle.std.proofs.lemmas.Option.{none-some}
 use Rattle.ft_run.proofs.Keeping.{declarations_length, theory_length}

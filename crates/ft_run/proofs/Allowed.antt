@@ -9,8 +9,9 @@ use Rattle.ft_items.specs.Item.{Item, entry, by_rule}
 use Rattle.ft_items.specs.Store.{Store, each, entry_named, resolve, with_two, store_of, declared_by}
 use Rattle.ft_items.specs.Rows.{when, statements, sets, rule_instance}
 use Rattle.ft_items.specs.Good.{all_theses, given, Allowed}
-use Rattle.ft_applications.specs.Building.{plains}
-use Rattle.ft_run.specs.Session.{IsSimple, AreSimple, IsSimpleGoal, IsSimpleBoundary, AreSimplePremises, IsSimpleRule, AreSimpleClaims, assertions}
+use Rattle.ft_applications_meaning.specs.Building.{plains}
+use Rattle.ft_run.specs.Session.{IsSimple, AreSimple, IsSimpleGoal}
+use Rattle.ft_run.proofs.Simple.{IsSimpleBoundary, AreSimplePremises, IsSimpleRule, AreSimpleClaims, assertions}
 
 mutual
   unfolding act

@@ -14,11 +14,12 @@ use Rattle.ft_judge.specs.Meaning.{claim_in, goal_in, GoalBelow}
 use Rattle.ft_judge.specs.declared.judgement.Form.{Form}
 use Rattle.ft_judge.specs.declared.judgement.Goal.{Goal}
 use Rattle.ft_kernel.specs.State.{State, if_below}
-use Rattle.ft_applications.specs.Building.{Declaration, theory, plains}
+use Rattle.ft_applications_meaning.specs.Building.{Declaration, theory, plains}
 use Rattle.ft_run.specs.declared.session.Known.{Known}
 use Rattle.ft_run.specs.declared.session.Claimed.{Claimed}
 use Rattle.ft_run.specs.Given.{fits_goals}
-use Rattle.ft_run.specs.Session.{Progress, numbered, boundaries_in, declaration, declarations, IsSimpleGoal, AllFitGoals, FitsKnown, AreKnown, IsSession, AreClaimed, AllClaimsBelow, claims_in, IsSimpleRule, AreSimplePremises, AreSimpleClaims, assertions}
+use Rattle.ft_run.specs.Session.{Progress, numbered, boundaries_in, declaration, declarations, IsSimpleGoal, AllFitGoals, FitsKnown, AreKnown, IsSession, AreClaimed, AllClaimsBelow, claims_in}
+use Rattle.ft_run.proofs.Simple.{IsSimpleRule, AreSimplePremises, AreSimpleClaims, assertions}
 use Rattle.ft_run.specs.Claiming.{rule_in}
 use Rattle.ft_run.proofs.Keeping.{declarations_length, theory_length, fits_declared}
 use Rattle.ft_run.proofs.Allowed.{rule_allowed}

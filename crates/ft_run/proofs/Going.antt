@@ -11,7 +11,7 @@ use Rattle.ft_kernel.specs.State.{State, with_item}
 use Rattle.ft_run.specs.declared.session.Known.{Known}
 use Rattle.ft_run.specs.Session.{Progress, declarations, IsSession, HasEntry, HasMet, AreMade, Keeps, GoesOn}
 use Rattle.ft_run.specs.Asking.{HasGoal}
-use Rattle.ft_applications.specs.Histories.{told}
+use Rattle.ft_applications_meaning.specs.Histories.{told}
 use Rattle.ft_run.proofs.Telling.{told_metavariable, steps_last}
 use Rattle.ft_run.proofs.Keeping.{keeps_tell}
 use Rattle.ft_run.proofs.Accepted.{entry_there, goal_no_thesis}

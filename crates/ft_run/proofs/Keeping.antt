@@ -12,10 +12,11 @@ use Rattle.ft_syntax.specs.Table.{Extends}
 use Rattle.ft_judge.specs.Meaning.{claim_in, under}
 use Rattle.ft_judge.specs.declared.judgement.Goal.{Goal}
 use Rattle.ft_kernel.specs.State.{State, with_item}
-use Rattle.ft_applications.specs.Histories.{told, IsOfApplications, AllOfApplications}
+use Rattle.ft_applications_meaning.specs.Histories.{told}
+use Rattle.ft_run.specs.Steps.{IsOfApplications, AllOfApplications}
 use Rattle.ft_run.proofs.Telling.{told_entries, steps_last}
 use Rattle.ft_judge.specs.Laws.{claim_extends, goal_extends, form_below_extends, goal_below_extends}
-use Rattle.ft_applications.specs.Building.{Declaration, theory, names, plains}
+use Rattle.ft_applications_meaning.specs.Building.{Declaration, theory, names, plains}
 use Rattle.ft_run.specs.declared.session.Known.{Known}
 use Rattle.ft_run.specs.declared.session.Claimed.{Claimed}
 use Rattle.ft_items.specs.Equal.{fit_all}

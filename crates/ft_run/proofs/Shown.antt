@@ -10,7 +10,7 @@ use Rattle.ft_items.specs.Store.{Assertion, Declared, Store, Derivable, nth, eac
 use Rattle.ft_items.specs.Good.{Good}
 use Rattle.ft_sound.proofs.Theorems.{entries_derivable}
 use Rattle.ft_kernel.specs.State.{State}
-use Rattle.ft_applications.specs.Building.{theory}
+use Rattle.ft_applications_meaning.specs.Building.{theory}
 use Rattle.ft_run.specs.declared.session.Known.{Known}
 use Rattle.ft_run.specs.Session.{Progress, declarations, IsSession, HasEntry}
 use Rattle.ft_run.proofs.Going.{add_append}

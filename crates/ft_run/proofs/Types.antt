@@ -10,9 +10,9 @@ use Rattle.ft_judge.specs.Meaning.{claim_in, goal_in, FormBelow}
 use Rattle.ft_judge.specs.declared.judgement.Form.{Form}
 use Rattle.ft_judge.specs.declared.judgement.Goal.{Goal}
 use Rattle.ft_kernel.specs.State.{State}
-use Rattle.ft_applications.specs.declared.syntax.Application.{Application}
-use Rattle.ft_applications.specs.declared.syntax.Premise.{Premise}
-use Rattle.ft_applications.specs.Building.{Declaration, claim_of, avoids, type_claimed, name_of_premise, premise_names}
+use Rattle.ft_applications_meaning.specs.declared.syntax.Application.{Application}
+use Rattle.ft_applications_meaning.specs.declared.syntax.Premise.{Premise}
+use Rattle.ft_applications_meaning.specs.Building.{Declaration, claim_of, avoids, type_claimed, name_of_premise, premise_names}
 use Rattle.ft_run.specs.Session.{IsSimpleClaim, HasEntry, IsClaimed}
 use Rattle.ft_run.specs.Asking.{HasType, IsGoalAsked, IsTypeOf, goal_of_type}
 use Rattle.ft_run.proofs.Accepted.{entry_there}

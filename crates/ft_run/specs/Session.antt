@@ -1,15 +1,15 @@
 -- What a session stands for: the state of its kernel, and the declarations of the language of applications.
 use Rattle.std.specs.Prelude.{ℕ, suc, ◌≡◌, List, [], ◌∷◌, ◌++◌, map, length, Some}
 use Rattle.ft_theory.specs.Expressions.{Expression, bound, free, symbol, meta, Arguments, no_arguments, with_body, dummy}
-use Rattle.ft_theory.specs.Statements.{Claim, is_type, has_type, equal_types, equal_terms, type_goal, term_goal, type_equation_goal, term_equation_goal, Statement, plain, abstracted}
-use Rattle.ft_theory.specs.Rules.{Rule}
+use Rattle.ft_theory.specs.Statements.{Claim, is_type, has_type, equal_types, equal_terms, type_goal, term_goal, type_equation_goal, term_equation_goal, Statement, plain}
 use Rattle.ft_items.specs.Item.{Item, Entry, entry}
-use Rattle.ft_items.specs.Store.{Assertion, Declared, nth, entries_in, metavariables_in, declared_by}
+use Rattle.ft_items.specs.Store.{Declared, nth, entries_in, metavariables_in, declared_by}
 use Rattle.ft_judge.specs.Meaning.{claim_in, goal_in, FormBelow, GoalBelow}
 use Rattle.ft_judge.specs.declared.judgement.Goal.{Goal}
 use Rattle.ft_kernel.specs.State.{State}
-use Rattle.ft_applications.specs.Building.{Declaration, theory, names, metavariable_count}
-use Rattle.ft_applications.specs.Histories.{told, AllOfApplications}
+use Rattle.ft_applications_meaning.specs.Building.{Declaration, theory, names, metavariable_count}
+use Rattle.ft_applications_meaning.specs.Histories.{told}
+use Rattle.ft_run.specs.Steps.{AllOfApplications}
 use Rattle.ft_run.specs.declared.session.Known.{Known}
 use Rattle.ft_run.specs.declared.session.Claimed.{Claimed}
 
@@ -131,29 +131,6 @@ pub record GoesOn (p q : Progress) : Type 0 where
 -- the list has no other metavariables than those of its rules
 abbrev pub IsCounted : Progress → Type 0
 IsCounted p = length (metavariables_in p.state.items) ≡ metavariable_count p.rules
-
--- a boundary without domains, with a simple goal
-abbrev pub IsSimpleBoundary : Statement → Type 0
-IsSimpleBoundary (plain c) = IsSimpleGoal c
-IsSimpleBoundary (abstracted A x) = ⊥
-
--- premises with simple boundaries
-abbrev pub AreSimplePremises : List (ℕ × Statement) → Type 0
-AreSimplePremises [] = Unit {0}
-AreSimplePremises (p ∷ ps) = IsSimpleBoundary p.1 × AreSimplePremises ps
-
--- a rule without domains whose expressions are simple
-abbrev pub IsSimpleRule : Rule → Type 0
-IsSimpleRule R = AreSimplePremises R.premises × IsSimpleGoal R.conclusion
-
--- simple claims
-abbrev pub AreSimpleClaims : List Claim → Type 0
-AreSimpleClaims [] = Unit {0}
-AreSimpleClaims (c ∷ cs) = IsSimpleClaim c × AreSimpleClaims cs
-
--- claims as assertions that rest on nothing
-abbrev pub assertions : List Claim → List Assertion
-assertions cs = map (λ c. record { statement = plain c; set = [] }) cs
 
 -- the store has the metavariable m, with this goal as its boundary, which rests on nothing
 abbrev pub HasMet : State → ℕ → Claim → Type 0

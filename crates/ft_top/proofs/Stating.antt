@@ -8,10 +8,10 @@ use Rattle.ft_items.specs.Item.{Name, Item, Entry, variable, metavariable, rule,
 use Rattle.ft_items.specs.Store.{Assertion, Declared, Store, Derivable, nth, each, entry_named, metavariable_named, add_variable, add_metavariable, add_rule, add, add_all, empty_store, Declarations}
 use Rattle.ft_items.specs.Good.{Good}
 use Rattle.ft_sound.specs.Soundness.{EachEntry, EntriesDerivable}
-use Rattle.ft_applications.specs.Building.{theory}
-use Rattle.ft_applications.specs.Events.{Event, accepts, repeats, shows, run_of}
-use Rattle.ft_applications.specs.Histories.{Told, declares, states, told_rule, told_shown, told_by, told_from, told_in, IsDerivationOf}
-use Rattle.ft_applications.specs.Transcript.{AllDerivable, theses, shown_in}
+use Rattle.ft_applications_meaning.specs.Building.{theory}
+use Rattle.ft_applications_meaning.specs.Events.{Event, accepts, repeats, shows, run_of}
+use Rattle.ft_applications_meaning.specs.Histories.{Told, declares, states, told_rule, told_shown, told_by, told_from, told_in, IsDerivationOf}
+use Rattle.ft_applications_meaning.specs.Transcript.{AllDerivable, theses, shown_in}
 
 -- what an entry that rests on nothing asserts is derivable over the rules
 abbrev Holds : List Rule → Assertion → Type 0

@@ -314,74 +314,90 @@ conclusion W (by_arg i p) = argument W i p.statement
 conclusion W (by_natural p) = natural W p.statement
 conclusion W (by_metainst p ms qs) = instantiated ms p (statements qs)
 
--- The set of what the step gives: the sets of all that it names, together. A variable and a metavariable add themselves;
--- abstraction takes its variable out; the instance of an entry has the sets of the arguments alone.
+-- What a step names in one place: an entry, or several in order.
+pub data Named (E : Type 0) : Type 0 where
+  one : E → Named E
+  several : List E → Named E
+
+-- the entries that a step names, place by place
+abbrev pub named : {E V M R : Type 0} → Justification E V M R → List (Named E)
+named (by_var v) = []
+named (by_generic m) = []
+named (by_meta m ps) = several ps ∷ []
+named (by_metacong m es) = several es ∷ []
+named (by_abs v p) = one p ∷ []
+named (by_subst p t) = one p ∷ one t ∷ []
+named (by_substeq p e) = one p ∷ one e ∷ []
+named (by_refl p) = one p ∷ []
+named (by_sym p) = one p ∷ []
+named (by_trans p q) = one p ∷ one q ∷ []
+named (by_conv p e) = one p ∷ one e ∷ []
+named (by_conveq p e) = one p ∷ one e ∷ []
+named (by_left p) = one p ∷ []
+named (by_right p) = one p ∷ []
+named (by_typeof p) = one p ∷ []
+named (by_domain p) = one p ∷ []
+named (by_boundary p) = one p ∷ []
+named (by_widen p q) = one p ∷ one q ∷ []
+named by_btype = []
+named (by_bterm p) = one p ∷ []
+named (by_beqty p q) = one p ∷ one q ∷ []
+named (by_beqtm p s t) = one p ∷ one s ∷ one t ∷ []
+named (by_rule r ps) = several ps ∷ []
+named (by_rulewith r b ps) = one b ∷ several ps ∷ []
+named (by_inst r ps) = several ps ∷ []
+named (by_cong r ps es) = several ps ∷ several es ∷ []
+named (by_convprem r ps es q) = several ps ∷ several es ∷ one q ∷ []
+named (by_convback r ps es q) = several ps ∷ several es ∷ one q ∷ []
+named (by_arg i p) = one p ∷ []
+named (by_natural p) = one p ∷ []
+named (by_metainst p ms qs) = one p ∷ several qs ∷ []
+
+-- the atoms of what is named in one place
+abbrev pub set_of : Named Assertion → List Atom
+set_of (one p) = p.set
+set_of (several ps) = unions (sets ps)
+
+-- the atoms of all that is named
+abbrev pub set_of_all : List (Named Assertion) → List Atom
+set_of_all [] = []
+set_of_all (n ∷ []) = set_of n
+set_of_all (n ∷ m ∷ ns) = union (set_of n) (set_of_all (m ∷ ns))
+
+-- The set of what the step gives is the union of the sets of the entries that it names. But a variable and a metavariable add
+-- themselves, with the set of their annotation; abstraction takes its variable out and adds the set of its annotation; and the
+-- instance of an entry has the sets of the arguments alone.
 abbrev pub result_set : Resolved → List Atom
 result_set (by_var v) = insert (var v.0) v.1.set
 result_set (by_generic m) = insert (met m.0) m.1.set
 result_set (by_meta m ps) = insert (met m.0) (union m.1.set (unions (sets ps)))
 result_set (by_metacong m es) = insert (met m.0) (union m.1.set (unions (sets es)))
 result_set (by_abs v p) = union v.1.set (without (var v.0) p.set)
-result_set (by_subst p t) = union p.set t.set
-result_set (by_substeq p e) = union p.set e.set
-result_set (by_refl p) = p.set
-result_set (by_sym p) = p.set
-result_set (by_trans p q) = union p.set q.set
-result_set (by_conv p e) = union p.set e.set
-result_set (by_conveq p e) = union p.set e.set
-result_set (by_left p) = p.set
-result_set (by_right p) = p.set
-result_set (by_typeof p) = p.set
-result_set (by_domain p) = p.set
-result_set (by_boundary p) = p.set
-result_set (by_widen p q) = union p.set q.set
-result_set by_btype = []
-result_set (by_bterm p) = p.set
-result_set (by_beqty p q) = union p.set q.set
-result_set (by_beqtm p s t) = union p.set (union s.set t.set)
-result_set (by_rule r ps) = unions (sets ps)
-result_set (by_rulewith r b ps) = union b.set (unions (sets ps))
-result_set (by_inst r ps) = unions (sets ps)
-result_set (by_cong r ps es) = union (unions (sets ps)) (unions (sets es))
-result_set (by_convprem r ps es q) = union (unions (sets ps)) (union (unions (sets es)) q.set)
-result_set (by_convback r ps es q) = union (unions (sets ps)) (union (unions (sets es)) q.set)
-result_set (by_arg i p) = p.set
-result_set (by_natural p) = p.set
 result_set (by_metainst p ms qs) = unions (sets qs)
+result_set s = set_of_all (named s)
 
--- the entries that the step names where its row has a thesis
+-- the entries that are named in one place
+abbrev pub entries_of : {E : Type 0} → Named E → List E
+entries_of (one p) = p ∷ []
+entries_of (several ps) = ps
+
+-- the entries that are named, in order
+abbrev pub all_entries : {E : Type 0} → List (Named E) → List E
+all_entries [] = []
+all_entries (n ∷ []) = entries_of n
+all_entries (n ∷ m ∷ ns) = entries_of n ++ all_entries (m ∷ ns)
+
+-- The entries that the step names where its row has a thesis: all, but for the places where a boundary stands or may stand.
 abbrev pub theses : {E V M R : Type 0} → Justification E V M R → List E
-theses (by_var v) = []
-theses (by_generic m) = []
-theses (by_meta m ps) = ps
-theses (by_metacong m es) = es
 theses (by_abs v p) = []
 theses (by_subst p t) = t ∷ []
-theses (by_substeq p e) = p ∷ e ∷ []
-theses (by_refl p) = p ∷ []
-theses (by_sym p) = p ∷ []
-theses (by_trans p q) = p ∷ q ∷ []
-theses (by_conv p e) = p ∷ e ∷ []
-theses (by_conveq p e) = p ∷ e ∷ []
 theses (by_left p) = []
 theses (by_right p) = []
 theses (by_typeof p) = []
 theses (by_domain p) = []
-theses (by_boundary p) = p ∷ []
-theses (by_widen p q) = p ∷ q ∷ []
-theses by_btype = []
-theses (by_bterm p) = p ∷ []
-theses (by_beqty p q) = p ∷ q ∷ []
-theses (by_beqtm p s t) = p ∷ s ∷ t ∷ []
-theses (by_rule r ps) = ps
 theses (by_rulewith r b ps) = ps
-theses (by_inst r ps) = ps
-theses (by_cong r ps es) = ps ++ es
-theses (by_convprem r ps es q) = ps ++ (es ++ (q ∷ []))
-theses (by_convback r ps es q) = ps ++ (es ++ (q ∷ []))
-theses (by_arg i p) = p ∷ []
-theses (by_natural p) = p ∷ []
 theses (by_metainst p ms qs) = qs
+theses s = all_entries (named s)
 
 -- the entries that the step names where its row has a boundary; others may be either
 abbrev pub boundaries : {E V M R : Type 0} → Justification E V M R → List E

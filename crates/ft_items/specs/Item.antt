@@ -59,8 +59,7 @@ pub data Justification (E V M R : Type 0) : Type 0 where
   by_inst : R → List E → Justification E V M R
   -- cong r p.. / e..: a symbol at equal arguments, by their equations
   by_cong : R → List E → List E → Justification E V M R
-  -- convprem r p.. / e.. / q: a thesis of the boundary after the arguments p.., the next premise's or the conclusion's, moved from
-  -- these to the right sides of e..
+  -- convprem r p.. / e.. / q: an argument for the next premise, moved from the arguments p.. to the right sides of e..
   by_convprem : R → List E → List E → E → Justification E V M R
   -- convback r p.. / e.. / q: the same from the right sides to the arguments
   by_convback : R → List E → List E → E → Justification E V M R

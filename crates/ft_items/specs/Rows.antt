@@ -1,6 +1,6 @@
 -- The table of steps: what each step concludes where its conditions hold, and the set of the result. One definition a row.
 -- After the rules of the context-free theories of Haselwarter and Bauer, "Finitary type theories with and without contexts".
-use Rattle.std.specs.Prelude.{ℕ, zero, suc, Option, Some, None, Bool, true, false, cond, nat_eq, ◌&&◌, not, List, [], ◌∷◌, ◌++◌, length, take, drop, option_map}
+use Rattle.std.specs.Prelude.{ℕ, zero, suc, Option, Some, None, Bool, true, false, cond, nat_eq, nat_lt, ◌&&◌, not, List, [], ◌∷◌, ◌++◌, length, take, drop, option_map}
 use Rattle.ft_theory.specs.Expressions.{Expression, bound, free, symbol, meta, Arguments, Terms, no_terms, also, open_at}
 use Rattle.ft_theory.specs.Statements.{Claim, is_type, has_type, equal_types, equal_terms, type_goal, term_goal, type_equation_goal, term_equation_goal, Statement, plain, abstracted, act_statement, close_statement, opened, domain_count, at, fill_goal, fill, equate_goal, equate, boundary_of}
 use Rattle.ft_theory.specs.Rules.{look_up, Rule, rule_at, instance_of, filled_premises, term_typings, conclusion_at}
@@ -187,13 +187,15 @@ abbrev pub congruence_of : ℕ → Rule → List Statement → List Statement �
 congruence_of r R xs es =
     when (is_object_goal R.conclusion && are_arguments R.premises xs && start_all xs es) (plain (equate_goal (conclusion_at R (heads xs)) (symbol r (heads xs)) (symbol r (right_heads xs es))))
 
--- Of arguments for the first premises of a rule, with equations that start at their heads: the thesis y, which fits the boundary
--- after these premises at a, with its head at that boundary at c.
+-- Of arguments for the first premises of a rule, which are not all, with equations that start at their heads: the thesis y, which
+-- fits the next premise's boundary at a, with its head at that boundary at c.
 abbrev pub moved : Rule → List Statement → List Statement → Arguments → Arguments → Statement → Option Statement
 moved R xs es a c y =
-    when (are_arguments (first_premises R xs) xs && start_all xs es && fits y (boundary_after R xs a)) (fill (boundary_after R xs c) (head y))
+    when (nat_lt (length xs) (length R.premises)
+    && (are_arguments (first_premises R xs) xs && start_all xs es && fits y (boundary_after R xs a)))
+    (fill (boundary_after R xs c) (head y))
 
--- a thesis of the boundary after such arguments, moved from the arguments to the right sides of the equations
+-- an argument for the premise after such arguments, moved from these to the right sides of the equations
 abbrev pub premise_conversion : Rule → List Statement → List Statement → Statement → Option Statement
 premise_conversion R xs es y = moved R xs es (heads xs) (right_heads xs es) y
 

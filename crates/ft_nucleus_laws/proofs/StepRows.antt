@@ -1,6 +1,6 @@
 -- What the checks of a call ask is what its row asks: they hold exactly where the step has a conclusion.
-use Rattle.std.proofs.Common.{◌≡◌, ℕ, zero, suc, Bool, true, false, cond, nat_eq, nat_le, ◌&&◌, not, Option, Some, None, List, [], ◌∷◌, ◌++◌, length, refl, sym, ap, ap₂, ◌∙◌}
-use Rattle.std.proofs.lemmas.Bool.{and_parts, not-true}
+use Rattle.std.proofs.Common.{◌≡◌, ℕ, zero, suc, Bool, true, false, cond, nat_eq, nat_lt, nat_le, ◌&&◌, not, Option, Some, None, List, [], ◌∷◌, ◌++◌, length, refl, sym, ap, ap₂, ◌∙◌, arith}
+use Rattle.std.proofs.lemmas.Bool.{ltb-true, le-leb, and_parts, not-true}
 use Rattle.std.specs.Prelude.{is_some, take}
 use Rattle.std.proofs.Math.Dec.{eqb-suc-zero, eqb-suc-suc, leb-zero, leb-suc-zero, leb-suc-suc}
 use Rattle.std.proofs.Math.Bool.{and-true}
@@ -144,12 +144,20 @@ congruence_asked r R xs es h =
     ∙ and_assoc (is_object_goal R.conclusion) (are_arguments R.premises xs) (start_all xs es)
     ∙ sym (when_some (is_object_goal R.conclusion && are_arguments R.premises xs && start_all xs es) _)
 
--- arguments with equations, and a thesis of the boundary after them
-equal_arguments_asked : (R : Rule) (xs es : List Statement) → Theses xs → asked (equal_argument_checks R xs es) ≡ (are_arguments (first_premises R xs) xs && start_all xs es)
+-- arguments with equations, and an argument for the premise after them
+enough : (xs : List Statement) (ps : List (ℕ × Statement)) → nat_lt (length xs) (length ps) ≡ true → nat_le (length xs) (length ps) ≡ true
+enough xs ps h = le-leb (length xs) (length ps) (omega (arith, ltb-true (length xs) (length ps) h))
+
+where_true : (b x y : Bool) → (b ≡ true → x ≡ y) → (b && x) ≡ (b && y)
+where_true true x y h = h refl
+where_true false x y h = refl
+
+equal_arguments_asked : (R : Rule) (xs es : List Statement) → Theses xs
+    → asked (equal_argument_checks R xs es) ≡ (nat_lt (length xs) (length R.premises) && (are_arguments (first_premises R xs) xs && start_all xs es))
 equal_arguments_asked R xs es h =
-    ap (λ z. nat_le (length xs) (length R.premises) && z) (asked_append (first_argument_checks R xs) (all_equation_checks xs es))
-    ∙ and_assoc (nat_le (length xs) (length R.premises)) (asked (first_argument_checks R xs)) (asked (all_equation_checks xs es))
-    ∙ ap₂ (λ u v. u && v) (first_asked R xs h) (equations_asked xs es)
+    ap (λ z. nat_lt (length xs) (length R.premises) && z) (asked_append (first_argument_checks R xs) (all_equation_checks xs es))
+    ∙ where_true (nat_lt (length xs) (length R.premises)) (asked (first_argument_checks R xs) && asked (all_equation_checks xs es)) (are_arguments (first_premises R xs) xs && start_all xs es)
+    (λ e. ap₂ (λ u v. u && v) (ap (λ z. z && asked (first_argument_checks R xs)) (sym (enough xs R.premises e)) ∙ first_asked R xs h) (equations_asked xs es))
 
 moved_fits : (R : Rule) (xs : List Statement) (a c : Arguments) (y : Statement) → is_thesis y ≡ true → asked (moved_checks R xs a c y) ≡ fits y (boundary_after R xs a)
 moved_fits R xs a c y k =
@@ -165,7 +173,8 @@ moved_asked : (R : Rule) (xs es : List Statement) (a c : Arguments) (y : Stateme
 moved_asked R xs es a c y h k =
     asked_append (equal_argument_checks R xs es) (moved_checks R xs a c y)
     ∙ ap₂ (λ u v. u && v) (equal_arguments_asked R xs es h) (moved_fits R xs a c y k)
-    ∙ sym (when_some (are_arguments (first_premises R xs) xs && start_all xs es && fits y (boundary_after R xs a)) _)
+    ∙ sym (and_assoc (nat_lt (length xs) (length R.premises)) (are_arguments (first_premises R xs) xs && start_all xs es) (fits y (boundary_after R xs a)))
+    ∙ sym (when_some (nat_lt (length xs) (length R.premises) && (are_arguments (first_premises R xs) xs && start_all xs es && fits y (boundary_after R xs a))) _)
 
 -- applications
 no_place : (i : ℕ) → false ≡ is_some (from_one [] i)

@@ -1,6 +1,6 @@
 -- The checks of each call of the nucleus, in the order of its refusals. A call is a step with what it names, and what it gives
 -- is that step's row; only the refusals stand here.
-use Rattle.std.specs.Prelude.{ℕ, zero, Bool, true, false, cond, nat_eq, nat_le, not, ◌&&◌, Option, Some, None, is_some, List, [], ◌∷◌, ◌++◌, length}
+use Rattle.std.specs.Prelude.{ℕ, zero, Bool, true, false, cond, nat_eq, nat_lt, nat_le, not, ◌&&◌, Option, Some, None, is_some, List, [], ◌∷◌, ◌++◌, length}
 use Rattle.ft_theory.specs.Expressions.{Expression, bound, free, symbol, meta, Arguments}
 use Rattle.ft_theory.specs.Statements.{is_type, has_type, equal_types, equal_terms, Statement, plain, abstracted, domain_count}
 use Rattle.ft_theory.specs.Rules.{look_up, Rule, conclusion_at}
@@ -88,17 +88,17 @@ instance_checks R xs =
 abbrev pub congruence_checks : ℕ → Rule → List Statement → List Statement → List Check
 congruence_checks r R xs es = asks (is_object_goal R.conclusion) WrongForm ∷ (rule_checks r R xs ++ (all_equation_checks xs es ++ forms_result (congruence_of r R xs es)))
 
--- no more theses than premises; arguments for the first premises; equations
+-- fewer theses than premises; arguments for the first premises; equations
 abbrev pub equal_argument_checks : Rule → List Statement → List Statement → List Check
 equal_argument_checks R xs es =
-    asks (nat_le (length xs) (length R.premises)) (ArgumentCount (length xs) (length R.premises))
+    asks (nat_lt (length xs) (length R.premises)) (ArgumentCount (length xs) (length R.premises))
     ∷ (first_argument_checks R xs ++ all_equation_checks xs es)
 
--- the boundary after the premises at a, which the thesis is to fit; that boundary at c
+-- the next premise's boundary at a, which the thesis is to fit; that boundary at c
 abbrev pub moved_checks : Rule → List Statement → Arguments → Arguments → Statement → List Check
 moved_checks R xs a c y = forms_statement (boundary_after R xs a) ++ (fit_checks y (boundary_after R xs a) ++ forms_statement (boundary_after R xs c))
 
--- all these, and the thesis that is moved from the arguments to the right sides
+-- all these, and the argument that is moved from the arguments to the right sides
 abbrev pub premise_checks : Rule → List Statement → List Statement → Statement → List Check
 premise_checks R xs es y = equal_argument_checks R xs es ++ moved_checks R xs (heads xs) (right_heads xs es) y
 

@@ -1,5 +1,5 @@
 -- What a step concludes is a thesis or a boundary as its row says.
-use Rattle.std.proofs.Common.{◌≡◌, ℕ, zero, suc, true, false, ◌&&◌, not, Option, Some, None, List, [], ◌∷◌, ◌⊎◌, inl, inr, refl, ap, ◌∙◌, subst}
+use Rattle.std.proofs.Common.{◌≡◌, ℕ, zero, suc, true, false, nat_lt, ◌&&◌, not, Option, Some, None, List, [], ◌∷◌, length, ◌⊎◌, inl, inr, refl, ap, ◌∙◌, subst}
 use Rattle.std.specs.Prelude.{option_map}
 use Rattle.std.proofs.lemmas.Option.{same_Some}
 use Rattle.std.proofs.lemmas.Bool.{and_parts}
@@ -230,7 +230,7 @@ natural_kind W (plain (has_type t A)) y e = go (row.natural_type W t) e
 natural_kind W x y e = none_some e
 
 moved_kind : (R : Rule) (xs es : List Statement) (a c : Arguments) (x y : Statement) → row.moved R xs es a c x ≡ Some y → Thesis y
-moved_kind R xs es a c x y e = from_when Thesis ((row.are_arguments (row.first_premises R xs) xs && start_all xs es) && fits x (row.boundary_after R xs a)) (fill (row.boundary_after R xs c) (head x)) y e
+moved_kind R xs es a c x y e = from_when Thesis (nat_lt (length xs) (length R.premises) && ((row.are_arguments (row.first_premises R xs) xs && start_all xs es) && fits x (row.boundary_after R xs a))) (fill (row.boundary_after R xs c) (head x)) y e
     (λ h. fill_kind (row.boundary_after R xs c) (head x))
 
 instance_kind : (W : Declarations) → WellFormed W → (r : ℕ) (R : Rule) → rule_at W.rules r ≡ Some R → (xs : List Statement) (y : Statement) → row.boundary_instance R xs ≡ Some y → is_thesis y ≡ false

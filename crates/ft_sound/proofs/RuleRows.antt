@@ -1,5 +1,5 @@
 -- The rows of the steps that name a rule, over any maps.
-use Rattle.std.proofs.Common.{◌≡◌, ℕ, zero, true, ◌&&◌, Some, List, [], ◌∷◌, ◌++◌, length, ◌⊎◌, inl, inr, refl, sym, ap, ◌∙◌, subst, append-nil}
+use Rattle.std.proofs.Common.{◌≡◌, ℕ, zero, true, nat_lt, ◌&&◌, Some, List, [], ◌∷◌, ◌++◌, length, ◌⊎◌, inl, inr, refl, sym, ap, ◌∙◌, subst, append-nil}
 use Rattle.std.proofs.lemmas.List.{take-append-drop}
 use Rattle.std.proofs.lemmas.Bool.{and_parts}
 use Rattle.ft_theory.specs.Expressions.{Expression, bound, free, symbol, Arguments, act}
@@ -85,7 +85,8 @@ module _ (T : List Rule) (so : Sound T) (M : List (ℕ × Statement)) (G : List 
       let l : Arguments = heads xs in
       let n : Arguments = right_heads xs es in
       let k : (b : Statement) × BoundaryAfter R ps b × ((a : Arguments) → row.boundary_after R xs a ≡ row.at_arguments ps a b) = boundary_after_is R xs in
-      from_when (Prim T M G) ((row.are_arguments ps xs && start_all xs es) && fits x (row.boundary_after R xs l)) (fill (row.boundary_after R xs n) (head x)) y e (λ t.
+      from_when (Prim T M G) (nat_lt (length xs) (length R.premises) && ((row.are_arguments ps xs && start_all xs es) && fits x (row.boundary_after R xs l))) (fill (row.boundary_after R xs n) (head x)) y e (λ s.
+      let t : ((row.are_arguments ps xs && start_all xs es) && fits x (row.boundary_after R xs l)) ≡ true = (and_parts (nat_lt (length xs) (length R.premises)) ((row.are_arguments ps xs && start_all xs es) && fits x (row.boundary_after R xs l)) s).1 in
       let u : ((row.are_arguments ps xs && start_all xs es) ≡ true) × (fits x (row.boundary_after R xs l) ≡ true) = and_parts (row.are_arguments ps xs && start_all xs es) (fits x (row.boundary_after R xs l)) t in
       let v : (row.are_arguments ps xs ≡ true) × (start_all xs es ≡ true) = and_parts (row.are_arguments ps xs) (start_all xs es) u.0 in
       subst (λ z. Prim T M G (fill z (head x))) (sym (k.2 n))
@@ -100,7 +101,8 @@ module _ (T : List Rule) (so : Sound T) (M : List (ℕ × Statement)) (G : List 
       let l : Arguments = heads xs in
       let n : Arguments = right_heads xs es in
       let k : (b : Statement) × BoundaryAfter R ps b × ((a : Arguments) → row.boundary_after R xs a ≡ row.at_arguments ps a b) = boundary_after_is R xs in
-      from_when (Prim T M G) ((row.are_arguments ps xs && start_all xs es) && fits x (row.boundary_after R xs n)) (fill (row.boundary_after R xs l) (head x)) y e (λ t.
+      from_when (Prim T M G) (nat_lt (length xs) (length R.premises) && ((row.are_arguments ps xs && start_all xs es) && fits x (row.boundary_after R xs n))) (fill (row.boundary_after R xs l) (head x)) y e (λ s.
+      let t : ((row.are_arguments ps xs && start_all xs es) && fits x (row.boundary_after R xs n)) ≡ true = (and_parts (nat_lt (length xs) (length R.premises)) ((row.are_arguments ps xs && start_all xs es) && fits x (row.boundary_after R xs n)) s).1 in
       let u : ((row.are_arguments ps xs && start_all xs es) ≡ true) × (fits x (row.boundary_after R xs n) ≡ true) = and_parts (row.are_arguments ps xs && start_all xs es) (fits x (row.boundary_after R xs n)) t in
       let v : (row.are_arguments ps xs ≡ true) × (start_all xs es ≡ true) = and_parts (row.are_arguments ps xs) (start_all xs es) u.0 in
       subst (λ z. Prim T M G (fill z (head x))) (sym (k.2 l))

@@ -63,7 +63,7 @@ fits_kept f (Meta m) ps a k g = terms_kept f ps k g
 
 -- each body of small arguments is small
 small_first : (p : Argument) (ps : List Argument) → AreSmall (p ∷ ps) → IsSmallBody p.1
-small_first (n, Some e) ps s = record { low = omega (arith, s.low); short = omega (arith, s.short); numbers = s.numbers.1 }
+small_first (n, Some e) ps s = record { kept = (omega (arith, s.low), omega (arith, s.short), s.numbers.1) }
 small_first (n, None) ps s = tt
 
 small_rest : (p : Argument) (ps : List Argument) → AreSmall (p ∷ ps) → AreSmall ps

@@ -114,8 +114,8 @@ numbers_of_applied (Meta m) ps f h = numbers_of_terms ps f h
 
 pub small_applied : (h : Node) (ps : List Argument) → IsApplication h → FitsNode h ps → AreSmall ps → IsSmall (applied h ps)
 small_applied h ps a f s =
-    record { low = omega (arith, s.low, depth_applied h ps f); short = omega (arith, s.short, size_applied h ps f); numbers = numbers_applied h ps a f s.numbers }
+    record { kept = (omega (arith, s.low, depth_applied h ps f), omega (arith, s.short, size_applied h ps f), numbers_applied h ps a f s.numbers) }
 
 pub small_arguments : (h : Node) (ps : List Argument) → FitsNode h ps → IsSmall (applied h ps) → AreSmall ps
 small_arguments h ps f s =
-    record { low = omega (arith, s.low, depth_applied h ps f); short = omega (arith, s.short, size_applied h ps f); numbers = numbers_of_applied h ps f s.numbers }
+    record { low = omega (arith, s.kept.0, depth_applied h ps f); short = omega (arith, s.kept.1, size_applied h ps f); numbers = numbers_of_applied h ps f s.kept.2 }

@@ -1,8 +1,9 @@
 //! Which rows were formed last.
 
 use crate::syntax::{Arg, Node};
-use ft_base::limits::MAX_REMEMBERED_ROWS;
 use std::alloc::Global;
+
+const MAX_REMEMBERED_ROWS: usize = 1_048_576;
 
 /// For each slot the place of a row that was formed with a mark of this slot. It may forget, and may name another row; who asks
 /// compares the row.

@@ -5,7 +5,7 @@ use Rattle.ft_grammar.specs.declared.syntax.Named.{Named}
 use Rattle.ft_meaning.specs.Trees.{Pattern, Form, place, ValueType}
 use Rattle.ft_meaning.specs.Typing.{Wanted, Exactly, PairOf, ListOf, OptionOf}
 use Rattle.ft_meaning.specs.Typing.{TypeWhy, Unbound, Twice, Mismatch, Arity, TypeFault, RuleType, Scope}
-use Rattle.ft_meaning.specs.Typing.{fault_at, meant_by, ensure_arity, ensure_new, wanted, with_value}
+use Rattle.ft_meaning.specs.Typing.{fault_at, meant_by, ensure_arity, ensure_new, ensure_type, with_value}
 use Rattle.ft_meaning.specs.Typing.{Bindings, case_scope, type_of}
 use Rattle.ft_equality.specs.Results.{ensure, some_or, ◌>>=◌, ◌>>◌}
 use Rattle.ft_types.specs.declared.fault.Wanted.{Wanted as AnyWanted}
@@ -163,7 +163,7 @@ type_of_case p e A s = case_scope p A s >>= type_of e
 -- a case for an operation that none of those before is for has the type
 unfoldable pub handler_has : Named → Named → Form → List Name → ValueType → Scope → Result (Unit {0}) TypeFault
 handler_has o x e before B s = meant_by s.operations o >>= λ p.
-    ensure_new o before >> (type_of e (with_value x.name p.0 s) >>= wanted (place e) B)
+    ensure_new o before >> (type_of e (with_value x.name p.0 s) >>= ensure_type (place e) B)
 
 -- the name is a symbol's, and so many are given as it takes
 unfoldable pub symbol_wanted : Named → ℕ → Scope → Result (Unit {0}) TypeFault

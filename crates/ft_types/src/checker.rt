@@ -6,7 +6,8 @@ ghost use Rattle.ft_meaning.specs.Names.{named};
 ghost use Rattle.ft_meaning.specs.Trees.{value_type};
 ghost use Rattle.ft_meaning.specs.Typing.{Exactly, Unbound, Twice, Mismatch, fault_at, meant_by};
 ghost use Rattle.ft_meaning.specs.Typing.{ensure_arity, ensure_new, same_type, with_value};
-ghost use Rattle.ft_meaning.specs.Typing.{wanted as type_wanted, either_wanted as type_either};
+ghost use Rattle.ft_meaning.specs.Typing.{ensure_type as type_wanted};
+ghost use Rattle.ft_meaning.specs.Typing.{ensure_statement as type_either};
 ghost use Rattle.ft_types.specs.Types.{type_in, type_at, Below, FitsBelow};
 ghost use Rattle.ft_types.specs.Names.{listed};
 ghost use Rattle.ft_types.specs.Checking.{scope_of, with_local, with_top, with_rule};
@@ -162,7 +163,7 @@ impl Checker {
     }
 
     /// The type found is the one wanted.
-    pub fn wanted(&self, at: u64, wanted: KnownType, found: KnownType) -> Result<(), TypeFault>
+    pub fn ensure_type(&self, at: u64, wanted: KnownType, found: KnownType) -> Result<(), TypeFault>
         requires { Below (length self.now.types) wanted × Below (length self.now.types) found }
         ensures { Tests
             (type_wanted at (type_in self.now.types wanted) (type_in self.now.types found))
@@ -176,7 +177,7 @@ impl Checker {
     }
 
     /// The type found is `judgement` or `boundary`.
-    pub fn either_wanted(&self, at: u64, found: KnownType) -> Result<(), TypeFault>
+    pub fn ensure_statement(&self, at: u64, found: KnownType) -> Result<(), TypeFault>
         requires { Below (length self.now.types) found }
         ensures { Tests (type_either at (type_in self.now.types found)) result }
     {

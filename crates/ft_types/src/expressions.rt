@@ -7,9 +7,9 @@ ghost use Rattle.ft_meaning.specs.Trees.{pair_of, call, congruence, perform, sub
 ghost use Rattle.ft_meaning.specs.Trees.{abstraction, let_in, if_then, match_with, handle_with};
 ghost use Rattle.ft_meaning.specs.Trees.{cons_of, argument, one, two, none_of, nil_of};
 ghost use Rattle.ft_meaning.specs.Trees.{no_value_case, value_case_of};
-ghost use Rattle.ft_meaning.specs.CommandTyping.{is_judgement};
-ghost use Rattle.ft_meaning.specs.Typing.{with_value, type_of as type_of_form, are_judgements};
-ghost use Rattle.ft_meaning.specs.Typing.{type_of_cases, cases_have, handlers_have};
+ghost use Rattle.ft_meaning.specs.CommandTyping.{ensure_judgement};
+ghost use Rattle.ft_meaning.specs.Typing.{with_value, type_of as type_of_form, ensure_judgements};
+ghost use Rattle.ft_meaning.specs.Typing.{type_of_cases, ensure_cases, ensure_handlers};
 ghost use Rattle.ft_meaning.specs.Typing.{word_type, first_wanted, word_type_of_two};
 ghost use Rattle.ft_meaning.proofs.Written.{case, handler, value};
 ghost use Rattle.ft_types.specs.Types.{type_in, Below};
@@ -52,16 +52,16 @@ impl Checker {
     {
         match word {
             OneForm::Left | OneForm::Right | OneForm::Typeof | OneForm::Domain => {
-                self.either_wanted(at, t)?;
+                self.ensure_statement(at, t)?;
                 Ok(KnownType::Judgement)
             }
             OneForm::Boundaryof => {
-                self.wanted(at, KnownType::Judgement, t)?;
+                self.ensure_type(at, KnownType::Judgement, t)?;
                 Ok(KnownType::Boundary)
             }
             OneForm::SomeWord => Ok(self.of_row(Row::Opt(t))?),
             OneForm::Refl | OneForm::Sym | OneForm::Natural | OneForm::Normal => {
-                self.wanted(at, KnownType::Judgement, t)?;
+                self.ensure_type(at, KnownType::Judgement, t)?;
                 Ok(KnownType::Judgement)
             }
         }
@@ -180,11 +180,11 @@ impl Checker {
     #[tactic(auto, using(crate::proofs::Rules::keeping))]
     pub fn judgement(&mut self, e: &Ast) -> Result<(), TypeFault>
         ensures keeps { Keeps self.old self.new }
-        ensures finds { Passes (is_judgement (form e.now) (scope_of self.old))
+        ensures finds { Passes (ensure_judgement (form e.now) (scope_of self.old))
             result self.old self.new }
     {
         let found = self.type_of(e)?;
-        self.wanted(place_of(e), KnownType::Judgement, found)
+        self.ensure_type(place_of(e), KnownType::Judgement, found)
     }
 
     // Each of the expressions is a judgement.
@@ -192,7 +192,7 @@ impl Checker {
     #[tactic(auto, using(crate::proofs::Rules::keeping))]
     fn judgements(&mut self, es: &[Ast]) -> Result<(), TypeFault>
         ensures keeps { Keeps self.old self.new }
-        ensures finds { Passes (are_judgements (forms (map form es.now)) (scope_of self.old))
+        ensures finds { Passes (ensure_judgements (forms (map form es.now)) (scope_of self.old))
             result self.old self.new }
     {
         for e in es {
@@ -220,10 +220,10 @@ impl Checker {
             (if_then 0 (form e.now) (form f.now) (form g.now)) }
     {
         let test = self.type_of(e)?;
-        self.wanted(place_of(e), KnownType::Bool, test)?;
+        self.ensure_type(place_of(e), KnownType::Bool, test)?;
         let first = self.type_of(f)?;
         let second = self.type_of(g)?;
-        self.wanted(place_of(g), first, second)?;
+        self.ensure_type(place_of(g), first, second)?;
         Ok(first)
     }
 
@@ -285,13 +285,13 @@ impl Checker {
         requires { Below (length self.old.types) t × Below (length self.old.types) wanted }
         ensures keeps { Keeps self.old self.new }
         ensures finds { Passes
-            (cases_have (cases (map case cs.now)) (type_in self.old.types t)
+            (ensure_cases (cases (map case cs.now)) (type_in self.old.types t)
             (type_in self.old.types wanted) (scope_of self.old))
             result self.old self.new }
     {
         for c in cs {
             let found = self.case(c, t)?;
-            self.wanted(place_of(c.body.get()), wanted, found)?;
+            self.ensure_type(place_of(c.body.get()), wanted, found)?;
         }
         Ok(())
     }
@@ -329,7 +329,7 @@ impl Checker {
         requires { Below (length self.old.types) t }
         ensures keeps { Keeps self.old self.new }
         ensures finds { Passes
-            (handlers_have (handlers (map handler hs.now)) [] (type_in self.old.types t)
+            (ensure_handlers (handlers (map handler hs.now)) [] (type_in self.old.types t)
             (scope_of self.old))
             result self.old self.new }
     {
@@ -356,7 +356,7 @@ impl Checker {
         let operation = self.operation(&h.operation)?;
         new_name(&h.operation, seen)?;
         let found = self.under(&h.argument, operation.argument, h.body.get())?;
-        self.wanted(place_of(h.body.get()), t, found)
+        self.ensure_type(place_of(h.body.get()), t, found)
     }
 
     #[cycle(typing)]
@@ -367,9 +367,9 @@ impl Checker {
             (abstraction 0 x.now (form e.now) (form f.now)) }
     {
         let domain = self.type_of(e)?;
-        self.wanted(place_of(e), KnownType::Judgement, domain)?;
+        self.ensure_type(place_of(e), KnownType::Judgement, domain)?;
         let found = self.under(x, KnownType::Judgement, f)?;
-        self.either_wanted(place_of(f), found)?;
+        self.ensure_statement(place_of(f), found)?;
         Ok(found)
     }
 
@@ -382,7 +382,7 @@ impl Checker {
         let first = self.type_of(e)?;
         let rest = self.type_of(f)?;
         let list = self.of_row(Row::List(first))?;
-        self.wanted(place_of(f), list, rest)?;
+        self.ensure_type(place_of(f), list, rest)?;
         Ok(list)
     }
 
@@ -403,9 +403,9 @@ impl Checker {
         ensures finds { FindsType result self.old self.new (two 0 word (form e.now) (form f.now)) }
     {
         let first = self.type_of(e)?;
-        self.wanted(place_of(e), self.first_wanted(word), first)?;
+        self.ensure_type(place_of(e), self.first_wanted(word), first)?;
         let second = self.type_of(f)?;
-        self.wanted(place_of(f), KnownType::Judgement, second)?;
+        self.ensure_type(place_of(f), KnownType::Judgement, second)?;
         self.word_of_two(word)
     }
 
@@ -429,9 +429,9 @@ impl Checker {
         self.rule(r)?;
         let list = self.of_row(Row::List(KnownType::Judgement))?;
         let first = self.type_of(e)?;
-        self.wanted(place_of(e), list, first)?;
+        self.ensure_type(place_of(e), list, first)?;
         let second = self.type_of(f)?;
-        self.wanted(place_of(f), list, second)?;
+        self.ensure_type(place_of(f), list, second)?;
         Ok(KnownType::Judgement)
     }
 
@@ -443,7 +443,7 @@ impl Checker {
     {
         let operation = self.operation(n)?;
         let found = self.type_of(e)?;
-        self.wanted(place_of(e), operation.argument, found)?;
+        self.ensure_type(place_of(e), operation.argument, found)?;
         Ok(operation.result)
     }
 
@@ -472,7 +472,7 @@ impl Checker {
             (substitution 0 (form e.now) (forms (map form es.now))) }
     {
         let t = self.type_of(e)?;
-        self.either_wanted(place_of(e), t)?;
+        self.ensure_statement(place_of(e), t)?;
         self.judgements(es)?;
         Ok(t)
     }

@@ -6,12 +6,11 @@ use Rattle.ft_theory.specs.Statements.{Claim, plain}
 use Rattle.ft_theory.specs.Rules.{Rule}
 use Rattle.ft_theory.specs.Steps.{Prim}
 use Rattle.ft_grammar.specs.Tokens.{tokens_of}
-use Rattle.ft_applications.specs.declared.syntax.Command.{Command}
-use Rattle.ft_applications.specs.Reading.{kinds}
-use Rattle.ft_applications.specs.Grammar.{AreCommands}
-use Rattle.ft_applications.specs.Texts.{name_text, claim_text}
-use Rattle.ft_applications.specs.Building.{theory, names}
-use Rattle.ft_applications.specs.Events.{Event, accepts, repeats, shows, events, run_of}
+use Rattle.ft_applications_meaning.specs.declared.syntax.Command.{Command}
+use Rattle.ft_applications_meaning.specs.Grammar.{kinds, AreCommands}
+use Rattle.ft_applications_meaning.specs.Texts.{name_text, claim_text}
+use Rattle.ft_applications_meaning.specs.Building.{theory, names}
+use Rattle.ft_applications_meaning.specs.Events.{Event, accepts, repeats, shows, events, run_of}
 
 -- a letter or a digit of ASCII, a space, a line feed, a parenthesis or a colon
 abbrev pub is_plain_character : ℕ → Bool

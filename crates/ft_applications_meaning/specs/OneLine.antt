@@ -1,7 +1,7 @@
 -- Texts of whole lines.
 use Rattle.std.specs.Prelude.{ℕ, zero, suc, ◌≡◌, Bool, true, not, ◌==◌, List, [], ◌++◌}
 use Rattle.std.specs.List.{list_all}
-use Rattle.ft_applications.specs.Transcript.{line_feed}
+use Rattle.ft_applications_meaning.specs.Transcript.{line_feed}
 
 -- no byte is a line feed
 abbrev pub has_no_line_feed : List ℕ → Bool

@@ -1,16 +1,12 @@
--- The statuses of a call, with their lines and their causes.
-use Rattle.std.specs.Prelude.{ℕ, ◌≡◌, ◌<◌, ◌+◌, ◌⊎◌, ◌++◌, List, [], length, codes, Option, IfSome}
-use Rattle.ft_outside.specs.Outside.{Rose, Appends, AppendsPrefix, greatest_count}
-use Rattle.ft_outside.specs.declared.errors.ReadErr.{ReadErr}
-use Rattle.ft_outside.specs.declared.errors.ReadErr.TheVariants as reading
-use Rattle.ft_applications.specs.Transcript.{line_feed, not_yet_line}
-use Rattle.ft_applications.specs.declared.fault.Fault.{Fault}
-use Rattle.ft_applications.specs.declared.fault.Fault.TheVariants as fault
-use Rattle.ft_top.specs.declared.words.Job.{Job}
-use Rattle.ft_top.specs.declared.words.Job.TheVariants as job
-use Rattle.ft_top.specs.declared.status.Status.{Status}
-use Rattle.ft_top.specs.declared.status.Status.TheVariants as status
-use Rattle.ft_top.specs.Words.{limit}
+-- The statuses of a call, with their lines.
+use Rattle.std.specs.Prelude.{ℕ, ◌≡◌, ◌<◌, ◌+◌, ◌⊎◌, ◌++◌, List, [], codes, Option}
+use Rattle.ft_streams.specs.Streams.{Rose, Appends, AppendsPrefix, greatest_count}
+use Rattle.ft_applications_meaning.specs.Transcript.{line_feed, not_yet_line}
+use Rattle.ft_answers.specs.declared.words.Job.{Job}
+use Rattle.ft_answers.specs.declared.words.Job.TheVariants as job
+use Rattle.ft_answers.specs.declared.status.Status.{Status}
+use Rattle.ft_answers.specs.declared.status.Status.TheVariants as status
+use Rattle.ft_answers.specs.Words.{limit}
 
 -- the number that the program ends with
 abbrev pub number_of : Status → ℕ
@@ -81,22 +77,3 @@ IsOverLimit j taken later = (taken + limit j < later) ⊎ (later ≡ greatest_co
 -- no fault came in a call
 abbrev pub HasNoFault : ℕ → ℕ → Type 0
 HasNoFault faults later = Rose faults later → ⊥
-
--- Why an input is not had, for the status of its error: the bytes that the source told before the call, the bytes taken before
--- and after it, and the faults before and after it.
-abbrev pub IsCauseOfReading : Job → Option (List ℕ) → ℕ → ℕ → ℕ → ℕ → Status → Type 0
-IsCauseOfReading j left taken taken' faults later status.ReadFault = Rose faults later
-IsCauseOfReading j left taken taken' faults later status.TooLong = IsOverLimit j taken taken' × IfSome left (λ bytes. limit j < length bytes)
-IsCauseOfReading j left taken taken' faults later status.Memory = Unit {0}
-IsCauseOfReading j left taken taken' faults later _ = ⊥
-
--- the status where an input is not read
-abbrev pub status_of_reading : ReadErr → Status
-status_of_reading reading.Fault = status.ReadFault
-status_of_reading reading.TooLong = status.TooLong
-status_of_reading reading.Memory = status.Memory
-
--- the status where a source is not run
-abbrev pub status_of_running : Fault → Status
-status_of_running fault.NotYet = status.Syntax
-status_of_running fault.Memory = status.Memory

@@ -1,19 +1,20 @@
 -- What a call answers: the text for the words and for the input, with its status.
 use Rattle.std.specs.Prelude.{ℕ, ◌<◌, ◌≤◌, List, length, Option}
-use Rattle.ft_outside.specs.Outside.{Rose, AppendsPrefix}
-use Rattle.ft_applications.specs.Transcript.{IsTranscript}
-use Rattle.ft_top.specs.declared.words.Job.{Job}
-use Rattle.ft_top.specs.declared.words.Job.TheVariants as job
-use Rattle.ft_top.specs.Words.{IsAsked, IsNoJob, limit}
-use Rattle.ft_top.specs.Statuses.{usage_line, read_line, too_long_line, line_for}
-use Rattle.ft_top.specs.Exports.{IsExport, BreaksOff}
-use Rattle.ft_top.specs.Verdicts.{IsVerdict}
+use Rattle.ft_base.specs.Names.{is_name_token}
+use Rattle.ft_streams.specs.Streams.{Rose, AppendsPrefix}
+use Rattle.ft_applications_meaning.specs.Transcript.{IsTranscript}
+use Rattle.ft_answers.specs.declared.words.Job.{Job}
+use Rattle.ft_answers.specs.declared.words.Job.TheVariants as job
+use Rattle.ft_answers.specs.Words.{IsAsked, IsNoJob, limit}
+use Rattle.ft_answers.specs.Statuses.{usage_line, read_line, too_long_line, line_for}
+use Rattle.ft_answers.specs.Exports.{IsExport, BreaksOff}
+use Rattle.ft_verdicts.specs.Verdicts.{IsVerdict}
 
 -- what a job writes for an input, with its status
 abbrev pub IsText : Job → List ℕ → List ℕ → ℕ → Type 0
 IsText job.Run bytes text status = IsTranscript bytes text status
 IsText job.Export bytes text status = IsExport bytes text status
-IsText job.Check bytes text status = IsVerdict bytes text status
+IsText job.Check bytes text status = IsVerdict is_name_token bytes text status
 
 -- The text to be written and the status to be answered, for words, the bytes of the input, and the counts of the source's
 -- faults before and after the call.

@@ -1,18 +1,23 @@
 -- The grammar of applications, as a relation between lists of tokens and trees. Parentheses make no node. The expression in
 -- a command has nesting 1, and one in parentheses has nesting 1 greater than the expression around it.
-use Rattle.std.specs.Prelude.{ℕ, suc, List, [], ◌∷◌, ◌++◌}
+use Rattle.std.specs.Prelude.{ℕ, suc, List, [], ◌∷◌, ◌++◌, map}
 use Rattle.ft_base.specs.declared.word.Word.TheVariants as word
 use Rattle.ft_grammar.specs.declared.token.Mark.TheVariants as mark
+use Rattle.ft_grammar.specs.declared.token.Token.{Token}
 use Rattle.ft_grammar.specs.declared.token.Kind.{Kind}
 use Rattle.ft_grammar.specs.declared.token.Kind.TheVariants as kind
-use Rattle.ft_applications.specs.declared.syntax.Application.{Application}
-use Rattle.ft_applications.specs.declared.syntax.Application.TheVariants as application
-use Rattle.ft_applications.specs.declared.syntax.Premise.{Premise}
-use Rattle.ft_applications.specs.declared.syntax.Premise.TheVariants as premise
-use Rattle.ft_applications.specs.declared.syntax.Conclusion.{Conclusion}
-use Rattle.ft_applications.specs.declared.syntax.Conclusion.TheVariants as conclusion
-use Rattle.ft_applications.specs.declared.syntax.Command.{Command}
-use Rattle.ft_applications.specs.declared.syntax.Command.TheVariants as command
+use Rattle.ft_applications_meaning.specs.declared.syntax.Application.{Application}
+use Rattle.ft_applications_meaning.specs.declared.syntax.Application.TheVariants as application
+use Rattle.ft_applications_meaning.specs.declared.syntax.Premise.{Premise}
+use Rattle.ft_applications_meaning.specs.declared.syntax.Premise.TheVariants as premise
+use Rattle.ft_applications_meaning.specs.declared.syntax.Conclusion.{Conclusion}
+use Rattle.ft_applications_meaning.specs.declared.syntax.Conclusion.TheVariants as conclusion
+use Rattle.ft_applications_meaning.specs.declared.syntax.Command.{Command}
+use Rattle.ft_applications_meaning.specs.declared.syntax.Command.TheVariants as command
+
+-- the kinds of the tokens
+abbrev pub kinds : List Token → List Kind
+kinds ts = map (λ t. t.kind) ts
 
 -- the token (
 abbrev pub left : Kind

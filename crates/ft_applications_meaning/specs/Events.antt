@@ -3,9 +3,9 @@ use Rattle.std.specs.Prelude.{ℕ, cond, List, [], ◌∷◌, Option, Some, opti
 use Rattle.ft_theory.specs.Statements.{Claim}
 use Rattle.ft_theory.specs.Rules.{Rule}
 use Rattle.ft_items.specs.Good.{is_new}
-use Rattle.ft_applications.specs.declared.syntax.Command.{Command}
-use Rattle.ft_applications.specs.declared.syntax.Command.TheVariants as command
-use Rattle.ft_applications.specs.Building.{Declaration, names, claim_of, declared, with_rule}
+use Rattle.ft_applications_meaning.specs.declared.syntax.Command.{Command}
+use Rattle.ft_applications_meaning.specs.declared.syntax.Command.TheVariants as command
+use Rattle.ft_applications_meaning.specs.Building.{Declaration, names, claim_of, declared, with_rule}
 
 -- What a command does: it declares a rule of a new name, or a rule of the name of an earlier one, or it shows a thesis over
 -- the rules before it.

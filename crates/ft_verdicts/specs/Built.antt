@@ -4,9 +4,9 @@ use Rattle.std.specs.Prelude.{ℕ, zero, suc, ◌≡◌, ◌≢◌, ◌⊎◌, �
 use Rattle.ft_theory.specs.Statements.{Statement}
 use Rattle.ft_items.specs.Equal.{is_thesis}
 use Rattle.ft_items.specs.Item.{Justification, by_var, by_abs, by_subst, by_substeq, by_refl, by_sym, by_trans, by_conv, by_conveq, by_left, by_right, by_typeof, by_domain, by_boundary, by_widen, by_btype, by_bterm, by_beqty, by_beqtm, by_rule, by_rulewith, Entry, Item, variable, metavariable, rule, entry, shown}
-use Rattle.ft_items.specs.Store.{Store, Resolved, resolve, empty_store, add}
+use Rattle.ft_items.specs.Store.{Store, Resolved, resolve, empty_store, add, Declarations}
 use Rattle.ft_items.specs.Rows.{conclusion, result_set, concludes_thesis}
-use Rattle.ft_items.specs.Good.{Reject, Reference, Kind, Premise, unless, of_kind, same_kind, reason_of_result, reason_in, found_at, Counts, counts, Verdict, Accepted, Rejected, verdict_by, verdict}
+use Rattle.ft_items.specs.Good.{Reject, Reference, Kind, Premise, unless, of_kind, same_truth, reason_of_result, reason_in, found_at, Counts, counts, Verdict, Accepted, Rejected, verdict_by, verdict}
 
 -- the test for the steps whose conditions are tested; the others are not built yet
 abbrev pub is_built : {E V M R : Type 0} → Justification E V M R → Bool
@@ -34,20 +34,20 @@ is_built (by_rulewith r b ps) = true
 is_built s = false
 
 -- the conclusion of a step that is built; none for the others
-abbrev pub conclusion_built : Store → Resolved → Option Statement
+abbrev pub conclusion_built : Declarations → Resolved → Option Statement
 conclusion_built W s = cond (is_built s) (conclusion W s) None
 
 -- the reason against an entry, where c tells what steps conclude: Reference, Kind, and those of its result
-abbrev pub reason_by : (Store → Resolved → Option Statement) → Store → Option Resolved → Entry → Option Reject
+abbrev pub reason_by : (Declarations → Resolved → Option Statement) → Declarations → Option Resolved → Entry → Option Reject
 reason_by c W None e = Some Reference
-reason_by c W (Some s) e = unless (of_kind s && same_kind (concludes_thesis s) (is_thesis e.statement)) Kind (reason_of_result (c W s) (result_set s) e)
+reason_by c W (Some s) e = unless (of_kind s && same_truth (concludes_thesis s) (is_thesis e.statement)) Kind (reason_of_result (c W s) (result_set s) e)
 
 -- The first reason against an item, as far as steps are built.
 abbrev pub reason_built : Store → Item → Option Reject
 reason_built W (variable v n p) = reason_in W (variable v n p)
 reason_built W (metavariable n p) = reason_in W (metavariable n p)
 reason_built W (rule n ms p) = reason_in W (rule n ms p)
-reason_built W (entry e) = reason_by conclusion_built W (resolve W e.step) e
+reason_built W (entry e) = reason_by conclusion_built W.declarations (resolve W e.step) e
 reason_built W (shown p) = reason_in W (shown p)
 
 -- the first item against which there is a reason by r, with this reason; items are counted on from k

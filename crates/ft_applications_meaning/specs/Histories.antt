@@ -1,14 +1,14 @@
 -- What a list of items tells: the rules that it declares and the statements that it shows. Also which lists are derivations
--- of a run, and which have the steps of this language alone.
+-- of a run.
 use Rattle.std.specs.Prelude.{ℕ, ◌≡◌, List, [], ◌∷◌, ◌++◌, Option, Some, None}
 use Rattle.ft_theory.specs.Statements.{Statement, plain}
 use Rattle.ft_theory.specs.Rules.{Rule}
 use Rattle.ft_items.specs.Sets.{Atom}
-use Rattle.ft_items.specs.Item.{Stated, by_btype, by_bterm, by_rule, Name, Item, variable, metavariable, rule, entry, shown}
+use Rattle.ft_items.specs.Item.{Name, Item, variable, metavariable, rule, entry, shown}
 use Rattle.ft_items.specs.Store.{Assertion, Declared, Store, each, entry_named, metavariable_named, premises_of, claim_in, add, empty_store}
 use Rattle.ft_items.specs.Good.{Good}
-use Rattle.ft_applications.specs.Building.{theory}
-use Rattle.ft_applications.specs.Events.{Event, accepts, repeats, shows, run_of}
+use Rattle.ft_applications_meaning.specs.Building.{theory}
+use Rattle.ft_applications_meaning.specs.Events.{Event, accepts, repeats, shows, run_of}
 
 -- What a list of items tells its reader: a rule with its name is declared; or a statement is shown, with its set, over the
 -- rules declared before it.
@@ -31,9 +31,9 @@ told_shown T (Some p) = states T p.statement p.set ∷ []
 abbrev pub told_by : Store → Item → List Told
 told_by W (variable v n p) = []
 told_by W (metavariable n p) = []
-told_by W (rule n ms p) = told_rule n (each (metavariable_named W) ms) (entry_named W p)
+told_by W (rule n ms p) = told_rule n (each (metavariable_named W.declarations) ms) (entry_named W p)
 told_by W (entry e) = []
-told_by W (shown p) = told_shown W.rules (entry_named W p)
+told_by W (shown p) = told_shown W.declarations.rules (entry_named W p)
 
 -- what items tell after what the store has
 abbrev pub told_from : Store → List Item → List Told
@@ -60,23 +60,3 @@ told_in_run es = told_in (run_of es)
 pub record IsDerivationOf (items : List Item) (es : List Event) : Type 0 where
   pub good : Good items
   pub tells : told items ≡ told_in_run es
-
--- the steps of this language: the boundary of a type, or of a term of a type, and a rule at arguments
-abbrev pub IsStepOfApplications : Stated → Type 0
-IsStepOfApplications by_btype = Unit {0}
-IsStepOfApplications (by_bterm p) = Unit {0}
-IsStepOfApplications (by_rule r ps) = Unit {0}
-IsStepOfApplications _ = ⊥
-
--- An entry has a step of this language, and rests on nothing. There are no variables.
-abbrev pub IsOfApplications : Item → Type 0
-IsOfApplications (variable v n p) = ⊥
-IsOfApplications (metavariable n p) = Unit {0}
-IsOfApplications (rule n ms p) = Unit {0}
-IsOfApplications (entry e) = IsStepOfApplications e.step × (e.set ≡ [])
-IsOfApplications (shown p) = Unit {0}
-
--- each item is of this language
-abbrev pub AllOfApplications : List Item → Type 0
-AllOfApplications [] = Unit {0}
-AllOfApplications (i ∷ items) = IsOfApplications i × AllOfApplications items

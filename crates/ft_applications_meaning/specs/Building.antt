@@ -7,13 +7,13 @@ use Rattle.ft_theory.specs.Rules.{Rule}
 use Rattle.ft_items.specs.Equal.{fit_all, heads}
 use Rattle.ft_items.specs.Rows.{when}
 use Rattle.ft_items.specs.Good.{equal_names, is_new}
-use Rattle.ft_applications.specs.declared.syntax.Application.{Application}
-use Rattle.ft_applications.specs.declared.syntax.Application.TheOpen.{Application-F}
-use Rattle.ft_applications.specs.declared.syntax.Application.TheFolds.{fold-Application}
-use Rattle.ft_applications.specs.declared.syntax.Premise.{Premise}
-use Rattle.ft_applications.specs.declared.syntax.Premise.TheVariants as premise
-use Rattle.ft_applications.specs.declared.syntax.Conclusion.{Conclusion}
-use Rattle.ft_applications.specs.declared.syntax.Conclusion.TheVariants as conclusion
+use Rattle.ft_applications_meaning.specs.declared.syntax.Application.{Application}
+use Rattle.ft_applications_meaning.specs.declared.syntax.Application.TheOpen.{Application-F}
+use Rattle.ft_applications_meaning.specs.declared.syntax.Application.TheFolds.{fold-Application}
+use Rattle.ft_applications_meaning.specs.declared.syntax.Premise.{Premise}
+use Rattle.ft_applications_meaning.specs.declared.syntax.Premise.TheVariants as premise
+use Rattle.ft_applications_meaning.specs.declared.syntax.Conclusion.{Conclusion}
+use Rattle.ft_applications_meaning.specs.declared.syntax.Conclusion.TheVariants as conclusion
 
 -- a rule with its name
 pub record Declaration : Type 0 where

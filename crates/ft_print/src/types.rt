@@ -18,9 +18,8 @@ pub fn type_text(alloc: Global, ty: &AmlType) -> Result<Text, Memory>
 }
 
 // Appends a type.
-
 #[cycle(types)]
-fn push_type(ty: &AmlType, out: &mut Text) -> Result<(), Memory>
+pub fn push_type(ty: &AmlType, out: &mut Text) -> Result<(), Memory>
     ensures ok { OnOk result (out.new ≡ out.old ++ type_text (value_type ty.now)) }
 {
     match ty {
@@ -45,7 +44,6 @@ fn push_type(ty: &AmlType, out: &mut Text) -> Result<(), Memory>
 }
 
 // Appends a type inside another one.
-
 #[cycle(types)]
 fn push_inside(ty: &AmlType, out: &mut Text) -> Result<(), Memory>
     ensures ok { OnOk result

@@ -1,0 +1,18 @@
+//! Tests of what a run tells: sequents, refusals, faults, types, places and lines.
+
+#![tactic(auto)]
+
+#[cfg(test)]
+mod expressions;
+#[cfg(test)]
+mod faults;
+#[cfg(test)]
+mod lines;
+#[cfg(test)]
+mod places;
+#[cfg(test)]
+mod sequents;
+#[cfg(test)]
+mod theory;
+#[cfg(test)]
+mod types;

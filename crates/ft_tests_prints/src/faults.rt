@@ -4,7 +4,6 @@ use crate::theory::{Theory, name};
 use ft_assume::Atom;
 use ft_base::{Memory, Text};
 use ft_judge::{Differ, Refusal};
-use ft_kernel::Kernel;
 use ft_print::{
     bad_left_text, duplicate_rule_text, equation_premise_text, no_match_text, not_equation_text,
     open_conclusion_text, open_premise_text, refusal_text, refused_text, too_many_rules_text,

@@ -1,10 +1,8 @@
 //! Sequents: their contexts and their theses.
 
-ghost use Rattle.ft_kernel.specs.State.{IsThesisOf};
-
+use crate::asked::{Asked, Generic};
 use crate::theory::{Theory, Which};
-use ft_base::{Memory, Text};
-use ft_kernel::{J, Kernel};
+use ft_base::Text;
 use ft_nucleus::{refl, widen};
 use ft_print::{sequent_lines, sequent_text};
 use ft_syntax::SynFault;
@@ -25,6 +23,20 @@ const TOGETHER: [(Which, Which, &str); 4] = [
     (Which::Abstraction, Which::Metavariable, "M?0 := _ type |- {@0 : A} @0 : A"),
     (Which::Variable, Which::Metavariable, "M?0 := _ type, x#0 : A |- x#0 : A"),
     (Which::Metavariable, Which::Variable, "M?0 := _ type, x#0 : A |- M?0 type"),
+];
+
+// What a metavariable is asked for, and its sequent.
+const ASKED: [(Asked, &str); 4] = [
+    (Asked::Term, "t?0 := _ : A |- t?0 : A"),
+    (Asked::TypeEquation, "e?0 := A == A |- A == A"),
+    (
+        Asked::TermEquation,
+        "t?0 := _ : A, e?1 := t?0 == t?0 : A |- t?0 == t?0 : A",
+    ),
+    (
+        Asked::Family,
+        "B?0 := {@0 : A} _ type |- {@0 : A} B?0(@0) type",
+    ),
 ];
 
 // The sequent of a thesis.
@@ -61,6 +73,21 @@ fn a_thesis_has_its_sequent(rt: HostRuntime) -> Result<(), Fail> {
         assert!(rt; found.bytes() == plain.as_bytes(), "{plain}");
         let found = told_reflexive(rt.alloc(), which)?;
         assert!(rt; found.bytes() == reflexive.as_bytes(), "{reflexive}");
+    }
+    Ok(())
+}
+
+// The sequent of a metavariable at its bound variables.
+fn told_asked(alloc: Global, asked: Asked) -> Result<Text, SynFault> {
+    let generic = Generic::new(alloc, asked)?;
+    Ok(sequent_text(alloc, &generic.kernel, generic.thesis)?)
+}
+
+#[test]
+fn a_boundary_has_its_text_in_a_context(rt: HostRuntime) -> Result<(), Fail> {
+    for (asked, wanted) in ASKED {
+        let found = told_asked(rt.alloc(), asked)?;
+        assert!(rt; found.bytes() == wanted.as_bytes(), "{wanted}");
     }
     Ok(())
 }

@@ -40,7 +40,7 @@ pub fn name(alloc: Global, text: &str) -> Result<Name, Memory> {
 }
 
 // Declares a type, and answers the boundary of types and the type.
-fn declare_type(alloc: Global, k: &mut Kernel, name: Name) -> Result<(B, J), SynFault>
+pub fn declare_type(alloc: Global, k: &mut Kernel, name: Name) -> Result<(B, J), SynFault>
     requires { k.old.items ≡ [] }
     ensures tokens { IfOk result (λ r. (r.0 ≡ 0) × (r.1 ≡ 1)) }
     ensures items { IfOk result (λ _. HasType k.new.items) }
@@ -66,7 +66,7 @@ fn declare_type(alloc: Global, k: &mut Kernel, name: Name) -> Result<(B, J), Syn
 }
 
 // Declares a variable of the type, and answers it with its thesis.
-fn declare_variable(
+pub fn declare_variable(
     alloc: Global,
     k: &mut Kernel,
     ty: J,

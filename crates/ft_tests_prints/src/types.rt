@@ -1,12 +1,12 @@
 //! Types, and why a command has none.
 
+use crate::theory::name;
 use ft_base::{Memory, Text};
 use ft_grammar::AmlType;
 use ft_print::{
     arity_text, mismatch_text, no_list_text, no_option_text, no_pair_text, twice_text, type_text,
     unbound_text,
 };
-use crate::theory::name;
 use sqlite_items::Boxed;
 use std::alloc::Global;
 use std::test::Fail;

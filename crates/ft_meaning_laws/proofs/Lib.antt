@@ -20,3 +20,5 @@ mod Contexts
 mod Runs
 mod Told
 mod Whole
+mod Mentions
+mod Staying

@@ -30,11 +30,8 @@ pub use sequents::sequent_text;
 pub use shape_faults::{
     bad_left_text, equation_premise_text, not_equation_text, undetermined_text,
 };
-pub use sources::{
-    no_text_line, not_yet_line, too_long_line, too_nested_line, unexpected_line,
-};
+pub use sources::{no_text_line, not_yet_line, too_long_line, too_nested_line, unexpected_line};
 pub use type_faults::{
-    arity_text, mismatch_text, no_list_text, no_option_text, no_pair_text, twice_text,
-    unbound_text,
+    arity_text, mismatch_text, no_list_text, no_option_text, no_pair_text, twice_text, unbound_text,
 };
 pub use types::type_text;

@@ -57,10 +57,7 @@ const SHAPES: [(Shape, &str); 11] = [
         Shape::Variables,
         "TypeDiffers: found A(#1, x#0, #1), wanted A",
     ),
-    (
-        Shape::NotDeclared,
-        "TypeDiffers: found (?4), wanted A",
-    ),
+    (Shape::NotDeclared, "TypeDiffers: found (?4), wanted A"),
 ];
 
 // An argument with a body.

@@ -1,8 +1,9 @@
 //! Refusals, and why a run ends.
 
 use crate::theory::{Theory, name};
+use crate::told::is;
 use ft_assume::Atom;
-use ft_base::{Memory, Text};
+use ft_base::Text;
 use ft_judge::{Differ, Refusal};
 use ft_print::{
     bad_left_text, duplicate_rule_text, equation_premise_text, no_match_text, not_equation_text,
@@ -29,11 +30,6 @@ const REFUSALS: [(Refusal, &str); 7] = [
     (Refusal::TooBig, "refused TooBig"),
     (Refusal::NotApplication, "refused NotApplication"),
 ];
-
-// Whether the text is this one.
-fn is(found: Result<Text, Memory>, wanted: &str) -> Result<bool, Memory> {
-    Ok(found?.bytes() == wanted.as_bytes())
-}
 
 // The text of a refusal over the small theory.
 fn told(alloc: Global, r: Refusal) -> Result<Text, SynFault> {
@@ -77,8 +73,8 @@ fn sides_that_differ_have_their_text(rt: HostRuntime) -> Result<(), Fail> {
 fn a_run_that_ends_tells_why(rt: HostRuntime) -> Result<(), Fail> {
     let alloc = rt.alloc();
     let coerce = name(alloc, "coerce")?;
-    assert!(rt; is(unhandled_text(alloc, &coerce), "unhandled coerce")?);
-    assert!(rt; is(no_match_text(alloc), "no match")?);
+    assert!(rt; is(unhandled_text(alloc, &coerce), "unhandled coerce"));
+    assert!(rt; is(no_match_text(alloc), "no match"));
     Ok(())
 }
 
@@ -88,21 +84,40 @@ fn a_rule_that_is_not_declared_tells_why(rt: HostRuntime) -> Result<(), Fail> {
     let nat = name(alloc, "Nat")?;
     let theory = Theory::new(alloc)?;
     let k = &theory.kernel;
-    assert!(rt; is(duplicate_rule_text(alloc, &nat), "rule Nat declared twice")?);
-    assert!(rt; is(too_many_rules_text(alloc), "too many rules")?);
-    assert!(rt; is(open_premise_text(alloc, k, 1, Atom::Var(7)), "premise 1 keeps x#0")?);
-    assert!(rt; is(open_premise_text(alloc, k, 2, Atom::Met(0)), "premise 2 keeps M?0")?);
-    assert!(rt; is(open_conclusion_text(alloc, k, Atom::Var(7)), "conclusion keeps x#0")?);
-    assert!(rt; is(open_conclusion_text(alloc, k, Atom::Met(0)), "conclusion keeps M?0")?);
+    assert!(rt; is(duplicate_rule_text(alloc, &nat), "rule Nat declared twice"));
+    assert!(rt; is(too_many_rules_text(alloc), "too many rules"));
+    assert!(rt;
+        is(
+            open_premise_text(alloc, k, 1, Atom::Var(7)),
+            "premise 1 keeps x#0"
+        )
+    );
+    assert!(rt;
+        is(
+            open_premise_text(alloc, k, 2, Atom::Met(0)),
+            "premise 2 keeps M?0"
+        )
+    );
+    assert!(rt;
+        is(
+            open_conclusion_text(alloc, k, Atom::Var(7)),
+            "conclusion keeps x#0"
+        )
+    );
+    assert!(rt;
+        is(
+            open_conclusion_text(alloc, k, Atom::Met(0)),
+            "conclusion keeps M?0"
+        )
+    );
     Ok(())
 }
 
 #[test]
-fn a_rule_without_the_shape_tells_why(rt: HostRuntime) -> Result<(), Fail> {
+fn a_rule_without_the_shape_tells_why(rt: HostRuntime) {
     let alloc = rt.alloc();
-    assert!(rt; is(not_equation_text(alloc), "shape: not an equation")?);
-    assert!(rt; is(equation_premise_text(alloc, 2), "shape: equation premise 2")?);
-    assert!(rt; is(bad_left_text(alloc), "shape: bad left side")?);
-    assert!(rt; is(undetermined_text(alloc, 1), "shape: premise 1 undetermined")?);
-    Ok(())
+    assert!(rt; is(not_equation_text(alloc), "shape: not an equation"));
+    assert!(rt; is(equation_premise_text(alloc, 2), "shape: equation premise 2"));
+    assert!(rt; is(bad_left_text(alloc), "shape: bad left side"));
+    assert!(rt; is(undetermined_text(alloc, 1), "shape: premise 1 undetermined"));
 }

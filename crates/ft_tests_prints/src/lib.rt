@@ -17,4 +17,6 @@ mod sequents;
 #[cfg(test)]
 mod theory;
 #[cfg(test)]
+mod told;
+#[cfg(test)]
 mod types;

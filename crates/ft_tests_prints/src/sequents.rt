@@ -12,17 +12,41 @@ use std::test::Fail;
 // A thesis, and the sequents of it and of it equal to itself.
 const ALONE: [(Which, &str, &str); 4] = [
     (Which::Type, "|- A type", "|- A == A"),
-    (Which::Variable, "x#0 : A |- x#0 : A", "x#0 : A |- x#0 == x#0 : A"),
-    (Which::Metavariable, "M?0 := _ type |- M?0 type", "M?0 := _ type |- M?0 == M?0"),
-    (Which::Abstraction, "|- {@0 : A} @0 : A", "|- {@0 : A} @0 == @0 : A"),
+    (
+        Which::Variable,
+        "x#0 : A |- x#0 : A",
+        "x#0 : A |- x#0 == x#0 : A",
+    ),
+    (
+        Which::Metavariable,
+        "M?0 := _ type |- M?0 type",
+        "M?0 := _ type |- M?0 == M?0",
+    ),
+    (
+        Which::Abstraction,
+        "|- {@0 : A} @0 : A",
+        "|- {@0 : A} @0 == @0 : A",
+    ),
 ];
 
 // Two theses, and the sequent of the first with what both rest on.
 const TOGETHER: [(Which, Which, &str); 4] = [
     (Which::Type, Which::Variable, "x#0 : A |- A type"),
-    (Which::Abstraction, Which::Metavariable, "M?0 := _ type |- {@0 : A} @0 : A"),
-    (Which::Variable, Which::Metavariable, "M?0 := _ type, x#0 : A |- x#0 : A"),
-    (Which::Metavariable, Which::Variable, "M?0 := _ type, x#0 : A |- M?0 type"),
+    (
+        Which::Abstraction,
+        Which::Metavariable,
+        "M?0 := _ type |- {@0 : A} @0 : A",
+    ),
+    (
+        Which::Variable,
+        Which::Metavariable,
+        "M?0 := _ type, x#0 : A |- x#0 : A",
+    ),
+    (
+        Which::Metavariable,
+        Which::Variable,
+        "M?0 := _ type, x#0 : A |- M?0 type",
+    ),
 ];
 
 // What a metavariable is asked for, and its sequent.
@@ -116,8 +140,7 @@ fn all_lines(alloc: Global) -> Result<Text, SynFault> {
 fn judgements_have_a_line_each(rt: HostRuntime) -> Result<(), Fail> {
     let found = all_lines(rt.alloc())?;
     assert!(rt;
-        found.bytes()
-            == b"|- A type\nM?0 := _ type |- M?0 type\n|- {@0 : A} @0 : A\n".as_slice()
+        found.bytes() == b"|- A type\nM?0 := _ type |- M?0 type\n|- {@0 : A} @0 : A\n".as_slice()
     );
     Ok(())
 }

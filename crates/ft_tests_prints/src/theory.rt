@@ -8,7 +8,9 @@ ghost use Rattle.ft_tests_prints.specs.Theory.{HasType, HasVariable, HasMetavari
 use ft_assume::{Assume, Atom};
 use ft_base::{Memory, Name};
 use ft_judge::{Boundary, Domains, Form, Goal, Thesis};
-use ft_kernel::{B, J, Judgements, Kernel, MetItem, Metavariables, Part, RuleItem, Step, V, VarItem};
+use ft_kernel::{
+    B, J, Judgements, Kernel, MetItem, Metavariables, Part, RuleItem, Step, V, VarItem,
+};
 use ft_syntax::SynFault;
 use std::alloc::Global;
 

@@ -1,7 +1,8 @@
 //! Types, and why a command has none.
 
 use crate::theory::name;
-use ft_base::{Memory, Text};
+use crate::told::is;
+use ft_base::Memory;
 use ft_grammar::AmlType;
 use ft_print::{
     arity_text, mismatch_text, no_list_text, no_option_text, no_pair_text, twice_text, type_text,
@@ -26,24 +27,18 @@ fn option(alloc: Global, a: AmlType) -> Result<AmlType, Memory> {
     Ok(AmlType::Opt(Boxed::new(alloc, a)?))
 }
 
-// Whether the text is this one.
-fn is(found: Result<Text, Memory>, wanted: &str) -> Result<bool, Memory> {
-    Ok(found?.bytes() == wanted.as_bytes())
-}
-
 // Whether the type has the text.
-fn reads(alloc: Global, a: AmlType, wanted: &str) -> Result<bool, Memory> {
+fn reads(alloc: Global, a: AmlType, wanted: &str) -> bool {
     is(type_text(alloc, &a), wanted)
 }
 
 #[test]
-fn a_type_without_parts_is_its_word(rt: HostRuntime) -> Result<(), Fail> {
+fn a_type_without_parts_is_its_word(rt: HostRuntime) {
     let alloc = rt.alloc();
-    assert!(rt; reads(alloc, AmlType::Judgement, "judgement")?);
-    assert!(rt; reads(alloc, AmlType::Boundary, "boundary")?);
-    assert!(rt; reads(alloc, AmlType::Unit, "unit")?);
-    assert!(rt; reads(alloc, AmlType::Bool, "bool")?);
-    Ok(())
+    assert!(rt; reads(alloc, AmlType::Judgement, "judgement"));
+    assert!(rt; reads(alloc, AmlType::Boundary, "boundary"));
+    assert!(rt; reads(alloc, AmlType::Unit, "unit"));
+    assert!(rt; reads(alloc, AmlType::Bool, "bool"));
 }
 
 #[test]
@@ -51,10 +46,10 @@ fn a_pair_inside_a_type_stands_in_parentheses(rt: HostRuntime) -> Result<(), Fai
     let alloc = rt.alloc();
     let left = pair(alloc, AmlType::Unit, AmlType::Bool)?;
     let a = pair(alloc, left, AmlType::Boundary)?;
-    assert!(rt; reads(alloc, a, "(unit * bool) * boundary")?);
+    assert!(rt; reads(alloc, a, "(unit * bool) * boundary"));
     let right = pair(alloc, AmlType::Unit, AmlType::Bool)?;
     let a = pair(alloc, AmlType::Boundary, right)?;
-    assert!(rt; reads(alloc, a, "boundary * (unit * bool)")?);
+    assert!(rt; reads(alloc, a, "boundary * (unit * bool)"));
     Ok(())
 }
 
@@ -62,11 +57,11 @@ fn a_pair_inside_a_type_stands_in_parentheses(rt: HostRuntime) -> Result<(), Fai
 fn lists_and_options_stand_before_their_type(rt: HostRuntime) -> Result<(), Fail> {
     let alloc = rt.alloc();
     let inner = option(alloc, AmlType::Judgement)?;
-    assert!(rt; reads(alloc, list(alloc, inner)?, "list option judgement")?);
+    assert!(rt; reads(alloc, list(alloc, inner)?, "list option judgement"));
     let inner = pair(alloc, AmlType::Bool, AmlType::Unit)?;
-    assert!(rt; reads(alloc, list(alloc, inner)?, "list (bool * unit)")?);
+    assert!(rt; reads(alloc, list(alloc, inner)?, "list (bool * unit)"));
     let inner = pair(alloc, AmlType::Bool, AmlType::Unit)?;
-    assert!(rt; reads(alloc, option(alloc, inner)?, "option (bool * unit)")?);
+    assert!(rt; reads(alloc, option(alloc, inner)?, "option (bool * unit)"));
     Ok(())
 }
 
@@ -74,9 +69,9 @@ fn lists_and_options_stand_before_their_type(rt: HostRuntime) -> Result<(), Fail
 fn a_name_that_has_no_type_is_told(rt: HostRuntime) -> Result<(), Fail> {
     let alloc = rt.alloc();
     let nat = name(alloc, "Nat")?;
-    assert!(rt; is(unbound_text(alloc, &nat), "unbound Nat")?);
-    assert!(rt; is(twice_text(alloc, &nat), "Nat declared twice")?);
-    assert!(rt; is(arity_text(alloc, &nat, 0, 1), "Nat takes 0, given 1")?);
+    assert!(rt; is(unbound_text(alloc, &nat), "unbound Nat"));
+    assert!(rt; is(twice_text(alloc, &nat), "Nat declared twice"));
+    assert!(rt; is(arity_text(alloc, &nat, 0, 1), "Nat takes 0, given 1"));
     Ok(())
 }
 
@@ -89,11 +84,11 @@ fn a_type_is_told_where_another_is_wanted(rt: HostRuntime) -> Result<(), Fail> {
         is(
             mismatch_text(alloc, &found, &wanted),
             "type option bool, wanted list judgement"
-        )?
+        )
     );
     let found = AmlType::Bool;
-    assert!(rt; is(no_pair_text(alloc, &found), "type bool, wanted pair")?);
-    assert!(rt; is(no_list_text(alloc, &found), "type bool, wanted list")?);
-    assert!(rt; is(no_option_text(alloc, &found), "type bool, wanted option")?);
+    assert!(rt; is(no_pair_text(alloc, &found), "type bool, wanted pair"));
+    assert!(rt; is(no_list_text(alloc, &found), "type bool, wanted list"));
+    assert!(rt; is(no_option_text(alloc, &found), "type bool, wanted option"));
     Ok(())
 }

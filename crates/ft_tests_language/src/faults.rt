@@ -4,8 +4,8 @@ use ft_base::{Memory, Text};
 use ft_grammar::SyntaxFault;
 use ft_lexer::tokens;
 use ft_parser::parse;
-use ft_print::{line_col, type_text};
-use ft_types::{Scope, TypeFault, TypeWhy, Wanted, check_command};
+use ft_print::{line_col, type_why_text};
+use ft_types::{Scope, TypeFault, check_command};
 use std::alloc::Global;
 
 /// Four rules: a type, a term, a symbol with a premise, and an equation.
@@ -39,46 +39,6 @@ fn fault_text(alloc: Global, source: &str, fault: &TypeFault) -> Result<Text, Me
     out.push_str(":")?;
     out.push_number(column)?;
     out.push_str(" ")?;
-    push_why(alloc, &fault.why, &mut out)?;
+    out.push(type_why_text(alloc, &fault.why)?.bytes())?;
     Ok(out)
-}
-
-fn push_why(alloc: Global, why: &TypeWhy, out: &mut Text) -> Result<(), Memory> {
-    match why {
-        TypeWhy::Unbound(name) => {
-            out.push_str("unbound ")?;
-            out.push_chars(name.chars())
-        }
-        TypeWhy::Twice(name) => {
-            out.push_chars(name.chars())?;
-            out.push_str(" declared twice")
-        }
-        TypeWhy::Mismatch(found, wanted) => {
-            out.push_str("type ")?;
-            out.push(type_text(alloc, found)?.bytes())?;
-            out.push_str(", wanted ")?;
-            push_wanted(alloc, wanted, out)
-        }
-        TypeWhy::Arity(name, takes, given) => {
-            out.push_chars(name.chars())?;
-            push_counts(*takes, *given, out)
-        }
-        TypeWhy::Memory => out.push_str("memory"),
-    }
-}
-
-fn push_wanted(alloc: Global, wanted: &Wanted, out: &mut Text) -> Result<(), Memory> {
-    match wanted {
-        Wanted::Exactly(t) => out.push(type_text(alloc, t)?.bytes()),
-        Wanted::PairOf => out.push_str("pair"),
-        Wanted::ListOf => out.push_str("list"),
-        Wanted::OptionOf => out.push_str("option"),
-    }
-}
-
-fn push_counts(takes: u64, given: u64, out: &mut Text) -> Result<(), Memory> {
-    out.push_str(" takes ")?;
-    out.push_number(takes)?;
-    out.push_str(", given ")?;
-    out.push_number(given)
 }

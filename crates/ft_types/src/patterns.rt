@@ -71,7 +71,11 @@ impl Checker {
             }
             Pattern::Name(at, name) => self.bind_name(*at, name, t, found),
             Pattern::Wildcard(_) => Ok(()),
-            Pattern::TrueWord(at) | Pattern::FalseWord(at) => self.ensure_type(*at, KnownType::Bool, t),
+            Pattern::TrueWord(at) | Pattern::FalseWord(at) => self.ensure_type(
+                *at,
+                KnownType::Bool,
+                t,
+            ),
             Pattern::Unit(at) => self.ensure_type(*at, KnownType::Unit, t),
             Pattern::NoneWord(at) => {
                 self.option_part(*at, t)?;

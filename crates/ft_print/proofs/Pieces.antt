@@ -1,5 +1,5 @@
 -- Steps of writing a type from a stack of pieces.
-use Rattle.std.proofs.Common.{◌≡◌, ◌∙◌, ◌+◌, ◌<◌, ◌++◌, sym, ap, refl, ℕ, List, [], ◌∷◌, length, codes, append_assoc, append-nil, arith}
+use Rattle.std.proofs.Common.{◌≡◌, ◌∙◌, ◌+◌, ◌<◌, ◌++◌, sym, ap, refl, subst, ℕ, List, [], ◌∷◌, length, cond, true, false, codes, append_assoc, append-nil, arith}
 use Rattle.ft_meaning.specs.Trees.{ValueType, judgement, boundary, unit, bool, pair, list, option}
 use Rattle.ft_meaning.specs.Texts.{Text}
 use Rattle.ft_meaning.specs.Faults.{type_text, inside, is_pair}
@@ -103,3 +103,47 @@ goes_to_pair ts p a b old ps all ha hb e w = record {
         text_more ts [] two (piece.Inside a)
         ∙ ap (λ z. first ++ z) (text_more ts [] one piece.Times ∙ ap (λ z. codes " * " ++ z) (text_more ts [] ps (piece.Inside b)))
         ∙ sym (append_assoc (first ++ codes " * ") second (text_left ts ps) ∙ append_assoc first (codes " * ") (second ++ text_left ts ps))
+
+-- ---- what is put on the stack
+
+-- a type of pairs: three pieces
+pub pair_put : (ts : List ValueType) (t a b : KnownType) (old : Text) (ps one two new : List Piece) → AllWithin (length ts) ps → Below (length ts) a × Below (length ts) b
+    → type_in ts t ≡ pair (type_in ts a) (type_in ts b) → one ≡ ps ++ piece.Inside b ∷ [] → two ≡ one ++ piece.Times ∷ [] → new ≡ two ++ piece.Inside a ∷ []
+    → Goes ts (piece.Whole t) old ps old new
+pair_put ts t a b old ps one two new all h e o w n =
+    subst (Goes ts (piece.Whole t) old ps old) (sym (n ∙ ap (λ z. z ++ piece.Inside a ∷ []) (w ∙ ap (λ z. z ++ piece.Times ∷ []) o)))
+    (goes_to_pair ts (piece.Whole t) a b old ps all h.0 h.1 (ap type_text e) (ap work_of_type e))
+
+-- a type of lists or options: its word is written, and the type of the members is put
+pub member_put : (ts : List ValueType) (t a : KnownType) (whole : ValueType) (old x out : Text) (ps new : List Piece) → AllWithin (length ts) ps → Below (length ts) a
+    → type_in ts t ≡ whole → x ++ inside (type_in ts a) (type_text (type_in ts a)) ≡ type_text whole → 2 + work_of_type (type_in ts a) < work_of_type whole
+    → out ≡ old ++ x → new ≡ ps ++ piece.Inside a ∷ [] → Goes ts (piece.Whole t) old ps out new
+member_put ts t a whole old x out ps new all h e text work o n =
+    subst (Goes ts (piece.Whole t) old ps out) (sym n)
+    (goes_to_one ts (piece.Whole t) (piece.Inside a) old x out ps all h o (text ∙ sym (ap type_text e)) (subst (λ z. 2 + work_of_type (type_in ts a) < work_of_type z) (sym e) work))
+
+-- a pair inside another type: the parenthesis is written, and the closing one put before the type
+pub pair_inside : (ts : List ValueType) (t : KnownType) (old out : Text) (ps one new : List Piece) → AllWithin (length ts) ps → Below (length ts) t
+    → is_pair (type_in ts t) ≡ true → out ≡ old ++ codes "(" → one ≡ ps ++ piece.Closing ∷ [] → new ≡ one ++ piece.Whole t ∷ [] → Goes ts (piece.Inside t) old ps out new
+pair_inside ts t old out ps one new all h b o m n =
+    let T : Text = type_text (type_in ts t) in
+    subst (Goes ts (piece.Inside t) old ps out) (sym (n ∙ ap (λ z. z ++ piece.Whole t ∷ []) m))
+    (goes_to_two ts (piece.Inside t) piece.Closing (piece.Whole t) old (codes "(") out ps all tt h o
+    (sym (append_assoc (codes "(") T (codes ")")) ∙ sym (ap (λ c. cond c (codes "(" ++ T ++ codes ")") T) b)) (omega arith))
+
+-- another type inside
+pub other_inside : (ts : List ValueType) (t : KnownType) (old out : Text) (ps one new : List Piece) → AllWithin (length ts) ps → Below (length ts) t
+    → is_pair (type_in ts t) ≡ false → out ≡ old → one ≡ ps → new ≡ one ++ piece.Whole t ∷ [] → Goes ts (piece.Inside t) old ps out new
+other_inside ts t old out ps one new all h b o m n =
+    let T : Text = type_text (type_in ts t) in
+    subst (Goes ts (piece.Inside t) old ps out) (sym (n ∙ ap (λ z. z ++ piece.Whole t ∷ []) m))
+    (goes_to_one ts (piece.Inside t) (piece.Whole t) old [] out ps all h (o ∙ sym (append-nil old)) (sym (ap (λ c. cond c (codes "(" ++ T ++ codes ")") T) b)) (omega arith))
+
+-- ---- a piece that is taken off the stack
+
+pub text_goes_on : (ts : List ValueType) (p : Piece) (start old new whole : Text) (all ps qs : List Piece) → all ≡ ps ++ p ∷ [] → Goes ts p old ps new qs
+    → old ++ text_left ts all ≡ start ++ whole → new ++ text_left ts qs ≡ start ++ whole
+text_goes_on ts p start old new whole all ps qs e g h = g.same ∙ ap (λ z. old ++ z) (sym (ap (text_left ts) e ∙ text_more ts [] ps p)) ∙ h
+
+pub less_left : (ts : List ValueType) (p : Piece) (old new : Text) (all ps qs : List Piece) → all ≡ ps ++ p ∷ [] → Goes ts p old ps new qs → work_left ts qs < work_left ts all
+less_left ts p old new all ps qs e g = omega (arith, g.less, ap (work_left ts) e ∙ work_more ts ps p)

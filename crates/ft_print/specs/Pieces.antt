@@ -1,5 +1,5 @@
 -- What is still to be written of a type.
-use Rattle.std.specs.Prelude.{ℕ, ◌≡◌, ◌<◌, ◌+◌, List, [], ◌∷◌, ◌++◌, codes}
+use Rattle.std.specs.Prelude.{ℕ, ◌≡◌, ◌<◌, ◌+◌, List, [], ◌∷◌, ◌++◌, length, codes}
 use Rattle.ft_meaning.specs.Trees.{ValueType, judgement, boundary, unit, bool, pair, list, option}
 use Rattle.ft_meaning.specs.Texts.{Text}
 use Rattle.ft_meaning.specs.Faults.{type_text, inside}

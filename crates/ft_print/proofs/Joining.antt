@@ -1,5 +1,5 @@
 -- Texts that are joined, one after the other.
-use Rattle.std.proofs.Common.{◌≡◌, ◌≢◌, ◌∙◌, sym, ap, refl, ℕ, zero, suc, ◌<◌, ◌≤◌, List, [], ◌∷◌, ◌++◌, length, map, take, slice_get, Some, codes, append_assoc, Result, Ok, Err, OnOk, arith}
+use Rattle.std.proofs.Common.{◌≡◌, ◌≢◌, ◌∙◌, sym, ap, refl, ℕ, zero, suc, List, [], ◌∷◌, ◌++◌, map, take, slice_get, Some, codes, append_assoc, Result, Ok, Err, OnOk, arith}
 use Rattle.std.proofs.lemmas.List.{map-append}
 use Rattle.ft_common.proofs.Options.{none_some}
 use Rattle.ft_meaning.specs.Texts.{Text, joined}

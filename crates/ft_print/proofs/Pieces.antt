@@ -1,6 +1,6 @@
 -- Steps of writing a type from a stack of pieces.
 use Rattle.std.proofs.Common.{◌≡◌, ◌∙◌, ◌+◌, ◌<◌, ◌++◌, sym, ap, refl, subst, ℕ, List, [], ◌∷◌, length, cond, true, false, codes, append_assoc, append-nil, arith}
-use Rattle.ft_meaning.specs.Trees.{ValueType, judgement, boundary, unit, bool, pair, list, option}
+use Rattle.ft_meaning.specs.Trees.{ValueType, pair}
 use Rattle.ft_meaning.specs.Texts.{Text}
 use Rattle.ft_meaning.specs.Faults.{type_text, inside, is_pair}
 use Rattle.ft_types.specs.declared.types.KnownType.{KnownType}

@@ -1,4 +1,4 @@
-use Rattle.std.proofs.Common.{rules, ◌≡◌, ◌<◌, ◌≤◌, ◌∙◌, ⊥, List, ℕ, [], length, map, Option, Some, None, refl, sym, ap, subst, arith}
+use Rattle.std.proofs.Common.{rules, ◌≡◌, ◌<◌, ◌≤◌, ◌∙◌, List, ℕ, [], length, map, Option, Some, None, refl, sym, ap, subst, arith}
 use Rattle.ft_common.proofs.Booleans.{false_true}
 use Rattle.ft_syntax.specs.Arguments.{applied}
 use Rattle.ft_syntax.specs.Chains.{spelled, place_in}

@@ -23,7 +23,8 @@ invariant_of-self-then-is_err-3 c =
     let r : Row = record { node = c.args.node; first = c.len-first.result; end = c.len.result; depth = c.args.depth; size = c.args.size } in
     let more : c.extend_from_slice.new.self.items ≡ t.parts.items ++ c.args.args.now = search rules in
     let pushed : c.push.new.self.items ≡ t.rows.items ++ r ∷ [] = search rules in
-    let same = taken t.rows.items c.push.new.self.items c.pop.new.self.items r _ pushed refl c.pop.ensures.rest in
+    let many : c.push.new.self.len ≡ length c.push.new.self.items = search rules in
+    let same = taken t.rows.items c.push.new.self.items c.pop.new.self.items r c.push.new.self.len pushed many c.pop.ensures.rest in
     let kept : c.note.new.index ≡ t.index = search rules in
     table_kept t.parts.items c.extend_from_slice.new.self.items c.args.args.now t.rows.items c.pop.new.self.items t.index c.note.new.index t.crowded c.note.new.crowded c.args.node c.args.args.now c.args.self.now c.self.view_is more same c.self.invariant kept c.requires.new
     c.note.ensures.others
@@ -34,7 +35,8 @@ returns-then-is_err-3-clause-kept c =
     let r : Row = record { node = c.args.node; first = c.len-first.result; end = c.len.result; depth = c.args.depth; size = c.args.size } in
     let more : c.extend_from_slice.new.self.items ≡ t.parts.items ++ c.args.args.now = search rules in
     let pushed : c.push.new.self.items ≡ t.rows.items ++ r ∷ [] = search rules in
-    let same = taken t.rows.items c.push.new.self.items c.pop.new.self.items r _ pushed refl c.pop.ensures.rest in
+    let many : c.push.new.self.len ≡ length c.push.new.self.items = search rules in
+    let same = taken t.rows.items c.push.new.self.items c.pop.new.self.items r c.push.new.self.len pushed many c.pop.ensures.rest in
     (refl, trees_same t.parts.items c.extend_from_slice.new.self.items c.args.args.now t.rows.items c.pop.new.self.items c.args.self.now c.self.view_is more same c.self.invariant.good)
 
 pub invariant_of-self-else-is_err-3 : goal.invariant_of-self-else-is_err-3
@@ -47,5 +49,4 @@ invariant_of-self-else-is_err-3 c =
     subst (λ us. IsNew us (applied c.args.node (map (argument_in us) c.args.args.now))) (sym c.self.view_is) c.requires.new in
     let row : IsNewRow t.parts.items c.args.args.now (trees_after t.parts.items [] t.rows.items) r = search rules in
     let number : c.len-number.result ≡ length t.rows.items = search rules in
-    let noted = c.note.ensures.ok in
     table_pushed t.parts.items c.extend_from_slice.new.self.items c.args.args.now t.rows.items c.push.new.self.items r t.index c.note.new.index t.crowded c.note.new.crowded c.len-number.result more pushed c.self.invariant row new number (search rules) c.note.ensures.others

@@ -1,13 +1,13 @@
 -- A table to which a row is added.
-use Rattle.std.proofs.Common.{◌≡◌, ◌≢◌, ℕ, zero, suc, ◌<◌, ◌≤◌, ◌⊎◌, inl, inr, List, [], ◌∷◌, ◌++◌, length, map, take, ◌-◌, slice_get, Option, Some, None, refl, sym, ap, ap₂, ◌∙◌, subst, arith, length-append}
+use Rattle.std.proofs.Common.{◌≡◌, ◌≢◌, ℕ, zero, suc, ◌⊎◌, inl, inr, List, [], ◌∷◌, ◌++◌, length, map, take, ◌-◌, slice_get, Option, Some, None, refl, sym, ap, ap₂, ◌∙◌, subst, arith, length-append}
 use Rattle.std.proofs.lemmas.Option.{same_Some}
 use Rattle.std.proofs.lemmas.List.{take-append-le}
 use Rattle.std.proofs.Math.Seq.{get_or-append_seam, take-length}
 use Rattle.ft_theory.specs.Expressions.{Expression}
 use Rattle.ft_syntax.specs.Arguments.{applied}
-use Rattle.ft_syntax.specs.Table.{tree, AreDifferent, IsNew, argument_in}
+use Rattle.ft_syntax.specs.Table.{AreDifferent, IsNew, argument_in}
 use Rattle.ft_syntax.specs.Chains.{mark, spelled, place_in, HasMark, IsFound, IsNoted, KeepsOthers}
-use Rattle.ft_syntax.specs.Invariant.{own, trees_after, AreGoodRows, AreFound, IsTable}
+use Rattle.ft_syntax.specs.Invariant.{own, trees_after, AreGoodRows, IsTable}
 use Rattle.ft_syntax.specs.declared.syntax.Arg.{Arg}
 use Rattle.ft_syntax.specs.declared.syntax.Node.{Node}
 use Rattle.ft_syntax.specs.declared.table.Row.{Row}

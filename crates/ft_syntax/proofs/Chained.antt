@@ -1,11 +1,21 @@
 -- Chains of rows.
-use Rattle.std.proofs.Common.{◌≡◌, ◌≢◌, ℕ, zero, suc, ◌+◌, ◌<◌, ◌≤◌, ◌%◌, ◌⊎◌, inl, inr, Option, Some, None, List, [], ◌∷◌, ◌++◌, map, length, set, replicate, take, get_or, IfSome, Bool, true, false, IsTrue, ◌↔◌, refl, sym, ap, ap₂, ◌∙◌, subst, arith, length-append}
+use Rattle.std.proofs.Common.{◌≡◌, ◌≢◌, ℕ, zero, suc, ◌<◌, ◌≤◌, ◌%◌, inl, inr, Option, Some, None, List, [], ◌∷◌, ◌++◌, length, set, replicate, take, get_or, IfSome, Bool, false, IsTrue, ◌↔◌, refl, sym, ap, ◌∙◌, subst, arith, length-append}
+use Rattle.std.proofs.lemmas.Bool.{cases_lt, cases_order}
 use Rattle.std.proofs.lemmas.Bool.Decides.{eqb_tells}
-use Rattle.std.proofs.lemmas.List.{get_or-map, get_or_append_left, take_all, length-replicate, length-set, get_or-set_same, get_or-set_other, get_or-replicate, length-map, map-append}
+use Rattle.std.proofs.lemmas.List.{get_or-map, get_or_append_left, take_all, length-replicate, length-set, get_or-set_same, get_or-set_other, length-map, map-append}
 use Rattle.std.proofs.Math.Seq.{get_or-append_seam, take-suc}
 use Rattle.ft_common.proofs.Booleans.{false_true}
 use Rattle.ft_syntax.specs.Chains.{after, IsLast, HasMark, InBucket, AreLinked, AreChained, marks_of, earlier_of}
 use Rattle.ft_syntax.specs.declared.index.Link.{Link}
+
+pub last_or_less : (i j : ℕ) → i < suc j → i ≢ j → i < j
+last_or_less i j l n = elim (cases_order i j) [
+  | inl e ↦ absurd (n e)
+  | inr a ↦ elim a [
+    | inl d ↦ d
+    | inr d ↦ absurd (omega (arith, d, l))
+  ]
+]
 
 -- where a list is read
 pub mark_within : (ms : List (Option ℕ)) (m p : ℕ) → HasMark ms m p → p < length ms
@@ -31,11 +41,6 @@ earlier_read ls p l i h = get_or-map (λ (l : Link). l.earlier) ls p l None i �
 pub chained_none : AreChained [] [] []
 chained_none = record { empty = λ h. h; last = λ b l. absurd (omega arith); linked = record { last = λ p m h. cc } }
 
-none_marked : (n q m : ℕ) (P : ℕ → Type 0) → HasMark (replicate n None) m q → P q
-none_marked zero q m P h = cc
-none_marked (suc n) zero m P h = cc
-none_marked (suc n) (suc q) m P h = none_marked n q m (λ k. P (suc k)) h
-
 pub chained_start : (heads : List (Option ℕ)) (n : ℕ) → heads ≡ replicate n None → AreChained heads [] []
 chained_start heads n h = record {
   empty = λ g. refl;
@@ -59,19 +64,11 @@ carried : (ms : List (Option ℕ)) (n m k : ℕ) (h r : Option ℕ) → IsLast (
 carried ms n m k h r b l = record {
   before = omega (arith, b.before, l.before);
   holds = l.holds;
-  none = λ q i j x. elim (either q (after h)) [
+  none = λ q i j x. elim (cases_lt q (after h)) [
     | inl c ↦ l.none q i c x
     | inr c ↦ b.none q c j (m, x, refl)
   ];
 }
-  where
-    either : (i j : ℕ) → (i < j) ⊎ (j ≤ i)
-    either i zero = inr (omega arith)
-    either zero (suc j) = inl (omega arith)
-    either (suc i) (suc j) = elim (either i j) [
-      | inl c ↦ inl (omega (arith, c))
-      | inr c ↦ inr (omega (arith, c))
-    ]
 
 pub last_of_none : (heads ms es : List (Option ℕ)) (n m : ℕ) → AreChained heads ms es → n ≡ length heads → n ≡ 0 → IsLast (HasMark ms m) (length ms) None
 last_of_none heads ms es n m c e z = record { before = omega arith; holds = tt; none = λ q i j x. let l = c.empty (sym e ∙ z) in absurd (omega (arith, l, j)) }
@@ -132,26 +129,14 @@ walk_more ls n m p l from at w c e g s =
     record {
       fewer = omega (arith, b.before, v.fewer);
       there = subst (λ k. IfSome l.earlier (InBucket (marks_of ls) n k)) t.2 b.holds;
-      none = λ q i j x. elim (three q p) [
-        | inl a ↦ b.none q i a (m, x, sym t.2)
+      none = λ q i j x. elim (cases_order q p) [
+        | inl d ↦ s (sym (mark_read ls p l (walk_within ls n m p from at w e) g) ∙ subst (HasMark (marks_of ls) m) d x)
         | inr a ↦ elim a [
-          | inl d ↦ s (sym (mark_read ls p l (walk_within ls n m p from at w e) g) ∙ subst (HasMark (marks_of ls) m) d x)
+          | inl d ↦ b.none q i d (m, x, sym t.2)
           | inr d ↦ v.none q d j x
         ]
       ];
     }
-  where
-    three : (i j : ℕ) → (i < j) ⊎ ((i ≡ j) ⊎ (j < i))
-    three zero zero = inr (inl refl)
-    three zero (suc j) = inl (omega arith)
-    three (suc i) zero = inr (inr (omega arith))
-    three (suc i) (suc j) = elim (three i j) [
-      | inl a ↦ inl (omega (arith, a))
-      | inr a ↦ elim a [
-        | inl d ↦ inr (inl (ap suc d))
-        | inr d ↦ inr (inr (omega (arith, d)))
-      ]
-    ]
 
 pub walk_falls : (ls : List Link) (n m p : ℕ) (l : Link) (from at : Option ℕ) → Walked (marks_of ls) n m from at → AreLinked (marks_of ls) (earlier_of ls) n → at ≡ Some p → l ≡ get_or ls p l → after l.earlier < after at
 walk_falls ls n m p l from at w c e g =
@@ -189,15 +174,9 @@ last_further ms x n b r o h =
       holds = k.holds;
       none = λ q i j y. elim (eqb_tells q (length ms)) [
         | inl e ↦ o y.0 (sym (get_or-append_seam ms x [] None) ∙ subst (HasMark (ms ++ x ∷ []) y.0) e.1 y.1) y.2
-        | inr e ↦ k.none q i (less q (length ms) (omega (arith, j, long)) e.1) y
+        | inr e ↦ k.none q i (last_or_less q (length ms) (omega (arith, j, long)) e.1) y
       ];
     }
-  where
-    less : (i j : ℕ) → i < suc j → i ≢ j → i < j
-    less zero zero l n = absurd (n refl)
-    less zero (suc j) l n = omega arith
-    less (suc i) zero l n = absurd (omega arith)
-    less (suc i) (suc j) l n = omega (arith, less i j (omega arith) (λ e. n (ap suc e)))
 
 linked_more : (ms es : List (Option ℕ)) (x e : Option ℕ) (n : ℕ) → length es ≡ length ms → ((m : ℕ) → x ≡ Some m → IsLast (InBucket ms n (m % n)) (length ms) e) → AreLinked ms es n → AreLinked (ms ++ x ∷ []) (es ++ e ∷ []) n
 linked_more ms es x e n s f h = record {
@@ -214,13 +193,7 @@ linked_more ms es x e n s f h = record {
 }
   where
     less : (p m k : ℕ) → p ≢ length ms → HasMark (ms ++ x ∷ []) m p → p < length ms
-    less p m k d y = below p (length ms) (omega (arith, mark_within (ms ++ x ∷ []) m p y, length-append ms (x ∷ []))) d
-      where
-        below : (i j : ℕ) → i < suc j → i ≢ j → i < j
-        below zero zero l n = absurd (n refl)
-        below zero (suc j) l n = omega arith
-        below (suc i) zero l n = absurd (omega arith)
-        below (suc i) (suc j) l n = omega (arith, below i j (omega arith) (λ e. n (ap suc e)))
+    less p m k d y = last_or_less p (length ms) (omega (arith, mark_within (ms ++ x ∷ []) m p y, length-append ms (x ∷ []))) d
 
 as_long : (ls : List Link) → length (earlier_of ls) ≡ length (marks_of ls)
 as_long ls = length-map ls (λ (l : Link). l.earlier) ∙ sym (length-map ls (λ (l : Link). l.mark))

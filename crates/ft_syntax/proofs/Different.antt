@@ -1,5 +1,5 @@
 -- Tables whose trees are pairwise different.
-use Rattle.std.proofs.Common.{◌≡◌, ◌≢◌, ℕ, zero, suc, ◌<◌, ◌≤◌, ◌⊎◌, inl, inr, List, [], ◌∷◌, ◌++◌, length, get_or, map, Bool, true, false, IsTrue, ◌↔◌, Option, Some, None, option_map, refl, sym, ap, ap₂, ◌∙◌, subst, arith, length-append}
+use Rattle.std.proofs.Common.{◌≡◌, ℕ, ◌<◌, ◌⊎◌, inl, inr, List, [], ◌∷◌, ◌++◌, length, map, Bool, IsTrue, ◌↔◌, Option, Some, None, option_map, refl, sym, ap, ap₂, ◌∙◌, arith, length-append}
 use Rattle.std.proofs.lemmas.Bool.Decides.{eqb_tells}
 use Rattle.std.proofs.lemmas.List.{get_or_append_left}
 use Rattle.std.proofs.lemmas.Option.{same_Some}
@@ -11,6 +11,7 @@ use Rattle.ft_syntax.specs.Laws.{arguments_longer}
 use Rattle.ft_syntax.specs.Invariant.{HasArguments}
 use Rattle.ft_syntax.specs.declared.syntax.Arg.{Arg}
 use Rattle.ft_syntax.specs.declared.syntax.Node.{Node}
+use Rattle.ft_syntax.proofs.Chained.{last_or_less}
 use Rattle.ft_syntax.proofs.Parts.{applied_node_of, node_of-applied, arguments_of-applied}
 
 pub none_different : AreDifferent []
@@ -26,16 +27,10 @@ different_more ts t g n = record { same = λ d e i j h. go d e (place d i) (plac
     first : (e : ℕ) → e < length ts → tree (ts ++ t ∷ []) e ≡ tree ts e
     first e l = get_or_append_left ts (t ∷ []) (bound 0) e l
 
-    less : (i j : ℕ) → i < suc j → i ≢ j → i < j
-    less zero zero l n = absurd (n refl)
-    less zero (suc j) l n = omega arith
-    less (suc i) zero l n = absurd (omega arith)
-    less (suc i) (suc j) l n = omega (arith, less i j (omega arith) (λ e. n (ap suc e)))
-
     place : (e : ℕ) → e < length (ts ++ t ∷ []) → (e < length ts) ⊎ (e ≡ length ts)
     place e l = elim (eqb_tells e (length ts)) [
       | inl a ↦ inr a.1
-      | inr a ↦ inl (less e (length ts) (omega (arith, l, length-append ts (t ∷ []))) a.1)
+      | inr a ↦ inl (last_or_less e (length ts) (omega (arith, l, length-append ts (t ∷ []))) a.1)
     ]
 
     go : (d e : ℕ) → (d < length ts) ⊎ (d ≡ length ts) → (e < length ts) ⊎ (e ≡ length ts) → tree (ts ++ t ∷ []) d ≡ tree (ts ++ t ∷ []) e → d ≡ e

@@ -1,8 +1,8 @@
 -- The search for a row: over the rows of a mark, and then by the spelling.
-use Rattle.std.proofs.Common.{◌≡◌, ◌≢◌, ℕ, zero, suc, ◌<◌, ◌≤◌, ◌⊎◌, inl, inr, List, [], ◌∷◌, length, get_or, map, slice_get, Option, Some, None, IfSome, refl, sym, ap, ap₂, ◌∙◌, subst, arith}
-use Rattle.std.proofs.lemmas.Option.{same_Some}
+use Rattle.std.proofs.Common.{◌≡◌, ◌≢◌, ℕ, zero, suc, ◌<◌, ◌≤◌, inl, inr, List, [], ◌∷◌, length, map, slice_get, Option, Some, None, IfSome, refl, sym, ap, ap₂, ◌∙◌, subst, arith}
+use Rattle.std.proofs.lemmas.Bool.{cases_order}
 use Rattle.ft_theory.specs.Expressions.{Expression}
-use Rattle.ft_syntax.specs.Arguments.{node_of, applied, FitsNode}
+use Rattle.ft_syntax.specs.Arguments.{applied, FitsNode}
 use Rattle.ft_syntax.specs.Table.{tree, IsNew, argument_in, ArgumentsBelow}
 use Rattle.ft_syntax.specs.Chains.{after, mark, spelled, place_in, HasMark, IsLast}
 use Rattle.ft_syntax.specs.Invariant.{own, trees_after, IsTable}
@@ -32,25 +32,13 @@ pub look_within : (parts : List Arg) (rows : List Row) (ms : List (Option ℕ)) 
 look_within parts rows ms c ts us m p t at g s l e =
     omega (arith, mark_within ms m p (look_marked us ms m p t at l e), g.found.as_many, length_trees parts [] rows, ap length s)
 
-three : (i j : ℕ) → (i < j) ⊎ ((i ≡ j) ⊎ (j < i))
-three zero zero = inr (inl refl)
-three zero (suc j) = inl (omega arith)
-three (suc i) zero = inr (inr (omega arith))
-three (suc i) (suc j) = elim (three i j) [
-  | inl a ↦ inl (omega (arith, a))
-  | inr a ↦ elim a [
-    | inl d ↦ inr (inl (ap suc d))
-    | inr d ↦ inr (inr (omega (arith, d)))
-  ]
-]
-
 pub look_more : (ts : List Expression) (ms : List (Option ℕ)) (m p : ℕ) (t : Expression) (at r : Option ℕ) → Looked ts ms m t at → at ≡ Some p → (tree ts p ≡ t → ⊥) → IsLast (HasMark ms m) p r → Looked ts ms m t r
 look_more ts ms m p t at r l e n s = record {
   there = s.holds;
-  none = λ q i h. elim (three q p) [
-    | inl a ↦ λ u. s.none q i a h
+  none = λ q i h. elim (cases_order q p) [
+    | inl d ↦ λ u. n (ap (tree ts) (sym d) ∙ u)
     | inr a ↦ elim a [
-      | inl d ↦ λ u. n (ap (tree ts) (sym d) ∙ u)
+      | inl d ↦ λ u. s.none q i d h
       | inr d ↦ (looked_at ts ms m p t at l e).none q d h
     ]
   ];

@@ -1,5 +1,5 @@
 -- Laws of tables.
-use Rattle.std.proofs.Common.{◌≡◌, ℕ, zero, suc, ◌+◌, ◌<◌, List, [], ◌∷◌, ◌++◌, length, get_or, map, Option, Some, None, option_map, refl, sym, ap, ap₂, ◌∙◌, subst, arith, length-append, append_assoc, append-nil, add-zero, slice_get, take, drop, ◌-◌, ◌≤◌}
+use Rattle.std.proofs.Common.{◌≡◌, ℕ, zero, suc, ◌+◌, ◌<◌, List, [], ◌∷◌, ◌++◌, length, get_or, map, Some, option_map, refl, sym, ap, ap₂, ◌∙◌, subst, arith, length-append, append_assoc, append-nil, add-zero, slice_get, take, drop, ◌-◌, ◌≤◌}
 use Rattle.std.proofs.lemmas.Option.{slice_get_read, slice_get-map, same_Some}
 use Rattle.std.proofs.lemmas.List.{length-map, length-drop, take-append-le, drop-append-le}
 use Rattle.std.proofs.Math.Seq.{drop-append_seam, take-length}

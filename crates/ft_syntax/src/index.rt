@@ -63,7 +63,12 @@ impl Index {
         requires { HasMark self.now mark place }
         ensures { IsLast (HasMark self.now mark) place result }
     {
-        marked(&self.links, self.heads.len(), self.links[place].earlier, mark)
+        marked(
+            &self.links,
+            self.heads.len(),
+            self.links[place].earlier,
+            mark,
+        )
     }
 
     /// Whether the bucket of this mark has as many rows as may be compared. It takes no memory.
@@ -157,7 +162,11 @@ fn has_mark(link: Link, mark: u64) -> bool
 
 // Adds a row to the chain of its bucket.
 #[tactic(auto, using(crate::proofs::Chained::chained_unmarked, crate::proofs::Chained::chained_marked, crate::proofs::Chained::marks_more))]
-fn chain(heads: &mut Vec<Option<usize>>, links: &mut Vec<Link>, mark: Option<u64>) -> Result<(), AllocError>
+fn chain(
+    heads: &mut Vec<Option<usize>>,
+    links: &mut Vec<Link>,
+    mark: Option<u64>,
+) -> Result<(), AllocError>
     requires some { 0 < length heads.old.items }
     requires chained { AreChained heads.old.items (marks_of links.old.items) (earlier_of links.old.items) }
     ensures length { length heads.new.items ≡ length heads.old.items }

@@ -108,7 +108,17 @@ impl Terms {
         if self.rows.push(row).is_err() {
             return Err(SynFault::Memory);
         }
-        if note(self.alloc, &mut self.index, &mut self.crowded, number, mark, node, args).is_err() {
+        if note(
+            self.alloc,
+            &mut self.index,
+            &mut self.crowded,
+            number,
+            mark,
+            node,
+            args,
+        )
+        .is_err()
+        {
             self.rows.pop();
             return Err(SynFault::Memory);
         }
@@ -379,12 +389,11 @@ impl Terms {
         self.apply(node, &list)
     }
 
-    /// Whether two expressions are the same: where they have the same number, and nowhere else. It takes no memory.
+    /// Whether two expressions are the same, which is told by their numbers. It takes no memory.
     #[tactic(auto, using(crate::proofs::Different::one_number))]
     pub fn equal_expr(&self, a: E, b: E) -> bool
         requires { (a < length self.now) × (b < length self.now) }
-        ensures trees { IsTrue result ↔ (tree self.now a ≡ tree self.now b) }
-        ensures numbers { IsTrue result ↔ (a ≡ b) }
+        ensures { IsTrue result ↔ (tree self.now a ≡ tree self.now b) }
     {
         let _ = &self.rows;
         a == b

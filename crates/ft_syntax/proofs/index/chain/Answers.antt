@@ -1,4 +1,4 @@
-use Rattle.std.proofs.Common.{rules, ◌≡◌, ◌<◌, ◌%◌, None, Some, length, set, refl, sym, ap, ◌∙◌, subst}
+use Rattle.std.proofs.Common.{rules, ◌≡◌, ◌<◌, ◌%◌, None, Some, length, set, refl, ap, ◌∙◌, subst}
 use Rattle.ft_syntax.specs.declared.index.Link.{Link}
 use Rattle.ft_syntax.proofs.Chained.{chained_unmarked, chained_marked}
 use Rattle.ft_syntax.proofs.index.chain.Goals as goal

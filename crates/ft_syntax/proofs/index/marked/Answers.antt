@@ -1,6 +1,5 @@
-use Rattle.std.proofs.Common.{◌≡◌, ◌<◌, Some, None, sym, length}
+use Rattle.std.proofs.Common.{◌<◌, length}
 use Rattle.std.proofs.lemmas.List.{get_or_default}
-use Rattle.ft_syntax.specs.Chains.{marks_of}
 use Rattle.ft_syntax.proofs.Chained.{walk_within, walk_more, walk_falls, other_mark}
 use Rattle.ft_syntax.proofs.index.marked.Goals as goal
 

@@ -1,4 +1,4 @@
-use Rattle.std.proofs.Common.{◌≡◌, ◌∙◌, ap, add-one, rules, List, ℕ, [], ◌∷◌, ◌++◌}
+use Rattle.std.proofs.Common.{◌≡◌, ◌∙◌, ap, add-one, rules, [], ◌∷◌, ◌++◌}
 use Rattle.ft_syntax.specs.Chains.{has_body, body_number}
 use Rattle.ft_syntax.proofs.Spelling.{spelled_more, three_more}
 use Rattle.ft_syntax.proofs.marks.spelling_of.Goals as goal

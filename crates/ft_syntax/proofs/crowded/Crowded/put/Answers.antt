@@ -1,4 +1,3 @@
-use Rattle.std.proofs.Common.{◌≡◌}
 use Rattle.ft_syntax.proofs.Crowding.{put_keeps}
 use Rattle.ft_syntax.proofs.crowded.Crowded.put.Goals as goal
 

@@ -1,7 +1,7 @@
-use Rattle.std.proofs.Common.{rules, ◌≡◌, ◌<◌, ◌≤◌, ◌∙◌, List, ℕ, [], length, map, Option, Some, None, refl, sym, ap, subst, arith}
+use Rattle.std.proofs.Common.{rules, ◌≡◌, ◌<◌, ◌∙◌, [], length, map, None, sym, ap, subst, arith}
 use Rattle.ft_common.proofs.Booleans.{false_true}
 use Rattle.ft_syntax.specs.Arguments.{applied}
-use Rattle.ft_syntax.specs.Chains.{spelled, place_in}
+use Rattle.ft_syntax.specs.Chains.{spelled}
 use Rattle.ft_syntax.specs.Table.{tree, argument_in}
 use Rattle.ft_syntax.proofs.Finding.{look_within, misses_all, misses_none, misses_past, misses_other, none_found}
 use Rattle.ft_syntax.proofs.Tables.{length_trees}
@@ -19,7 +19,7 @@ returns-then-is_row-clause-some c =
     let t = c.self.inside in let ts = c.args.self.now in
     let whole = applied c.args.node (map (argument_in ts) c.args.args.now) in (
       subst (λ k. k < length ts) (sym c.at-then-is_row.ensures)
-      (look_within t.parts.items t.rows.items t.index t.crowded ts ts c.args.mark c.in-Some.place whole c.looking.at c.self.invariant c.self.view_is c.looking.invariant c.in-Some.is),
+          (look_within t.parts.items t.rows.items t.index t.crowded ts ts c.args.mark c.in-Some.place whole c.looking.at c.self.invariant c.self.view_is c.looking.invariant c.in-Some.is),
       ap (tree ts) (c.at-then-is_row.ensures ∙ sym c.at.ensures) ∙ c.is_row.ensures.0 c.if-is_row.true,
     )
 
@@ -53,7 +53,7 @@ returns-in-Some-place-clause-none c =
     let words : c.deref.result.now ≡ spelled c.args.node c.args.args.now = c.deref.ensures.value ∙ c.in_ok-spelling.ensures in
     none_found t.parts.items t.rows.items t.index t.crowded ts c.args.mark c.args.node c.args.args.now c.looking.at c.self.view_is c.self.invariant c.requires.mark c.requires.below c.requires.fits c.looking.invariant end
     (misses_other ts t.crowded (spelled c.args.node c.args.args.now) c.deref.result.now whole c.in-Some-place.place words (sym c.in-Some-place.is ∙ c.place.ensures)
-      (λ u. false_true (sym c.if-is_row-2.false ∙ c.is_row-in-Some-place.ensures.1 (ap (tree ts) c.at-in-Some-place.ensures ∙ u))))
+    (λ u. false_true (sym c.if-is_row-2.false ∙ c.is_row-in-Some-place.ensures.1 (ap (tree ts) c.at-in-Some-place.ensures ∙ u))))
 
 pub returns-clause-none : goal.returns-clause-none
 returns-clause-none c =

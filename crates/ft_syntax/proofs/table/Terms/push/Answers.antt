@@ -1,4 +1,4 @@
-use Rattle.std.proofs.Common.{rules, ◌≡◌, List, [], ◌∷◌, ◌++◌, map, length, refl, sym, subst}
+use Rattle.std.proofs.Common.{rules, ◌≡◌, [], ◌∷◌, ◌++◌, map, length, refl, sym, subst}
 use Rattle.ft_syntax.specs.Arguments.{applied}
 use Rattle.ft_syntax.specs.Chains.{spelled}
 use Rattle.ft_syntax.specs.Table.{IsNew, argument_in}

@@ -42,19 +42,20 @@ abbrev declaring : State → ℕ → Name → Assertion → Bool → Outcome Sto
 declaring s v n a b = outcome (refused_unless b WrongForm) (store s) (add_variable (store s) v n (Some a)) (v, declared_variable n a)
 
 pub variable_declared : (s t : State) (v : ℕ) (n : Name) (p w : ℕ) (a : Assertion) → entry_at s p ≡ Some a → is_plain_type a.statement ≡ true → w ≡ v → t ≡ with_item s (variable v n p) → DeclaresVariable s v n p (Ok w) t
-variable_declared s t v n p w a e h same u =
-    (
-      a,
-      e,
-      (declared_variable n a,
-      ap (λ b. (declaring s v n a b).answer) h ∙ ap (numbered (declared_variable n a)) (sym same),
-      ap (λ b. (declaring s v n a b).after) h
-          ∙ ap (add_variable (store s) v n) (sym (entry_in s p a e))
-          ∙ sym (store_last empty_store s.items (variable v n p))
-          ∙ ap (λ (t : State). store_of t.items) (sym u),
-      ap (λ (t : State). t.items) u,
-      extends_same s.trees t.trees (ap (λ (t : State). t.trees) u)),
-    )
+variable_declared s t v n p w a e h same u = (
+  a,
+  e,
+  (
+    declared_variable n a,
+    ap (λ b. (declaring s v n a b).answer) h ∙ ap (numbered (declared_variable n a)) (sym same),
+    ap (λ b. (declaring s v n a b).after) h
+        ∙ ap (add_variable (store s) v n) (sym (entry_in s p a e))
+        ∙ sym (store_last empty_store s.items (variable v n p))
+        ∙ ap (λ (t : State). store_of t.items) (sym u),
+    ap (λ (t : State). t.items) u,
+    extends_same s.trees t.trees (ap (λ (t : State). t.trees) u),
+  ),
+)
 
 pub variable_refused : (s : State) (v : ℕ) (n : Name) (p : ℕ) (q : Refusal) → IsNoPlainTypeAt s p → q ≡ judge.WrongForm → DeclaresVariable s v n p (Err (Refused q)) s
 variable_refused s v n p q h same =
@@ -85,11 +86,13 @@ pub metavariable_declared : (s t : State) (n : Name) (p w : ℕ) (a : Assertion)
 metavariable_declared s t n p w a g e k h same u = (
   a,
   e,
-  (declared_metavariable n a,
-  made s n a h ∙ ap (numbered (declared_metavariable n a)) (counted s g ∙ sym same),
-  ((metavariables_allowed s.items p n a k (entry_in s p a e)).0 (made s n a h)).1 ∙ ap (λ (t : State). store_of t.items) (sym u),
-  ap (λ (t : State). t.items) u,
-  extends_same s.trees t.trees (ap (λ (t : State). t.trees) u)),
+  (
+    declared_metavariable n a,
+    made s n a h ∙ ap (numbered (declared_metavariable n a)) (counted s g ∙ sym same),
+    ((metavariables_allowed s.items p n a k (entry_in s p a e)).0 (made s n a h)).1 ∙ ap (λ (t : State). store_of t.items) (sym u),
+    ap (λ (t : State). t.items) u,
+    extends_same s.trees t.trees (ap (λ (t : State). t.trees) u),
+  ),
 )
 
 pub metavariable_refused : (s : State) (n : Name) (p v : ℕ) (a : Assertion) → entry_at s p ≡ Some a → first_variable a.set ≡ Some v → DeclaresMetavariable s n p (Err (Refused (judge.OpenBoundary v))) s

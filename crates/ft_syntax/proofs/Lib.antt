@@ -17,3 +17,4 @@ pub mod Planting
 pub mod Instantiating
 pub mod Copying
 pub mod Sameness
+pub mod AreSmall

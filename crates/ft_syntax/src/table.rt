@@ -298,6 +298,13 @@ impl Terms {
         self.rows[e.place()].size
     }
 
+    /// Each expression of a table is small. It takes no memory.
+    pub fn are_small(&self)
+        ensures { (e : ℕ) → e < length self.now → IsSmall (tree self.now e) }
+    {
+        let _rows = self.rows.len();
+    }
+
     /// The expression without its arguments. It takes no memory.
     #[tactic(auto, using(crate::proofs::Tables::row_of, crate::proofs::Tables::length_trees))]
     pub fn node(&self, e: E) -> Node

@@ -6,4 +6,4 @@ use Rattle.ft_syntax.proofs.AreSmall.{trees_small}
 use Rattle.ft_syntax.proofs.table.Terms.are_small.Goals as goal
 
 pub returns : goal.returns
-returns c = subst (λ ts. (e : ℕ) → e < length ts → IsSmall (tree ts e)) c.self.view_is (trees_small c.self.inside.parts.items c.self.inside.rows.items c.self.invariant)
+returns c = subst (λ ts. (e : ℕ) → e < length ts → IsSmall (tree ts e)) c.self.view_is (trees_small c.self.inside.parts.items c.self.inside.rows.items c.self.invariant.good)

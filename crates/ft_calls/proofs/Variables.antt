@@ -11,10 +11,9 @@ use Rattle.ft_theory.specs.Statements.{Statement, is_type, has_type, equal_types
 use Rattle.ft_theory.specs.Rules.{look_up}
 use Rattle.ft_items.specs.Item.{Name, Item, variable, metavariable, rule, entry, shown}
 use Rattle.ft_items.specs.Equal.{is_thesis}
-use Rattle.ft_items.specs.Store.{Assertion, Annotation, Declared, Store, nth, add, add_all, empty_store, store_of, entry_named, variable_named, metavariable_named, entries_in, variables_in, metavariables_in, annotated, declared}
+use Rattle.ft_items.specs.Store.{Assertion, Annotation, Declared, Store, nth, add, add_all, empty_store, store_of, declared_by, entry_named, entries_in, variables_in, metavariables_in, annotated, declared}
 use Rattle.ft_items.specs.Good.{is_plain_type, is_next, Good, GoodAfter}
 use Rattle.ft_items.proofs.Lists.{store_is, before_add, before_all, annotated_number, entries_all, nth_end}
-use Rattle.ft_reference.specs.Declare.{declared_variable, declared_metavariable}
 use Rattle.ft_kernel.specs.State.{State, entry_at, variable_numbered, next_number}
 use Rattle.ft_calls.specs.Named.{IsVariableAt, IsMetavariableAt}
 
@@ -30,7 +29,7 @@ numbers_next es (x ∷ vs) v h =
     (numbers_next es vs v (omega (arith, h)))
 
 -- a number that is not below the next one is that of a further variable
-pub next_is : (items : List Item) (v : ℕ) → Good items → next_number (variables_in items) ≤ v → is_next (store_of items).variables v ≡ true
+pub next_is : (items : List Item) (v : ℕ) → Good items → next_number (variables_in items) ≤ v → is_next (declared_by items).variables v ≡ true
 next_is items v g h = ap (λ G. is_next G v) (store_is items g).variables ∙ numbers_next (entries_in items) (variables_in items) v h
 
 -- what a variable declares, by its name and its entry
@@ -93,7 +92,7 @@ variable_is s v n p g h =
     )
 
 -- a number that no variable of the list has is none in the store
-pub no_variable : (s : State) (v : ℕ) → Good s.items → variable_numbered (variables_in s.items) v ≡ None → look_up (store_of s.items).variables v ≡ None
+pub no_variable : (s : State) (v : ℕ) → Good s.items → variable_numbered (variables_in s.items) v ≡ None → look_up (declared_by s.items).variables v ≡ None
 no_variable s v g h = ap (λ G. look_up G v) (store_is s.items g).variables ∙ looked_up (entries_in s.items) (variables_in s.items) v ∙ ap (option_map (with_entry v (entries_in s.items))) h
 
 -- a metavariable of a good list is declared with its entry

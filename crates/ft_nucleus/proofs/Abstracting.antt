@@ -7,13 +7,12 @@ use Rattle.ft_theory.specs.Statements.{Claim, is_type, has_type, equal_types, eq
 use Rattle.ft_theory.specs.Rules.{look_up}
 use Rattle.ft_items.specs.Sets.{Atom, met, var, insert, union, without}
 use Rattle.ft_items.specs.Item.{Name, by_var, by_abs}
-use Rattle.ft_items.specs.Store.{Assertion, Annotation, resolve, with_two, entry_named, variable_named, type_in}
+use Rattle.ft_items.specs.Store.{Assertion, Annotation, declared_variable, resolve, with_two, entry_named, variable_named, type_in}
 use Rattle.ft_items.specs.Rows.{when, rests_on, depends}
 use Rattle.ft_nucleus_laws.proofs.Closing.{closing_keeps_small}
 use Rattle.ft_reference.specs.Refusals as reference
 use Rattle.ft_reference.specs.Refusals.{AllSmall, expressions, claim_expressions, first_refusal, none_check}
 use Rattle.ft_reference.specs.Checks.{first_dependent}
-use Rattle.ft_reference.specs.Declare.{declared_variable}
 use Rattle.ft_syntax.specs.Table.{tree}
 use Rattle.ft_judge.specs.Meaning.{claim_in, goal_in, under, thesis_in, boundary_in}
 use Rattle.ft_judge.specs.declared.judgement.Thesis.{Thesis}
@@ -25,7 +24,7 @@ use Rattle.ft_kernel.specs.State.{State, entry_at, statement_at, set_at}
 use Rattle.ft_calls.specs.Answers.{IsAnswer, Answers}
 use Rattle.ft_calls.specs.Named.{IsVariableAt}
 use Rattle.ft_calls.proofs.Entries.{entry_is, stated_is}
-use Rattle.ft_calls.proofs.Answering.{store, rests, entry_in, answered_ok, refused_here, with_statement}
+use Rattle.ft_calls.proofs.Answering.{store, declarations, rests, entry_in, answered_ok, refused_here, with_statement}
 use Rattle.std.proofs.lemmas.Option.{same_Some}
 
 -- the set of an entry
@@ -36,7 +35,7 @@ set_is s p a S e h = same_Some a.set S (ap (option_map (λ (a : Assertion). a.se
 
 record Declares (s : State) (v : ℕ) (A : Expression) (R : List Atom) : Type 0 where
   declared : Annotation
-  found : look_up (store s).variables v ≡ Some declared
+  found : look_up (declarations s).variables v ≡ Some declared
   annotation_is : declared.annotation ≡ A
   set_is : declared.set ≡ R
 
@@ -48,7 +47,7 @@ declares s v p A R d h k = record {
   set_is = same_Some d.1.set R (ap (option_map (λ (a : Assertion). a.set)) (sym d.2) ∙ k);
 }
 
-named : (s : State) (v : ℕ) (d : Annotation) → look_up (store s).variables v ≡ Some d → variable_named (store s) v ≡ Some (v, d)
+named : (s : State) (v : ℕ) (d : Annotation) → look_up (declarations s).variables v ≡ Some d → variable_named (declarations s) v ≡ Some (v, d)
 named s v d h = ap (option_map (λ d. (v, d))) h
 
 -- the variable at its type
@@ -61,7 +60,7 @@ variable_answers s v p A R U y d h k same set =
     (answered_ok s (by_var v) (by_var (v, D.declared)) (plain (has_type (free v) D.declared.annotation)) (ap (option_map by_var) (named s v D.declared D.found)) refl (refl, refl))
 
 pub free_small : (v : ℕ) → IsSmall (free v)
-free_small v = record { low = omega arith; short = omega arith; numbers = tt }
+free_small v = record { kept = (omega arith, omega arith, tt) }
 
 -- Abstraction.
 
@@ -74,15 +73,15 @@ none_depends G v (var w ∷ S) h = go (not (nat_eq w v) && rests_on v (look_up G
     go true h ih = let clash : Some w ≡ None = h in cc
     go false h ih = ih h
 
-resolved : (s : State) (v p : ℕ) (d : Annotation) (P : Assertion) → look_up (store s).variables v ≡ Some d → entry_at s p ≡ Some P → resolve (store s) (by_abs v p) ≡ Some (by_abs (v, d) P)
+resolved : (s : State) (v p : ℕ) (d : Annotation) (P : Assertion) → look_up (declarations s).variables v ≡ Some d → entry_at s p ≡ Some P → resolve (store s) (by_abs v p) ≡ Some (by_abs (v, d) P)
 resolved s v p d P h k = ap₂ (with_two by_abs) (named s v d h) (entry_in s p P k)
 
 pub abstracts : (s : State) (v p q : ℕ) (A : Expression) (X y : Statement) (R S U : List Atom) → IsVariableAt s v q → statement_at s q ≡ Some (plain (is_type A)) → set_at s q ≡ Some R
-    → statement_at s p ≡ Some X → set_at s p ≡ Some S → first_dependent (store s).variables v S ≡ None → y ≡ abstracted A (close_statement v X) → U ≡ union R (without (var v) S)
+    → statement_at s p ≡ Some X → set_at s p ≡ Some S → first_dependent (declarations s).variables v S ≡ None → y ≡ abstracted A (close_statement v X) → U ≡ union R (without (var v) S)
     → IsAnswer s (by_abs v p) (Ok (rests y U))
 abstracts s v p q A X y R S U d h k l m none same set =
     let D : Declares s v A R = declares s v q A R d h k in
-    let W = store s in
+    let W = declarations s in
     subst (λ a. IsAnswer s (by_abs v p) (Ok a))
     (ap₂ rests (ap (λ A. abstracted A (close_statement v X)) D.annotation_is ∙ sym same) (ap (λ R. union R (without (var v) S)) D.set_is ∙ sym set))
     (answered_ok s (by_abs v p) (by_abs (v, D.declared) (rests X S)) (abstracted D.declared.annotation (close_statement v X)) (resolved s v p D.declared (rests X S) D.found (entry_is s p X S l m)) refl (
@@ -90,12 +89,12 @@ abstracts s v p q A X y R S U d h k l m none same set =
       ap (λ b. when (not b) (abstracted D.declared.annotation (close_statement v X))) (none_depends W.variables v S none),
     ))
 
-pub abstracts_not : (s : State) (v p q w : ℕ) (S : List Atom) → IsVariableAt s v q → (P : Assertion) × (entry_at s p ≡ Some P) → set_at s p ≡ Some S → Some w ≡ first_dependent (store s).variables v S
+pub abstracts_not : (s : State) (v p q w : ℕ) (S : List Atom) → IsVariableAt s v q → (P : Assertion) × (entry_at s p ≡ Some P) → set_at s p ≡ Some S → Some w ≡ first_dependent (declarations s).variables v S
     → Answers s (by_abs v p) (Err (Refused (judge.DependentVariable w))) s
 abstracts_not s v p q w S d P k h =
     let same : P.0.set ≡ S = same_Some P.0.set S (ap (option_map (λ (a : Assertion). a.set)) (sym P.1) ∙ k) in
     refused_here s (by_abs v p) (by_abs (v, declared_variable d.0 d.1) P.0) (judge.DependentVariable w) (resolved s v p (declared_variable d.0 d.1) P.0 d.4 P.1)
-    (ap (λ S. first_refusal (none_check reference.DependentVariable (first_dependent (store s).variables v S))) same ∙ ap (λ o. first_refusal (none_check reference.DependentVariable o)) (sym h), tt)
+    (ap (λ S. first_refusal (none_check reference.DependentVariable (first_dependent (declarations s).variables v S))) same ∙ ap (λ o. first_refusal (none_check reference.DependentVariable o)) (sym h), tt)
 
 -- What is closed over a variable is small.
 

@@ -74,7 +74,7 @@ pub built_same : (W : Store) (i : Item) → IsBuilt i → reason_built W i ≡ r
 built_same W (variable v n p) h = refl
 built_same W (metavariable n p) h = refl
 built_same W (rule n ms p) h = refl
-built_same W (entry e) h = entry_same W (resolve W e.step) e (λ s q. resolved_built W e.step s q ∙ h)
+built_same W (entry e) h = entry_same W.declarations (resolve W e.step) e (λ s q. resolved_built W e.step s q ∙ h)
 built_same W (shown p) h = refl
 
 -- Where there is no reason, there is none; another one than Premise is the same.
@@ -100,14 +100,14 @@ pub built_none : (W : Store) (i : Item) → reason_built W i ≡ None → reason
 built_none W (variable v n p) h = h
 built_none W (metavariable n p) h = h
 built_none W (rule n ms p) h = h
-built_none W (entry e) h = entry_none W (resolve W e.step) e h
+built_none W (entry e) h = entry_none W.declarations (resolve W e.step) e h
 built_none W (shown p) h = h
 
 built_other : (W : Store) (i : Item) (why : Reject) → why ≢ Premise → reason_built W i ≡ Some why → reason_in W i ≡ Some why
 built_other W (variable v n p) why d h = h
 built_other W (metavariable n p) why d h = h
 built_other W (rule n ms p) why d h = h
-built_other W (entry e) why d h = entry_other W (resolve W e.step) e why d h
+built_other W (entry e) why d h = entry_other W.declarations (resolve W e.step) e why d h
 built_other W (shown p) why d h = h
 
 -- The first rejected item.

@@ -29,7 +29,7 @@ use Rattle.ft_check.proofs.BuiltLaws.{resolved_built}
 
 -- the result of a step
 abbrev pub result_of : Store → Resolved → Assertion → StatedStep → Option Reason
-result_of W s a t = reason_of_result (conclusion_built W s) (result_set s) (with_step a (stated_step t))
+result_of W s a t = reason_of_result (conclusion_built W.declarations s) (result_set s) (with_step a (stated_step t))
 
 pub btype_result : (W : Store) (t : StatedStep) (a : Assertion) (r : Option Reason) (s : Resolved) → t ≡ step.Btype → resolve W (stated_step t) ≡ Some s
     → r ≡ reason_of_result (Some (plain type_goal)) [] (with_step a (stated_step t)) → r ≡ result_of W s a t
@@ -189,7 +189,7 @@ pub unbuilt_result : (W : Store) (t : StatedStep) (a : Assertion) (s : Resolved)
     → ((r : ℕ) (b : ℕ) (ps : List ℕ) → t ≡ step.Rulewith r b ps → ⊥)
     → Some premise ≡ result_of W s a t
 unbuilt_result W t a s q n0 n1 n2 n3 n4 n5 n6 n7 n8 n9 n10 n11 n12 n13 n14 n15 n16 n17 n18 n19 n20 =
-    ap (λ b. reason_of_result (cond b (Rattle.ft_items.specs.Rows.conclusion W s) None) (result_set s) (with_step a (stated_step t))) (sym (resolved_built W (stated_step t) s q ∙ not_built t n0 n1 n2 n3 n4 n5 n6 n7 n8 n9 n10 n11 n12 n13 n14 n15 n16 n17 n18 n19 n20))
+    ap (λ b. reason_of_result (cond b (Rattle.ft_items.specs.Rows.conclusion W.declarations s) None) (result_set s) (with_step a (stated_step t))) (sym (resolved_built W (stated_step t) s q ∙ not_built t n0 n1 n2 n3 n4 n5 n6 n7 n8 n9 n10 n11 n12 n13 n14 n15 n16 n17 n18 n19 n20))
 
 -- an item without a step
 pub not_entry : (ts : List Expression) (s : Stated) → ((x : _) (S : _) (t : _) → s ≡ Thesis x S t → ⊥) → ((x : _) (S : _) (t : _) → s ≡ Boundary x S t → ⊥) → is_entry (item_in ts s) ≡ false

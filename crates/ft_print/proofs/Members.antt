@@ -8,7 +8,7 @@ use Rattle.ft_theory.specs.Statements.{is_type, has_type, equal_types, equal_ter
 use Rattle.ft_theory.specs.Rules.{look_up}
 use Rattle.ft_items.specs.Equal.{is_thesis}
 use Rattle.ft_items.specs.Item.{Name, Item, variable, metavariable, rule, entry, shown}
-use Rattle.ft_items.specs.Store.{Assertion, nth, annotated, declared, type_in, empty_store, add, add_all, entries_in, variables_in, metavariables_in, Declarations, declared_by, no_declarations}
+use Rattle.ft_items.specs.Store.{Assertion, Store, nth, annotated, declared, type_in, empty_store, add, add_all, entries_in, variables_in, metavariables_in, Declarations, declared_by}
 use Rattle.ft_items.specs.Good.{Good, GoodAfter, is_plain_type}
 use Rattle.ft_items.proofs.Lists.{entries_all, before_all}
 use Rattle.ft_syntax.specs.Table.{tree}
@@ -25,7 +25,7 @@ use Rattle.ft_assume.specs.Atoms.{atom_of, atoms_of}
 use Rattle.ft_assume.specs.declared.atom.Atom.{Atom as AtomValue}
 
 -- the entry of a metavariable is a boundary
-met_entry : (W : Declarations) (items : List Item) → GoodAfter W items → (m : ℕ) (n : Name) (p : ℕ) → nth (metavariables_in items) m ≡ Some (n, p) → (a : Assertion) × (nth (add_all W items).entries p ≡ Some a) × (is_thesis a.statement ≡ false)
+met_entry : (W : Store) (items : List Item) → GoodAfter W items → (m : ℕ) (n : Name) (p : ℕ) → nth (metavariables_in items) m ≡ Some (n, p) → (a : Assertion) × (nth (add_all W items).entries p ≡ Some a) × (is_thesis a.statement ≡ false)
 met_entry W [] g m n p e = none_some e
 met_entry W (metavariable k q ∷ items) g zero n p e =
     let a : Assertion = g.0.0 in
@@ -38,14 +38,14 @@ met_entry W (entry d ∷ items) g m n p e = met_entry (add W (entry d)) items g.
 met_entry W (shown q ∷ items) g m n p e = met_entry (add W (shown q)) items g.1 m n p e
 
 pub boundary_there : (s : State) (m : ℕ) (n : Name) (p : ℕ) → Good s.items → nth (metavariables_in s.items) m ≡ Some (n, p) → IsBoundaryOf s p
-boundary_there s m n p g e = let k = met_entry no_declarations s.items g m n p e in (k.0, ap (λ es. nth es p) (sym (entries_all empty_store s.items)) ∙ k.1, k.2)
+boundary_there s m n p g e = let k = met_entry empty_store s.items g m n p e in (k.0, ap (λ es. nth es p) (sym (entries_all empty_store s.items)) ∙ k.1, k.2)
 
 by_choice : {P : Type 0} (b : Bool) (k n : Name) (q p : ℕ) (rest : Option (Name × ℕ)) → cond b (Some (k, q)) rest ≡ Some (n, p) → (q ≡ p → P) → (rest ≡ Some (n, p) → P) → P
 by_choice true k n q p rest e f g = f (ap (λ (y : Name × ℕ). y.1) (same_Some (k, q) (n, p) e))
 by_choice false k n q p rest e f g = g e
 
 -- the entry of a variable is a plain type
-var_entry : (W : Declarations) (items : List Item) → GoodAfter W items → (v : ℕ) (n : Name) (p : ℕ) → variable_numbered (variables_in items) v ≡ Some (n, p) → (a : Assertion) × (nth (add_all W items).entries p ≡ Some a) × (is_plain_type a.statement ≡ true)
+var_entry : (W : Store) (items : List Item) → GoodAfter W items → (v : ℕ) (n : Name) (p : ℕ) → variable_numbered (variables_in items) v ≡ Some (n, p) → (a : Assertion) × (nth (add_all W items).entries p ≡ Some a) × (is_plain_type a.statement ≡ true)
 var_entry W [] g v n p e = none_some e
 var_entry W (variable w k q ∷ items) g v n p e =
     by_choice {P = (a : Assertion) × (nth (add_all W (variable w k q ∷ items)).entries p ≡ Some a) × (is_plain_type a.statement ≡ true)} (nat_eq w v) k n q p (variable_numbered (variables_in items) v) e
@@ -68,7 +68,7 @@ plain_thesis (plain (term_equation_goal t u A)) e = false_true e
 plain_thesis (abstracted A x) e = false_true e
 
 at_var : (s : State) (v : ℕ) (n : Name) (p : ℕ) → Good s.items → variable_numbered (variables_in s.items) v ≡ Some (n, p) → (a : Assertion) × (entry_at s p ≡ Some a) × (is_plain_type a.statement ≡ true)
-at_var s v n p g e = let k = var_entry no_declarations s.items g v n p e in (k.0, ap (λ es. nth es p) (sym (entries_all empty_store s.items)) ∙ k.1, k.2)
+at_var s v n p g e = let k = var_entry empty_store s.items g v n p e in (k.0, ap (λ es. nth es p) (sym (entries_all empty_store s.items)) ∙ k.1, k.2)
 
 pub type_there : (s : State) (v : ℕ) (n : Name) (p : ℕ) → Good s.items → variable_numbered (variables_in s.items) v ≡ Some (n, p) → IsThesisOf s p
 type_there s v n p g e = let k = at_var s v n p g e in (k.0, k.1, plain_thesis k.0.statement k.2)

@@ -1,6 +1,6 @@
 -- An expression is its node applied to its arguments.
 use Rattle.std.proofs.Common.{◌≡◌, suc, ◌+◌, max, List, [], ◌∷◌, Some, None, refl, sym, ap, ap₂, subst, arith}
-use Rattle.ft_theory.specs.Expressions.{Expression, bound, free, symbol, meta, Arguments, no_arguments, with_body, dummy, Terms, no_terms, also}
+use Rattle.ft_theory.specs.Expressions.{Expression, bound, free, symbol, meta, Terms, no_terms, also}
 use Rattle.ft_theory.specs.Small.{depth, depth_of_arguments, depth_of_terms, size, size_of_arguments, size_of_terms, NumbersFit, NumbersFitInArguments, NumbersFitInTerms, IsSmall}
 use Rattle.ft_syntax.specs.Arguments.{Argument, node_of, list_of_arguments, list_of_terms, arguments_of, as_arguments, as_terms, applied, AreTerms, FitsNode, IsApplication}
 use Rattle.ft_syntax.specs.Laws.{arguments_listed, terms_listed}

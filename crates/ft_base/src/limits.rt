@@ -39,5 +39,5 @@ pub const DEFAULT_BUDGET: u64 = 1_000_000;
 /// The greatest number for which a sample source is made.
 pub const MAX_SAMPLE: u64 = 5_000;
 
-/// The most rows of a table of expressions that are remembered at a time.
-pub const MAX_REMEMBERED_ROWS: usize = 1_048_576;
+/// The most rows of a table of expressions that are compared one after the other when a row is looked for.
+pub const MAX_CHAIN: usize = 32;

@@ -2,7 +2,7 @@
 use Rattle.std.proofs.Common.{◌≡◌, ◌∙◌, sym, ap, refl, ℕ, Some, List, [], ◌∷◌, ◌++◌, map, codes, inl, inr, append_assoc, append-nil}
 use Rattle.ft_theory.specs.Rules.{look_up}
 use Rattle.ft_items.specs.Sets.{Atom, met, var, Has}
-use Rattle.ft_items.specs.Store.{Assertion, Annotation, Store}
+use Rattle.ft_items.specs.Store.{Assertion, Annotation, Declarations}
 use Rattle.ft_meaning.specs.Texts.{Text, variables, variable_text, of_type_text, variable_member, member_text, joined, context_text, statement_text, sequent_text}
 use Rattle.ft_meaning_laws.specs.Texts.{Mentions, VariablesMentioned}
 
@@ -28,11 +28,11 @@ joined_member f (b ∷ c ∷ S) a (inl e) =
     in_front (f b ++ codes ", ") (joined (map f (c ∷ S))) (f a) (in_front (f b) (codes ", ") (f a) (whole (f b) (f a) (ap f e)))
 joined_member f (b ∷ c ∷ S) a (inr h) = behind (f b ++ codes ", ") (joined (map f (c ∷ S))) (f a) (joined_member f (c ∷ S) a h)
 
-context_member : (W : Store) (vs : List ℕ) (S : List Atom) (a : Atom) → Has a S → Mentions (context_text W vs S) (member_text W vs a)
+context_member : (W : Declarations) (vs : List ℕ) (S : List Atom) (a : Atom) → Has a S → Mentions (context_text W vs S) (member_text W vs a)
 context_member W vs [] a h = absurd h
 context_member W vs (b ∷ S) a h = in_front (joined (map (member_text W vs) (b ∷ S))) (codes " ") (member_text W vs a) (joined_member (member_text W vs) (b ∷ S) a h)
 
-member_names : (W : Store) (vs : List ℕ) (v : ℕ) (d : Annotation) → look_up W.variables v ≡ Some d → Mentions (member_text W vs (var v)) (variable_text W vs v)
+member_names : (W : Declarations) (vs : List ℕ) (v : ℕ) (d : Annotation) → look_up W.variables v ≡ Some d → Mentions (member_text W vs (var v)) (variable_text W vs v)
 member_names W vs v d e =
     let x : Text = variable_text W vs v in
     let k : Mentions (x ++ of_type_text W vs 0 d.annotation) x = in_front x (of_type_text W vs 0 d.annotation) x (whole x x refl) in

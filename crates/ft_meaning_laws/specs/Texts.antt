@@ -5,7 +5,7 @@ use Rattle.ft_theory.specs.Statements.{Claim, is_type, has_type, equal_types, eq
 use Rattle.ft_theory.specs.Rules.{look_up}
 use Rattle.ft_items.specs.Sets.{Atom, met, var, Has}
 use Rattle.ft_items.specs.Item.{Name, Item}
-use Rattle.ft_items.specs.Store.{Assertion, Annotation, Declared, Store, nth, store_of}
+use Rattle.ft_items.specs.Store.{Assertion, Annotation, Declared, Declarations, nth, declared_by}
 use Rattle.ft_meaning.specs.Texts.{Text, variables, variable_text, sequent_text}
 
 -- the part stands in the text
@@ -14,11 +14,11 @@ Mentions t part = (before after : Text) × (t ≡ before ++ part ++ after)
 
 -- A sequent's text mentions each variable of its set that is declared, whether the thesis mentions it or not.
 abbrev pub VariablesMentioned : Type 0
-VariablesMentioned = (W : Store) (p : Assertion) (v : ℕ) (d : Annotation) → Has (var v) p.set → look_up W.variables v ≡ Some d
+VariablesMentioned = (W : Declarations) (p : Assertion) (v : ℕ) (d : Annotation) → Has (var v) p.set → look_up W.variables v ≡ Some d
     → Mentions (sequent_text W p) (variable_text W (variables p.set) v)
 
 -- What is named is declared.
-module _ (W : Store) where
+module _ (W : Declarations) where
   -- each rule, metavariable and variable of the expression is declared
   abbrev mutual
     pub NamesDeclared : Expression → Type 0
@@ -62,9 +62,9 @@ module _ (W : Store) where
   MembersDeclared (a ∷ S) = MemberDeclared a × MembersDeclared S
 
 -- all that a sequent names is declared
-abbrev pub SequentDeclared : Store → Assertion → Type 0
+abbrev pub SequentDeclared : Declarations → Assertion → Type 0
 SequentDeclared W p = MembersDeclared W p.set × StatementDeclared W p.statement
 
 -- The same assertion over a longer list has the same text, where the shorter one declares all that its sequent names.
 abbrev pub TextsStay : Type 0
-TextsStay = (items more : List Item) (p : Assertion) → SequentDeclared (store_of items) p → sequent_text (store_of (items ++ more)) p ≡ sequent_text (store_of items) p
+TextsStay = (items more : List Item) (p : Assertion) → SequentDeclared (declared_by items) p → sequent_text (declared_by (items ++ more)) p ≡ sequent_text (declared_by items) p

@@ -1,7 +1,7 @@
 //! Atoms that alone are mentioned.
 
 ghost use Rattle.std.specs.Prelude.{◌≡◌, ◌++◌, OnOk};
-ghost use Rattle.ft_items.specs.Store.{store_of};
+ghost use Rattle.ft_items.specs.Store.{declared_by};
 ghost use Rattle.ft_assume.specs.Atoms.{atom_of};
 ghost use Rattle.ft_meaning.specs.Faults.{atom_text};
 
@@ -13,7 +13,7 @@ use ft_kernel::Kernel;
 // Appends an atom, in a line that mentions no other variable.
 pub fn push_atom(k: &Kernel, atom: Atom, out: &mut Text) -> Result<(), Memory>
     ensures ok { OnOk result
-        (out.new ≡ out.old ++ atom_text (store_of k.now.items) (atom_of atom)) }
+        (out.new ≡ out.old ++ atom_text (declared_by k.now.items) (atom_of atom)) }
 {
     // That the list is good comes with its table.
     let _terms = k.terms();

@@ -2,7 +2,7 @@
 
 ghost use Rattle.std.specs.Prelude.{◌≡◌, IfOk};
 ghost use Rattle.ft_items.specs.Item.{Name as AnyName};
-ghost use Rattle.ft_items.specs.Store.{Store, store_of};
+ghost use Rattle.ft_items.specs.Store.{Declarations, declared_by};
 ghost use Rattle.ft_assume.specs.Atoms.{atom_of};
 ghost use Rattle.ft_reference.specs.Declare.{Duplicate, TooMany, OpenPremise, OpenConclusion};
 ghost use Rattle.ft_meaning.specs.Values.{OfRule};
@@ -17,7 +17,7 @@ use std::alloc::Global;
 
 /// Why a run ends at a rule whose name an earlier rule has.
 pub fn duplicate_rule_text(alloc: Global, name: &Name) -> Result<Text, Memory>
-    ensures { IfOk result (λ t. (W : Store) → t ≡ fault_text W name.now (OfRule Duplicate)) }
+    ensures { IfOk result (λ t. (W : Declarations) → t ≡ fault_text W name.now (OfRule Duplicate)) }
 {
     let mut out = Text::new(alloc);
     out.push_str("rule ")?;
@@ -28,7 +28,7 @@ pub fn duplicate_rule_text(alloc: Global, name: &Name) -> Result<Text, Memory>
 
 /// Why a run ends at a rule when as many are declared as there may be.
 pub fn too_many_rules_text(alloc: Global) -> Result<Text, Memory>
-    ensures { IfOk result (λ t. (W : Store) (n : AnyName) → t ≡ fault_text W n (OfRule TooMany)) }
+    ensures { IfOk result (λ t. (W : Declarations) (n : AnyName) → t ≡ fault_text W n (OfRule TooMany)) }
 {
     fixed_text(alloc, "too many rules")
 }
@@ -42,7 +42,7 @@ pub fn open_premise_text(
 ) -> Result<Text, Memory>
     ensures { IfOk result
         (λ t. (n : AnyName) →
-        t ≡ fault_text (store_of k.now.items) n (OfRule (OpenPremise premise (atom_of atom)))) }
+        t ≡ fault_text (declared_by k.now.items) n (OfRule (OpenPremise premise (atom_of atom)))) }
 {
     let mut out = Text::new(alloc);
     out.push_str("premise ")?;
@@ -56,7 +56,7 @@ pub fn open_premise_text(
 pub fn open_conclusion_text(alloc: Global, k: &Kernel, atom: Atom) -> Result<Text, Memory>
     ensures { IfOk result
         (λ t. (n : AnyName) →
-        t ≡ fault_text (store_of k.now.items) n (OfRule (OpenConclusion (atom_of atom)))) }
+        t ≡ fault_text (declared_by k.now.items) n (OfRule (OpenConclusion (atom_of atom)))) }
 {
     let mut out = Text::new(alloc);
     out.push_str("conclusion keeps ")?;

@@ -6,8 +6,8 @@ use Rattle.ft_theory.specs.Statements.{Claim, is_type, has_type, equal_types, eq
 use Rattle.ft_theory.specs.Rules.{look_up}
 use Rattle.ft_items.specs.Sets.{Atom, met, var}
 use Rattle.ft_items.specs.Item.{Name, Item, variable, metavariable, rule, entry, shown}
-use Rattle.ft_items.specs.Store.{Assertion, Annotation, Declared, Declarations, Store, nth, type_in, each, entry_named, metavariable_named, add_variable, add_metavariable, add_rule, empty_store, add, add_all, store_of}
-use Rattle.ft_items.proofs.Lists.{nth_before, before_add, store_append}
+use Rattle.ft_items.specs.Store.{Assertion, Annotation, Declared, Declarations, Store, nth, each, entry_named, metavariable_named, declared_variable, declared_metavariable, add_variable, add_metavariable, add_rule, empty_store, add, add_all, store_of, declared_by}
+use Rattle.ft_items.proofs.Lists.{nth_before, store_append}
 use Rattle.ft_meaning.specs.Texts.{Text, name_if_any, variables, joined, in_parentheses, binders_text, metavariable_text, variable_text, expression_text, argument_texts, term_texts, sides_text, of_type_text, claim_text, statement_text, metavariable_member, variable_member, member_text, context_text, sequent_text}
 use Rattle.ft_meaning_laws.specs.Texts.{NamesDeclared, ArgumentsDeclared, TermsDeclared, ClaimDeclared, StatementDeclared, MemberDeclared, MembersDeclared, TextsStay}
 
@@ -95,49 +95,63 @@ look_before (x ∷ xs) ys v d e = go (nat_eq v x.0) e (look_before xs ys v d)
 
 variables_variable : (W : Declarations) (w : ℕ) (n : Name) (o : Option Assertion) (v : ℕ) (d : Annotation) → look_up W.variables v ≡ Some d → look_up (add_variable W w n o).variables v ≡ Some d
 variables_variable W w n None v d e = e
-variables_variable W w n (Some a) v d e = look_before W.variables ((w, record { name = n; annotation = type_in a.statement; set = a.set }) ∷ []) v d e
+variables_variable W w n (Some a) v d e = look_before W.variables ((w, declared_variable n a) ∷ []) v d e
 
 names_variable : (W : Declarations) (w : ℕ) (n : Name) (o : Option Assertion) (s : ℕ) (k : Name) → nth W.names s ≡ Some k → nth (add_variable W w n o).names s ≡ Some k
 names_variable W w n None s k e = e
 names_variable W w n (Some a) s k e = e
 
+metavariables_variable : (W : Declarations) (w : ℕ) (n : Name) (o : Option Assertion) (m : ℕ) (d : Declared) → nth W.metavariables m ≡ Some d → nth (add_variable W w n o).metavariables m ≡ Some d
+metavariables_variable W w n None m d e = e
+metavariables_variable W w n (Some a) m d e = e
+
 names_metavariable : (W : Declarations) (n : Name) (o : Option Assertion) (s : ℕ) (k : Name) → nth W.names s ≡ Some k → nth (add_metavariable W n o).names s ≡ Some k
 names_metavariable W n None s k e = e
 names_metavariable W n (Some a) s k e = e
 
+metavariables_metavariable : (W : Declarations) (n : Name) (o : Option Assertion) (m : ℕ) (d : Declared) → nth W.metavariables m ≡ Some d → nth (add_metavariable W n o).metavariables m ≡ Some d
+metavariables_metavariable W n None m d e = e
+metavariables_metavariable W n (Some a) m d e = nth_before W.metavariables (declared_metavariable n a ∷ []) m d e
+
 variables_metavariable : (W : Declarations) (n : Name) (o : Option Assertion) (v : ℕ) (d : Annotation) → look_up W.variables v ≡ Some d → look_up (add_metavariable W n o).variables v ≡ Some d
 variables_metavariable W n None v d e = e
 variables_metavariable W n (Some a) v d e = e
+
+metavariables_rule : (W : Declarations) (n : Name) (os : Option (List (ℕ × Declared))) (o : Option Assertion) (m : ℕ) (d : Declared) → nth W.metavariables m ≡ Some d → nth (add_rule W n os o).metavariables m ≡ Some d
+metavariables_rule W n None o m d e = e
+metavariables_rule W n (Some ds) None m d e = e
+metavariables_rule W n (Some ds) (Some a) m d e = e
 
 variables_rule : (W : Declarations) (n : Name) (os : Option (List (ℕ × Declared))) (o : Option Assertion) (v : ℕ) (d : Annotation) → look_up W.variables v ≡ Some d → look_up (add_rule W n os o).variables v ≡ Some d
 variables_rule W n None o v d e = e
 variables_rule W n (Some ds) None v d e = e
 variables_rule W n (Some ds) (Some a) v d e = e
 
-stays_add : (W : Store) (i : Item) → Stays W.declarations (add W i).declarations
-stays_add W (variable v n p) = record {
-  names = λ s k e. names_variable W.declarations v n (entry_named W p) s k e;
-  metavariables = (before_add W (variable v n p)).metavariables;
-  variables = variables_variable W.declarations v n (entry_named W p);
-}
-stays_add W (metavariable n p) = record {
-  names = λ s k e. names_metavariable W.declarations n (entry_named W p) s k e;
-  metavariables = (before_add W (metavariable n p)).metavariables;
-  variables = λ v d e. variables_metavariable W.declarations n (entry_named W p) v d e;
-}
-stays_add W (rule n ms p) = record {
-  names = names_rule W.declarations n (each (metavariable_named W.declarations) ms) (entry_named W p);
-  metavariables = (before_add W (rule n ms p)).metavariables;
-  variables = λ v d e. variables_rule W.declarations n (each (metavariable_named W.declarations) ms) (entry_named W p) v d e;
-}
-stays_add W (entry x) = record { names = λ s k e. e; metavariables = λ m d e. e; variables = λ v d e. e }
-stays_add W (shown p) = record { names = λ s k e. e; metavariables = λ m d e. e; variables = λ v d e. e }
+same : (W : Declarations) → Stays W W
+same W = record { names = λ s k e. e; metavariables = λ m d e. e; variables = λ v d e. e }
 
-stays_all : (W : Store) (items : List Item) → Stays W.declarations (add_all W items).declarations
-stays_all W [] = record { names = λ s k e. e; metavariables = λ m d e. e; variables = λ v d e. e }
-stays_all W (i ∷ items) =
-    let f : Stays W.declarations (add W i).declarations = stays_add W i in
-    let g : Stays (add W i).declarations (add_all (add W i) items).declarations = stays_all (add W i) items in
+stays_add : (X : Store) (i : Item) → Stays X.declarations (add X i).declarations
+stays_add X (variable w n p) =
+    let W : Declarations = X.declarations in
+    let o : Option Assertion = entry_named X p in
+    record { names = names_variable W w n o; metavariables = metavariables_variable W w n o; variables = variables_variable W w n o }
+stays_add X (metavariable n p) =
+    let W : Declarations = X.declarations in
+    let o : Option Assertion = entry_named X p in
+    record { names = names_metavariable W n o; metavariables = metavariables_metavariable W n o; variables = variables_metavariable W n o }
+stays_add X (rule n ms p) =
+    let W : Declarations = X.declarations in
+    let os : Option (List (ℕ × Declared)) = each (metavariable_named W) ms in
+    let o : Option Assertion = entry_named X p in
+    record { names = names_rule W n os o; metavariables = metavariables_rule W n os o; variables = variables_rule W n os o }
+stays_add X (entry x) = same X.declarations
+stays_add X (shown p) = same X.declarations
+
+stays_all : (X : Store) (items : List Item) → Stays X.declarations (add_all X items).declarations
+stays_all X [] = same X.declarations
+stays_all X (i ∷ items) =
+    let f : Stays X.declarations (add X i).declarations = stays_add X i in
+    let g : Stays (add X i).declarations (add_all (add X i) items).declarations = stays_all (add X i) items in
     record {
       names = λ s k e. g.names s k (f.names s k e);
       metavariables = λ m d e. g.metavariables m d (f.metavariables m d e);
@@ -146,7 +160,7 @@ stays_all W (i ∷ items) =
 
 pub texts_stay : TextsStay
 texts_stay items more p d =
-    let W : Declarations = (store_of items).declarations in
+    let W : Declarations = declared_by items in
     let X : Declarations = (add_all (store_of items) more).declarations in
     let h : Stays W X = stays_all (store_of items) more in
     let vs : List ℕ = variables p.set in

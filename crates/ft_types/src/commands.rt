@@ -1,9 +1,11 @@
 //! The types of commands.
 
-ghost use Rattle.std.specs.Prelude.{◌≡◌, [], map, OnOk, OnErr};
+ghost use Rattle.std.specs.Prelude.{◌≡◌, [], map, length, IfOk, OnOk, OnErr};
 ghost use Rattle.ft_meaning.specs.Trees.{form, value_type, premise, command_of, rule_command};
 ghost use Rattle.ft_meaning.specs.Trees.{let_command, operation_command, show_command};
-ghost use Rattle.ft_meaning.specs.CommandTyping.{scope_after};
+ghost use Rattle.ft_meaning.specs.CommandTyping.{scope_after, is_shown};
+ghost use Rattle.ft_types.specs.Types.{type_in, Below};
+ghost use Rattle.ft_types.specs.Checking.{Keeps};
 ghost use Rattle.ft_types.specs.Commands.{Changes, conclusion_in};
 
 use crate::checker::{Checker, OperationShape, RuleShape, twice};
@@ -11,6 +13,7 @@ use crate::expressions::place_of;
 use crate::fault::TypeFault;
 use crate::premises::makes_symbol;
 use crate::types::{KnownType, Row};
+use ft_base::Memory;
 use ft_grammar::{AmlType, Ast, Command, Conclusion, Named, Premise};
 use std::alloc::Global;
 
@@ -92,16 +95,28 @@ impl Checker {
             result self.old self.new }
     {
         let found = self.type_of(e)?;
-        let option = self.of_row(Row::Opt(KnownType::Judgement))?;
-        let list = self.of_row(Row::List(KnownType::Judgement))?;
-        if self.are_same(found, KnownType::Judgement)
-            || self.are_same(found, option)
-            || self.are_same(found, list)
-        {
+        if self.is_shown(found)? {
             Ok(())
         } else {
             Err(self.mismatch(place_of(e), found, KnownType::Judgement))
         }
+    }
+
+    // Whether a value of the type can be shown.
+    #[tactic(auto, using(crate::proofs::Rules::keeping))]
+    fn is_shown(&mut self, found: KnownType) -> Result<bool, Memory>
+        requires { Below (length self.old.types) found }
+        ensures shown { IfOk result (λ b. b ≡ is_shown (type_in self.old.types found)) }
+        ensures locals { self.new.locals ≡ self.old.locals }
+        ensures keeps { Keeps self.old self.new }
+    {
+        let option = self.of_row(Row::Opt(KnownType::Judgement))?;
+        let list = self.of_row(Row::List(KnownType::Judgement))?;
+        Ok(
+            self.are_same(found, KnownType::Judgement)
+                || self.are_same(found, option)
+                || self.are_same(found, list),
+        )
     }
 
     /// The scope after a command.

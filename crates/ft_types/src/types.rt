@@ -89,7 +89,7 @@ impl Types {
     }
 
     /// The row of a place.
-    #[tactic(auto, using(crate::proofs::Rows::types_len, crate::proofs::Rows::table_row_at))]
+    #[tactic(auto, using(crate::proofs::Rows::types_len))]
     pub fn row(&self, place: u64) -> Row
         requires { place < length self.now }
         ensures parts { FitsBelow place result }

@@ -52,5 +52,9 @@ members : Holds row.members
 unfolding running
 members = holds row.members refl
 
+inconsistent : Holds row.inconsistent
+unfolding running
+inconsistent = holds row.inconsistent refl
+
 pub each_holds : AllHold row.programs
-each_holds = (beta, (abstracted, (doubled, (value_with_arguments, (no_case, (truth_shown, (twice_in_pattern, (wanted_pair, (inner_pair, (matched, (congruent, (members, tt))))))))))))
+each_holds = (beta, (abstracted, (doubled, (value_with_arguments, (no_case, (truth_shown, (twice_in_pattern, (wanted_pair, (inner_pair, (matched, (congruent, (members, (inconsistent, tt)))))))))))))

@@ -140,9 +140,30 @@ members = record {
   status = 0;
 }
 
+-- a theory in which each type has a term and any two types are equal: what its rules give is shown
+abbrev pub inconsistent : Row
+inconsistent = record {
+  source =
+      codes "rule Nat type" ∷
+      codes "rule any (A type) : A" ∷
+      codes "rule all (A type) (B type) : A == B" ∷
+      codes "show all Nat Nat" ∷
+      codes "show convert (any Nat) (all Nat Nat)" ∷
+      [];
+  budget = plenty;
+  written =
+      codes "accepted Nat" ∷
+      codes "accepted any" ∷
+      codes "accepted all" ∷
+      codes "|- Nat == Nat" ∷
+      codes "|- any(Nat) : Nat" ∷
+      [];
+  status = 0;
+}
+
 -- the rows
 abbrev pub programs : List Row
 programs =
     beta ∷ abstracted ∷ doubled ∷ value_with_arguments ∷ no_case ∷ truth_shown ∷
     twice_in_pattern ∷ wanted_pair ∷ inner_pair ∷ matched ∷ congruent ∷ members ∷
-    []
+    inconsistent ∷ []

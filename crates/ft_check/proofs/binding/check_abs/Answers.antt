@@ -25,10 +25,10 @@ returns c = λ d a t g e f.
     let E = with_step (entry_in T c.args.found) t in
     let b = entry_in T c.in-Some-entry_before.named in
     let x = abstracted (tree T c.in-Some.typed.ty) (close_statement c.args.v b.statement) in
-    let s = variable_stands W c.args.v d e in
+    let s = variable_stands W.declarations c.args.v d e in
     let read : IsTyped T c.in-Some.typed d.1 = as_some (λ x. IsTyped T x d.1) c.typed_before.result c.in-Some.typed (c.typed_before.ensures.is d.1 g s.1) c.in-Some.is in
-    abstracted_reason W.variables c.args.v d b a (entry_named W c.args.p) (tree T c.in-Some.typed.ty) c.in-Some.typed.set.now c.depends.result E _ c.in-Some-entry_before.ensures.entry f s.0 read.type read.set
-    (c.depends.ensures g ∙ ap (Rattle.ft_items.specs.Rows.depends W.variables c.args.v) (c.set.ensures T)) c.if-depends.false
+    abstracted_reason W.declarations.variables c.args.v d b a (entry_named W c.args.p) (tree T c.in-Some.typed.ty) c.in-Some.typed.set.now c.depends.result E _ c.in-Some-entry_before.ensures.entry f s.0 read.type read.set
+    (c.depends.ensures g ∙ ap (Rattle.ft_items.specs.Rows.depends W.declarations.variables c.args.v) (c.set.ensures T)) c.if-depends.false
     (c.against_test.ensures T x t
     (subst (λ ts. c.in_ok-is_concluded.is_concluded ≡ equal_statements (abstracted (tree ts c.in-Some.typed.ty) (close_statement c.args.v (statement_in ts c.parts-first.result))) (statement_in ts c.parts-stated.result)) c.terms.ensures c.in_ok-is_concluded.ensures
     ∙ ap₂ (λ y z. equal_statements (abstracted (tree T c.in-Some.typed.ty) (close_statement c.args.v y)) z) (c.parts-first.ensures.is T) (c.parts-stated.ensures.is T))

@@ -22,7 +22,7 @@ returns c = λ d t g e.
     let W = store_of (take c.args.i c.args.items.now.items) in
     let E = with_step (entry_in T c.args.found) t in
     let x = plain (has_type (free c.args.v) (tree T c.in-Some.typed.ty)) in
-    let s = variable_stands W c.args.v d e in
+    let s = variable_stands W.declarations c.args.v d e in
     let read : IsTyped T c.in-Some.typed d.1 = as_some (λ x. IsTyped T x d.1) c.typed_before.result c.in-Some.typed (c.typed_before.ensures.is d.1 g s.1) c.in-Some.is in
     variable_reason c.args.v d (tree T c.in-Some.typed.ty) c.in-Some.typed.set.now E _ s.0 read.type read.set
     (c.against_test.ensures T x t

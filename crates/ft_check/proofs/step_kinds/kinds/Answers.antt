@@ -14,7 +14,7 @@ returns-in-Rulewith c =
     let W = store_of (take c.args.i c.args.items.now.items) in
     λ g. c.rule_with.ensures g
     ∙ shape_three (kinds_right c.args.thesis) by_rulewith (λ R. true) (λ a. not (is_thesis a.statement)) all_theses c.args.thesis (λ R a ps. with_right (not (is_thesis a.statement)) (all_theses ps) c.args.thesis)
-    (rule_named W c.in-Rulewith.r) (entry_named W c.in-Rulewith.b) (each (entry_named W) c.in-Rulewith.ps)
+    (rule_named W.declarations c.in-Rulewith.r) (entry_named W c.in-Rulewith.b) (each (entry_named W) c.in-Rulewith.ps)
     ∙ ap (λ t. option_map (kinds_right c.args.thesis) (resolve W (stated_step t))) (sym c.in-Rulewith.is)
 
 pub returns-in-Cong : goal.returns-in-Cong
@@ -22,7 +22,7 @@ returns-in-Cong c =
     let W = store_of (take c.args.i c.args.items.now.items) in
     λ g. c.rule_twice.ensures g
     ∙ shape_three (kinds_right c.args.thesis) by_cong (λ R. true) all_theses all_theses c.args.thesis (λ R ps es. twice_right ps es c.args.thesis)
-    (rule_named W c.in-Cong.r) (each (entry_named W) c.in-Cong.ps) (each (entry_named W) c.in-Cong.es)
+    (rule_named W.declarations c.in-Cong.r) (each (entry_named W) c.in-Cong.ps) (each (entry_named W) c.in-Cong.es)
     ∙ ap (λ t. option_map (kinds_right c.args.thesis) (resolve W (stated_step t))) (sym c.in-Cong.is)
 
 pub returns-in-Convprem : goal.returns-in-Convprem
@@ -30,7 +30,7 @@ returns-in-Convprem c =
     let W = store_of (take c.args.i c.args.items.now.items) in
     λ g. c.rule_moved.ensures g
     ∙ shape_four (kinds_right c.args.thesis) by_convprem (λ R. true) all_theses all_theses (λ a. is_thesis a.statement) c.args.thesis (λ R ps es q. moved_right ps es q c.args.thesis)
-    (rule_named W c.in-Convprem.r) (each (entry_named W) c.in-Convprem.ps) (each (entry_named W) c.in-Convprem.es) (entry_named W c.in-Convprem.q)
+    (rule_named W.declarations c.in-Convprem.r) (each (entry_named W) c.in-Convprem.ps) (each (entry_named W) c.in-Convprem.es) (entry_named W c.in-Convprem.q)
     ∙ ap (λ t. option_map (kinds_right c.args.thesis) (resolve W (stated_step t))) (sym c.in-Convprem.is)
 
 pub returns-in-Convback : goal.returns-in-Convback
@@ -38,5 +38,5 @@ returns-in-Convback c =
     let W = store_of (take c.args.i c.args.items.now.items) in
     λ g. c.rule_moved-in-Convback.ensures g
     ∙ shape_four (kinds_right c.args.thesis) by_convback (λ R. true) all_theses all_theses (λ a. is_thesis a.statement) c.args.thesis (λ R ps es q. moved_right ps es q c.args.thesis)
-    (rule_named W c.in-Convback.r) (each (entry_named W) c.in-Convback.ps) (each (entry_named W) c.in-Convback.es) (entry_named W c.in-Convback.q)
+    (rule_named W.declarations c.in-Convback.r) (each (entry_named W) c.in-Convback.ps) (each (entry_named W) c.in-Convback.es) (entry_named W c.in-Convback.q)
     ∙ ap (λ t. option_map (kinds_right c.args.thesis) (resolve W (stated_step t))) (sym c.in-Convback.is)

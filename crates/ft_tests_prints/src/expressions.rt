@@ -2,7 +2,7 @@
 
 ghost use Rattle.std.specs.Prelude.{◌<◌, length, IfOk};
 
-use crate::theory::Theory;
+use crate::told::declared;
 use ft_base::Text;
 use ft_judge::{Differ, Refusal};
 use ft_kernel::Kernel;
@@ -27,37 +27,37 @@ enum Shape {
     NotDeclared,
 }
 
-// Each form below one domain, where a type is wanted.
+// Each form below one domain, where `M` is wanted. Rules and variables are not declared, so they have no names.
 const SHAPES: [(Shape, &str); 11] = [
-    (Shape::Bound, "TypeDiffers: found @0, wanted A"),
-    (Shape::Free, "TypeDiffers: found x#0, wanted A"),
-    (Shape::Metavariable, "TypeDiffers: found M?0, wanted A"),
+    (Shape::Bound, "TypeDiffers: found @0, wanted M?0"),
+    (Shape::Free, "TypeDiffers: found #0, wanted M?0"),
+    (Shape::Metavariable, "TypeDiffers: found M?0, wanted M?0"),
     (
         Shape::MetavariableAtTerms,
-        "TypeDiffers: found M?0(x#0, @0), wanted A",
+        "TypeDiffers: found M?0(#0, @0), wanted M?0",
     ),
-    (Shape::Symbol, "TypeDiffers: found A, wanted A"),
+    (Shape::Symbol, "TypeDiffers: found , wanted M?0"),
     (
         Shape::SymbolAtArguments,
-        "TypeDiffers: found A(x#0, @0), wanted A",
+        "TypeDiffers: found (#0, @0), wanted M?0",
     ),
     (
         Shape::Binders,
-        "TypeDiffers: found A({@1} {@2} @1), wanted A",
+        "TypeDiffers: found ({@1} {@2} @1), wanted M?0",
     ),
     (
         Shape::InnerBinders,
-        "TypeDiffers: found A({@1} A({@2} @0)), wanted A",
+        "TypeDiffers: found ({@1} ({@2} @0)), wanted M?0",
     ),
     (
         Shape::Dummy,
-        "TypeDiffers: found A({@1} {@2} *, *), wanted A",
+        "TypeDiffers: found ({@1} {@2} *, *), wanted M?0",
     ),
     (
         Shape::Variables,
-        "TypeDiffers: found A(#1, x#0, #1), wanted A",
+        "TypeDiffers: found (#1, #0, #1), wanted M?0",
     ),
-    (Shape::NotDeclared, "TypeDiffers: found (?4), wanted A"),
+    (Shape::NotDeclared, "TypeDiffers: found (?4), wanted M?0"),
 ];
 
 // An argument with a body.
@@ -122,8 +122,8 @@ fn bound_below(k: &mut Kernel, x: E, shape: Shape) -> Result<E, SynFault>
 
 // The text of a refusal that finds the form where a type is wanted, below one domain.
 fn told(alloc: Global, shape: Shape) -> Result<Text, SynFault> {
-    let mut k = Theory::new(alloc)?.kernel;
-    let wanted = k.symbol(0, &[])?;
+    let mut k = declared(alloc)?;
+    let wanted = k.meta(0, &[])?;
     let found = formed(&mut k, shape)?;
     let differ = Differ {
         found,

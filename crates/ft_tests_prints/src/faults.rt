@@ -1,9 +1,8 @@
 //! Refusals, and why a run ends.
 
-use crate::theory::{Theory, name};
-use crate::told::is;
+use crate::told::{declared, is, name};
 use ft_assume::Atom;
-use ft_base::Text;
+use ft_base::{Memory, Text};
 use ft_judge::{Differ, Refusal};
 use ft_print::{
     bad_left_text, duplicate_rule_text, equation_premise_text, no_match_text, not_equation_text,
@@ -20,9 +19,9 @@ const REFUSALS: [(Refusal, &str); 7] = [
     (Refusal::NotAbstracted, "refused NotAbstracted"),
     (
         Refusal::DependentVariable(7),
-        "refused DependentVariable: x#0",
+        "refused DependentVariable: #0",
     ),
-    (Refusal::OpenBoundary(7), "refused OpenBoundary: x#0"),
+    (Refusal::OpenBoundary(7), "refused OpenBoundary: #0"),
     (
         Refusal::ArgumentCount(0, 1),
         "refused ArgumentCount: 0 given, 1 wanted",
@@ -31,12 +30,12 @@ const REFUSALS: [(Refusal, &str); 7] = [
     (Refusal::NotApplication, "refused NotApplication"),
 ];
 
-// The text of a refusal over the small theory.
-fn told(alloc: Global, r: Refusal) -> Result<Text, SynFault> {
-    let theory = Theory::new(alloc)?;
+// The text of a refusal that names no expression.
+fn told(alloc: Global, r: Refusal) -> Result<Text, Memory> {
+    let k = declared(alloc)?;
     match r {
         Refusal::TypeDiffers(_) | Refusal::SidesDiffer(_) => Ok(Text::new(alloc)),
-        _ => Ok(refused_text(alloc, &theory.kernel, &r)?),
+        _ => Ok(refused_text(alloc, &k, &r)?),
     }
 }
 
@@ -49,11 +48,11 @@ fn a_refusal_has_its_text(rt: HostRuntime) -> Result<(), Fail> {
     Ok(())
 }
 
-// The text of sides that differ: a variable, where a type is wanted.
+// The text of sides that differ: a variable, where `M` is wanted.
 fn told_sides(alloc: Global) -> Result<Text, SynFault> {
-    let mut k = Theory::new(alloc)?.kernel;
+    let mut k = declared(alloc)?;
     let found = k.free(7)?;
-    let wanted = k.symbol(0, &[])?;
+    let wanted = k.meta(0, &[])?;
     let differ = Differ {
         found,
         wanted,
@@ -65,7 +64,7 @@ fn told_sides(alloc: Global) -> Result<Text, SynFault> {
 #[test]
 fn sides_that_differ_have_their_text(rt: HostRuntime) -> Result<(), Fail> {
     let found = told_sides(rt.alloc())?;
-    assert!(rt; found.bytes() == b"SidesDiffer: found x#0, wanted A".as_slice());
+    assert!(rt; found.bytes() == b"SidesDiffer: found #0, wanted M?0".as_slice());
     Ok(())
 }
 
@@ -82,14 +81,13 @@ fn a_run_that_ends_tells_why(rt: HostRuntime) -> Result<(), Fail> {
 fn a_rule_that_is_not_declared_tells_why(rt: HostRuntime) -> Result<(), Fail> {
     let alloc = rt.alloc();
     let nat = name(alloc, "Nat")?;
-    let theory = Theory::new(alloc)?;
-    let k = &theory.kernel;
+    let k = &declared(alloc)?;
     assert!(rt; is(duplicate_rule_text(alloc, &nat), "rule Nat declared twice"));
     assert!(rt; is(too_many_rules_text(alloc), "too many rules"));
     assert!(rt;
         is(
             open_premise_text(alloc, k, 1, Atom::Var(7)),
-            "premise 1 keeps x#0"
+            "premise 1 keeps #0"
         )
     );
     assert!(rt;
@@ -101,7 +99,7 @@ fn a_rule_that_is_not_declared_tells_why(rt: HostRuntime) -> Result<(), Fail> {
     assert!(rt;
         is(
             open_conclusion_text(alloc, k, Atom::Var(7)),
-            "conclusion keeps x#0"
+            "conclusion keeps #0"
         )
     );
     assert!(rt;

@@ -1,9 +1,7 @@
-//! Tests of what a run tells: sequents, refusals, faults, places and lines.
+//! Tests of what a run tells: expressions, refusals, faults, places and lines.
 
 #![tactic(auto)]
 
-#[cfg(test)]
-mod asked;
 #[cfg(test)]
 mod expressions;
 #[cfg(test)]
@@ -12,9 +10,5 @@ mod faults;
 mod lines;
 #[cfg(test)]
 mod places;
-#[cfg(test)]
-mod sequents;
-#[cfg(test)]
-mod theory;
 #[cfg(test)]
 mod told;

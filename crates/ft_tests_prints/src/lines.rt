@@ -1,7 +1,6 @@
 //! The lines of a run.
 
-use crate::theory::name;
-use crate::told::is;
+use crate::told::{is, name};
 use ft_base::Memory;
 use ft_print::{
     accepted_line, error_line, no_text_line, none_line, not_yet_line, spent_line, too_long_line,

@@ -73,6 +73,11 @@ first_there : (ds : List ℕ) (d : ℕ) → length ds ≢ 0 → d ≡ get_or ds 
 first_there [] d n e = absurd (n refl)
 first_there (x ∷ es) d n e = (es, ap (λ x. x ∷ es) (sym e))
 
+-- the first of the domains is in the table
+pub first_below : (n : ℕ) (ds : List ℕ) (d : ℕ) → AllBelow n ds → length ds ≢ 0 → d ≡ get_or ds 0 d → d < n
+first_below n [] d h k e = absurd (k refl)
+first_below n (x ∷ ds) d h k e = subst (λ x. x < n) (sym e) h.0
+
 pub no_domain : (ts : List Expression) (ds : List ℕ) (y : Thesis) → length ds ≡ 0 → FindsTerm ts ds y (Err judge.NotAbstracted)
 no_domain ts [] y e c = (refl, tt)
 no_domain ts (d ∷ ds) y e c = absurd (omega (arith, e))

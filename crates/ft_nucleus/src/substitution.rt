@@ -1,6 +1,6 @@
 //! Terms for the variable of a first domain.
 
-ghost use Rattle.std.specs.Prelude.{◌≡◌, ◌<◌, length, IfOk, IfErr};
+ghost use Rattle.std.specs.Prelude.{◌≡◌, ◌<◌, ℕ, length, IfOk, IfErr};
 ghost use Rattle.ft_items.specs.Item.{by_subst};
 ghost use Rattle.ft_syntax.specs.Table.{AllBelow};
 ghost use Rattle.ft_judge.specs.Meaning.{ThesisBelow};
@@ -59,6 +59,7 @@ pub fn substitute_boundary(k: &mut Kernel, b: B, t: J) -> Result<B, Fault>
 }
 
 // The term of a plain thesis that is of the type of the first domain.
+#[tactic(auto, using(crate::proofs::Substituting::no_term, crate::proofs::Substituting::other_type, crate::proofs::Substituting::first_below))]
 fn term_for(t: &Terms, domains: &[E], y: &Thesis) -> Result<E, Refusal>
     requires domains { AllBelow (length t.now) domains.now }
     requires term { ThesisBelow (length t.now) y.now }
@@ -75,13 +76,18 @@ fn term_for(t: &Terms, domains: &[E], y: &Thesis) -> Result<E, Refusal>
 }
 
 // A term with its type. Theses under domains, and those of other forms, are refused.
+#[tactic(auto, using(crate::proofs::Substituting::states_term, crate::proofs::Substituting::no_term_around))]
 fn plain_term(y: &Thesis) -> Result<(E, E), Refusal>
     ensures term { IfOk result (λ p. StatesTerm y.now p.0 p.1) }
+    ensures below { (n : ℕ) → ThesisBelow n y.now → IfOk result (λ p. (p.0 < n) × (p.1 < n)) }
     ensures other { IfErr result (λ q. StatesNoTerm y.now) }
     ensures refused { IfErr result (λ q. q ≡ WrongForm) }
 {
+    if !y.domains.items().is_empty() {
+        return Err(Refusal::WrongForm);
+    }
     match y.form {
-        Form::Tm(term, ty) if y.domains.items().is_empty() => Ok((term, ty)),
+        Form::Tm(term, ty) => Ok((term, ty)),
         _ => Err(Refusal::WrongForm),
     }
 }

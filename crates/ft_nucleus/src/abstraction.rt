@@ -30,10 +30,10 @@ pub fn abstract_var(k: &mut Kernel, v: V, j: J) -> Result<J, Fault>
     ensures answers { Answers k.old (by_abs v j) result k.new }
     ensures thesis { IfOk result (λ j. IsThesisOf k.new j) }
 {
+    let entry = type_entry(k, v);
     if let Some(w) = first_dependent(k, v, k.asm_of(j).atoms()) {
         return Err(Fault::Refused(Refusal::DependentVariable(w)));
     }
-    let entry = type_entry(k, v);
     let ty = type_at(k, entry);
     let set = bound_set(k.asm_of(entry), v, k.asm_of(j))?;
     let thesis = k.thesis_of(j).copy()?;
@@ -48,10 +48,10 @@ pub fn abstract_boundary(k: &mut Kernel, v: V, b: B) -> Result<B, Fault>
     ensures answers { Answers k.old (by_abs v b) result k.new }
     ensures boundary { IfOk result (λ b. IsBoundaryOf k.new b) }
 {
+    let entry = type_entry(k, v);
     if let Some(w) = first_dependent(k, v, k.set_of(b).atoms()) {
         return Err(Fault::Refused(Refusal::DependentVariable(w)));
     }
-    let entry = type_entry(k, v);
     let ty = type_at(k, entry);
     let set = bound_set(k.asm_of(entry), v, k.set_of(b))?;
     let boundary = k.boundary_at(b).copy()?;
@@ -109,6 +109,7 @@ fn closed_thesis(k: &mut Kernel, x: &Thesis, v: u64, ty: E) -> Result<Thesis, Me
         abstracted (tree k.old.trees ty) (close_statement v (thesis_in k.old.trees x.now))) }
     ensures stays { Stays k.old k.new }
 {
+    let _domains = x.domains.items();
     k.terms().are_small();
     match k.close_over(x, v, ty) {
         Ok(closed) => Ok(closed),
@@ -126,6 +127,7 @@ fn closed_boundary(k: &mut Kernel, x: &Boundary, v: u64, ty: E) -> Result<Bounda
         abstracted (tree k.old.trees ty) (close_statement v (boundary_in k.old.trees x.now))) }
     ensures stays { Stays k.old k.new }
 {
+    let _domains = x.domains.items();
     k.terms().are_small();
     match k.close_over_boundary(x, v, ty) {
         Ok(closed) => Ok(closed),

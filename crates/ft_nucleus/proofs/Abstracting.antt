@@ -119,3 +119,12 @@ count_under ts (d ∷ ds) c = ap suc (count_under ts ds c)
 -- a statement under fewer domains than a machine can hold
 pub closed_small : (ts : List Expression) (ds : List ℕ) (c : Claim) (v : ℕ) → length ds < 2 ^ 63 → AllSmall (expressions (under ts ds (plain c))) → AllOfStatement (λ l. IsSmall) zero (close_statement v (under ts ds (plain c)))
 closed_small ts ds c v room h = closed_at (under ts ds (plain c)) zero v (omega (arith, room, count_under ts ds c)) h
+
+-- the variable that was found by its number, or none
+pub numbered_there : {A : Type 0} (o : Option A) (w u : ℕ) → option_map (λ x. w) o ≡ Some u → (w ≡ u) × (x : A) × (o ≡ Some x)
+numbered_there None w u h = let clash : None ≡ Some u = h in cc
+numbered_there (Some x) w u h = (same_Some w u h, x, refl)
+
+pub numbered_none : {A : Type 0} (o : Option A) (w : ℕ) → option_map (λ x. w) o ≡ None → o ≡ None
+numbered_none None w h = refl
+numbered_none (Some x) w h = let clash : Some w ≡ None = h in cc

@@ -5,3 +5,5 @@ pub mod Asking
 pub mod Parted
 pub mod Seeking
 pub mod Abstracting
+pub mod Substituting
+pub mod Equating

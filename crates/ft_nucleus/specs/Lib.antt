@@ -1,3 +1,5 @@
 pub mod Forms
 pub mod Sides
 pub mod Named
+pub mod Substituting
+pub mod Generic

@@ -1,0 +1,112 @@
+//! Equal terms for the variable of a first domain.
+
+ghost use Rattle.std.specs.Prelude.{◌≡◌, ◌<◌, ℕ, true, length, IfOk, IfErr};
+ghost use Rattle.ft_theory.specs.Small.{IsSmall};
+ghost use Rattle.ft_items.specs.Item.{by_substeq};
+ghost use Rattle.ft_syntax.specs.Table.{tree, Extends};
+ghost use Rattle.ft_syntax.specs.declared.syntax.SynFault.TheVariants.{TooBig};
+ghost use Rattle.ft_judge.specs.Meaning.{thesis_in, FormBelow, ThesisBelow};
+ghost use Rattle.ft_judge.specs.declared.fault.Refusal.TheVariants.{WrongForm};
+ghost use Rattle.ft_kernel.specs.State.{IsThesisOf};
+ghost use Rattle.ft_calls.specs.Answers.{Answers};
+ghost use Rattle.ft_nucleus.specs.Forms.{HasHead};
+ghost use Rattle.ft_nucleus.specs.Substituting.{StatesEquation, StatesNoEquation, FindsEquation, IsEqualTo, opened_head as head_with};
+
+use ft_calls::{conclude, same_type};
+use ft_judge::{Fault, Form, Refusal, Thesis, head_of_form};
+use ft_kernel::{J, Kernel, Step};
+use ft_syntax::{E, SynFault, Terms};
+
+/// The type or term with the left side for the variable of its first domain equals it with the right side.
+pub fn substitute_equal(k: &mut Kernel, j: J, e: J) -> Result<J, Fault>
+    requires thesis { IsThesisOf k.old j }
+    requires equation { IsThesisOf k.old e }
+    ensures answers { Answers k.old (by_substeq j e) result k.new }
+    ensures thesis { IfOk result (λ j. IsThesisOf k.new j) }
+{
+    let x = k.thesis_of(j);
+    let (left, right) = match sides_for(k.terms(), x, k.thesis_of(e)) {
+        Ok(sides) => sides,
+        Err(refusal) => return Err(Fault::Refused(refusal)),
+    };
+    let x = x.copy()?;
+    let set = k.asm_of(j).union(k.asm_of(e))?;
+    let opened = match k.open_first(&x, left) {
+        Ok(opened) => opened,
+        Err(fault) => return Err(Fault::from(fault)),
+    };
+    let head = match opened_head(k, &x, right) {
+        Ok(head) => head,
+        Err(fault) => return Err(Fault::from(fault)),
+    };
+    let form = equal_to(&opened.form, head);
+    k.terms().are_small();
+    let domains = opened.domains;
+    conclude(k, Thesis { domains, form }, set, Step::Substeq(j, e))
+}
+
+// The head of the type or term, with the term for the variable of the first domain.
+fn opened_head(k: &mut Kernel, x: &Thesis, by: E) -> Result<E, SynFault>
+    requires thesis { ThesisBelow (length k.old.trees) x.now }
+    requires by { by < length k.old.trees }
+    requires domain { 0 < length x.now.domains }
+    requires head { HasHead x.now.form true }
+    ensures within { IfOk result (λ r. r < length k.new.trees) }
+    ensures tree { IfOk result (λ r. tree k.new.trees r ≡
+        head_with (thesis_in k.old.trees x.now) (tree k.old.trees by)) }
+    ensures goes_on { Extends k.old.trees k.new.trees }
+    ensures too_big { IfErr result (λ f. f ≡ TooBig →
+        IsSmall (head_with (thesis_in k.old.trees x.now) (tree k.old.trees by)) → ⊥) }
+    ensures items { k.new.items ≡ k.old.items }
+{
+    let under = x.domains.items().len() as u64 - 1;
+    match head_of_form(&x.form) {
+        Some(head) => k.open_bound(head, under, by),
+        None => unreachable!(),
+    }
+}
+
+// The type or term equal to the other.
+fn equal_to(form: &Form, other: E) -> Form
+    requires { HasHead form.now true }
+    ensures equation { IsEqualTo form.now other result }
+    ensures below { (n : ℕ) → FormBelow n form.now → other < n → FormBelow n result }
+{
+    match *form {
+        Form::Ty(a) => Form::EqTy(a, other),
+        Form::Tm(t, a) => Form::EqTm(t, other, a),
+        _ => unreachable!(),
+    }
+}
+
+// The sides of a plain equation of terms at the type of the first domain, where the thesis has a head.
+fn sides_for(t: &Terms, x: &Thesis, y: &Thesis) -> Result<(E, E), Refusal>
+    requires thesis { ThesisBelow (length t.now) x.now }
+    requires equation { ThesisBelow (length t.now) y.now }
+    ensures finds { FindsEquation t.now x.now y.now result }
+    ensures below { IfOk result (λ p. (p.0 < length t.now) × (p.1 < length t.now)) }
+    ensures domain { IfOk result (λ _. 0 < length x.now.domains) }
+{
+    let domains = x.domains.items();
+    if domains.is_empty() {
+        return Err(Refusal::NotAbstracted);
+    }
+    let (left, right, ty) = plain_equation(y)?;
+    if head_of_form(&x.form).is_none() {
+        return Err(Refusal::WrongForm);
+    }
+    same_type(t, ty, domains[0])?;
+    Ok((left, right))
+}
+
+// Two equal terms, with their type. Theses under domains, and those of other forms, are refused.
+fn plain_equation(y: &Thesis) -> Result<(E, E, E), Refusal>
+    ensures equation { IfOk result (λ p. StatesEquation y.now p.0 p.1 p.2) }
+    ensures other { IfErr result (λ q. StatesNoEquation y.now) }
+    ensures refused { IfErr result (λ q. q ≡ WrongForm) }
+{
+    match y.form {
+        Form::EqTm(left, right, ty) if y.domains.items().is_empty() => Ok((left, right, ty)),
+        _ => Err(Refusal::WrongForm),
+    }
+}

@@ -6,4 +6,3 @@ pub mod Parted
 pub mod Seeking
 pub mod Abstracting
 pub mod Substituting
-pub mod Equating

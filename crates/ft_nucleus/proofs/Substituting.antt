@@ -1,24 +1,21 @@
 -- A term put for the variable of a first domain.
-use Rattle.std.proofs.Common.{◌≡◌, ◌≢◌, ◌∙◌, ℕ, zero, suc, ◌<◌, Bool, true, false, cond, Option, Some, None, List, [], ◌∷◌, length, get_or, refl, sym, ap, ap₂, subst, arith}
-use Rattle.std.specs.Prelude.{Result, Ok, Err, option_map}
+use Rattle.std.proofs.Common.{◌≡◌, ◌≢◌, ◌∙◌, ℕ, zero, ◌<◌, true, false, Some, None, List, [], ◌∷◌, length, get_or, refl, sym, ap, ap₂, subst, arith}
+use Rattle.std.specs.Prelude.{Result, Ok, Err}
 use Rattle.ft_common.proofs.Booleans.{true_false}
-use Rattle.ft_common.proofs.Choices.{if_true, if_false}
+use Rattle.ft_common.proofs.Choices.{if_false}
 use Rattle.ft_theory.specs.Expressions.{Expression}
-use Rattle.ft_theory.specs.Statements.{Claim, is_type, has_type, equal_types, equal_terms, type_goal, term_goal, type_equation_goal, term_equation_goal, Statement, plain, abstracted, opened, AllOfStatement}
+use Rattle.ft_theory.specs.Statements.{is_type, has_type, equal_types, equal_terms, type_goal, term_goal, type_equation_goal, term_equation_goal, Statement, plain, abstracted, opened}
 use Rattle.ft_items.specs.Sets.{Atom, union}
-use Rattle.ft_items.specs.Equal.{equal_expressions, is_thesis}
+use Rattle.ft_items.specs.Equal.{is_thesis}
 use Rattle.ft_items.specs.Item.{by_subst}
 use Rattle.ft_items.specs.Store.{Assertion, resolve}
-use Rattle.ft_items.specs.Rows.{when, substitution}
-use Rattle.ft_sound.proofs.EqualLemmas.{equal_back}
 use Rattle.ft_reference.specs.Refusals as reference
-use Rattle.ft_reference.specs.Refusals.{AllSmall, expressions, first_refusal, forms_statement}
+use Rattle.ft_reference.specs.Refusals.{AllSmall, expressions, first_refusal}
 use Rattle.ft_reference.specs.Checks.{substitution_checks}
-use Rattle.ft_syntax.specs.Table.{tree, Extends, AllBelow}
-use Rattle.ft_judge.specs.Meaning.{claim_in, under, thesis_in, ThesisBelow}
+use Rattle.ft_syntax.specs.Table.{tree, AllBelow}
+use Rattle.ft_judge.specs.Meaning.{claim_in, under, thesis_in}
 use Rattle.ft_judge.specs.Moving.{IsSmallStatement}
-use Rattle.ft_judge.specs.declared.judgement.Form.{Form}
-use Rattle.ft_judge.specs.declared.judgement.Form.TheVariants.{Ty, Tm, EqTy, EqTm}
+use Rattle.ft_judge.specs.declared.judgement.Form.TheVariants.{Tm}
 use Rattle.ft_judge.specs.declared.judgement.Thesis.{Thesis}
 use Rattle.ft_judge.specs.declared.fault.Refusal.{Refusal}
 use Rattle.ft_judge.specs.declared.fault.Refusal.TheVariants as judge
@@ -52,20 +49,6 @@ around ts (d ∷ ds) x n = refl
 pub no_term_around : (y : Thesis) → length y.domains ≢ 0 → StatesNoTerm y
 no_term_around y n ts = around ts y.domains (plain (claim_in ts y.form)) n
 
--- another form
-abbrev pub IsOther : Form → Type 0
-IsOther f = (t A : ℕ) → f ≡ Tm t A → ⊥
-
-other_form : (ts : List Expression) (ds : List ℕ) (f : Form) → IsOther f → is_plain_term (under ts ds (plain (claim_in ts f))) ≡ false
-other_form ts (d ∷ ds) f n = refl
-other_form ts [] (Ty A) n = refl
-other_form ts [] (Tm t A) n = absurd (n t A refl)
-other_form ts [] (EqTy A B) n = refl
-other_form ts [] (EqTm s t A) n = refl
-
-pub no_term_other : (y : Thesis) → IsOther y.form → StatesNoTerm y
-no_term_other y n ts = other_form ts y.domains y.form n
-
 -- Under the domains.
 
 -- a list with a first member
@@ -77,10 +60,6 @@ first_there (x ∷ es) d n e = (es, ap (λ x. x ∷ es) (sym e))
 pub first_below : (n : ℕ) (ds : List ℕ) (d : ℕ) → AllBelow n ds → length ds ≢ 0 → d ≡ get_or ds 0 d → d < n
 first_below n [] d h k e = absurd (k refl)
 first_below n (x ∷ ds) d h k e = subst (λ x. x < n) (sym e) h.0
-
-pub no_domain : (ts : List Expression) (ds : List ℕ) (y : Thesis) → length ds ≡ 0 → FindsTerm ts ds y (Err judge.NotAbstracted)
-no_domain ts [] y e c = (refl, tt)
-no_domain ts (d ∷ ds) y e c = absurd (omega (arith, e))
 
 wrong_term : (A : Expression) (x y : Statement) → is_plain_term y ≡ false → first_refusal (substitution_checks (abstracted A x) y) ≡ Some reference.WrongForm
 wrong_term A x (abstracted B y) h = refl
@@ -102,23 +81,11 @@ pub other_type : (ts : List Expression) (ds : List ℕ) (y : Thesis) (t A d : �
     → equal_in ts A d ≡ false → q ≡ judge.TypeDiffers (differ_at zero A d) → FindsTerm ts ds y (Err q)
 other_type ts ds y t A d q n at h b f same c =
     let L : (es : List ℕ) × (ds ≡ d ∷ es) = first_there ds d n at in
-    subst (λ q. Refuses ts (substitution_checks (under ts ds (plain c)) (thesis_in ts y)) q) (sym same)
-    (ap₂ (λ ds z. first_refusal (substitution_checks (under ts ds (plain c)) z)) L.1 (h ts)
-    ∙ if_false _ (Some (reference.TypeDiffers (record { found = tree ts A; wanted = tree ts d; under = zero }))) (equal_in ts A d) f, b)
-
-pub term_found : (ts : List Expression) (ds : List ℕ) (y : Thesis) (t A d : ℕ) → length ds ≢ 0 → d ≡ get_or ds 0 d → StatesTerm y t A → equal_in ts A d ≡ true → FindsTerm ts ds y (Ok t)
-term_found ts ds y t A d n at h k c =
-    let L : (es : List ℕ) × (ds ≡ d ∷ es) = first_there ds d n at in
-    subst (λ X. PutsTerm X (thesis_in ts y) (tree ts t)) (sym (ap (λ ds. under ts ds (plain c)) L.1))
-    (subst (λ Y. PutsTerm (under ts (d ∷ L.0) (plain c)) Y (tree ts t)) (sym (h ts)) (here (tree ts d) (under ts L.0 (plain c)) (tree ts t) (tree ts A) k))
-  where
-    here : (D : Expression) (x : Statement) (T B : Expression) → equal_expressions B D ≡ true → PutsTerm (abstracted D x) (plain (has_type T B)) T
-    here D x T B k =
-        let row : substitution (abstracted D x) (plain (has_type T B)) ≡ Some (opened T (abstracted D x)) = ap (λ b. when b (opened T (abstracted D x))) (equal_back D B ∙ k) in (
-          row,
-          ap (λ b. cond b (first_refusal (reference.forms_result (substitution (abstracted D x) (plain (has_type T B))))) (Some (reference.TypeDiffers (record { found = B; wanted = D; under = zero })))) k
-              ∙ ap (λ o. first_refusal (reference.forms_result o)) row,
-        )
+    subst (λ q. Refuses ts (substitution_checks (under ts ds (plain c)) (thesis_in ts y)) q) (sym same) (
+      ap₂ (λ ds z. first_refusal (substitution_checks (under ts ds (plain c)) z)) L.1 (h ts)
+          ∙ if_false _ (Some (reference.TypeDiffers (record { found = tree ts A; wanted = tree ts d; under = zero }))) (equal_in ts A d) f,
+      b,
+    )
 
 -- The call.
 

@@ -2,4 +2,3 @@ pub mod Forms
 pub mod Sides
 pub mod Named
 pub mod Substituting
-pub mod Generic

@@ -5,7 +5,7 @@ ghost use Rattle.ft_theory.specs.Rules.{look_up};
 ghost use Rattle.ft_theory.specs.Statements.{abstracted, close_statement};
 ghost use Rattle.ft_items.specs.Item.{by_abs};
 ghost use Rattle.ft_items.specs.Sets.{var, union, without};
-ghost use Rattle.ft_items.specs.Store.{store_of};
+ghost use Rattle.ft_items.specs.Store.{declared_by};
 ghost use Rattle.ft_items.specs.Rows.{rests_on as annotation_rests_on};
 ghost use Rattle.ft_reference.specs.Checks.{first_dependent as least_dependent};
 ghost use Rattle.ft_syntax.specs.Table.{tree};
@@ -61,7 +61,7 @@ pub fn abstract_boundary(k: &mut Kernel, v: V, b: B) -> Result<B, Fault>
 
 // The first of the atoms, other than the variable, whose type rests on the variable.
 fn first_dependent(k: &Kernel, v: V, atoms: &[Atom]) -> Option<u64>
-    ensures { result ≡ least_dependent (store_of k.now.items).variables v (atoms_of atoms.now) }
+    ensures { result ≡ least_dependent (declared_by k.now.items).variables v (atoms_of atoms.now) }
 {
     for i in 0..atoms.len() {
         if let Some(w) = dependent(k, v, atoms[i]) {
@@ -73,7 +73,7 @@ fn first_dependent(k: &Kernel, v: V, atoms: &[Atom]) -> Option<u64>
 
 // The number of the atom, where it is another variable whose type rests on the variable.
 fn dependent(k: &Kernel, v: V, atom: Atom) -> Option<u64>
-    ensures { result ≡ dependent_atom (store_of k.now.items).variables v (atom_of atom) }
+    ensures { result ≡ dependent_atom (declared_by k.now.items).variables v (atom_of atom) }
 {
     match atom {
         Atom::Met(_) => None,
@@ -83,11 +83,13 @@ fn dependent(k: &Kernel, v: V, atom: Atom) -> Option<u64>
 
 // Whether the type of the variable with the number w rests on the variable v.
 fn rests_on(k: &Kernel, v: V, w: u64) -> bool
-    ensures { result ≡ annotation_rests_on v (look_up (store_of k.now.items).variables w) }
+    ensures { result ≡ annotation_rests_on v (look_up (declared_by k.now.items).variables w) }
 {
     let _terms = k.terms();
     match k.var_numbered(w) {
-        Some(other) => k.asm_of(type_entry(k, other)).contains(Atom::Var(v.number())),
+        Some(other) => k
+            .asm_of(type_entry(k, other))
+            .contains(Atom::Var(v.number())),
         None => false,
     }
 }

@@ -3,7 +3,7 @@ use Rattle.std.proofs.lemmas.Option.{same_Some}
 use Rattle.ft_theory.specs.Statements.{abstracted, close_statement}
 use Rattle.ft_items.specs.Item.{by_abs}
 use Rattle.ft_items.specs.Sets.{var, union, without}
-use Rattle.ft_items.specs.Store.{store_of}
+use Rattle.ft_items.specs.Store.{declared_by}
 use Rattle.ft_reference.specs.Checks.{first_dependent}
 use Rattle.ft_syntax.specs.Table.{tree}
 use Rattle.ft_judge.specs.Meaning.{thesis_in}
@@ -16,7 +16,7 @@ returns-in-Some-clause-answers c =
     let s = c.args.k.now in
     let v = c.args.v in
     abstracts_not s v c.args.j c.type_entry-entry.result c.in-Some.w c.asm_of.result.now c.type_entry-entry.ensures.declared (c.requires.thesis.0, c.requires.thesis.1) c.asm_of.ensures
-    (sym c.in-Some.is ∙ c.first_dependent.ensures ∙ ap (first_dependent (store_of s.items).variables v) c.atoms.ensures.atoms)
+    (sym c.in-Some.is ∙ c.first_dependent.ensures ∙ ap (first_dependent (declared_by s.items).variables v) c.atoms.ensures.atoms)
 
 pub conclude-requires-clause-answer : goal.conclude-requires-clause-answer
 conclude-requires-clause-answer c =
@@ -30,7 +30,7 @@ conclude-requires-clause-answer c =
     answer_before s t (by_abs v c.args.j) _ c.closed_thesis.ensures.stays.0
     (abstracts s v c.args.j c.type_entry-entry.result A (thesis_in s.trees c.thesis_of.result.now) (thesis_in t.trees c.in_ok-closed.closed) R S c.in_ok-set.set
     c.type_entry-entry.ensures.declared c.type_at-ty.ensures.statement c.asm_of-2.ensures c.thesis_of.ensures.thesis c.asm_of.ensures
-    (ap (first_dependent (store_of s.items).variables v) (sym c.atoms.ensures.atoms) ∙ sym c.first_dependent.ensures ∙ c.in_default.is)
+    (ap (first_dependent (declared_by s.items).variables v) (sym c.atoms.ensures.atoms) ∙ sym c.first_dependent.ensures ∙ c.in_default.is)
     (c.in_ok-closed.ensures.thesis ∙ ap₂ (λ n x. abstracted A (close_statement n (thesis_in s.trees x))) c.number.ensures c.in_ok-thesis.ensures)
     (c.in_ok-set.ensures ∙ ap (λ S. union R (without (var v) S)) same))
 

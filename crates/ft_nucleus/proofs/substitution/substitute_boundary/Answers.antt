@@ -1,4 +1,4 @@
-use Rattle.std.proofs.Common.{◌∙◌, ap, subst, sym, refl, length}
+use Rattle.std.proofs.Common.{◌∙◌, ap, subst, sym, refl}
 use Rattle.std.specs.Prelude.{Ok, Err}
 use Rattle.ft_theory.specs.Statements.{opened}
 use Rattle.ft_items.specs.Item.{by_subst}

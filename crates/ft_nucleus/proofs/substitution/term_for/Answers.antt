@@ -16,9 +16,9 @@ returns-in_err-same_type-clause-finds c =
     let n = length c.args.t.now in
     let some : length c.args.domains.now ≢ 0 = search rules in
     let e : FindsTerm c.args.t.now c.args.domains.now c.args.y.now (Err c.in_err-same_type.field-0.0) =
-        other_type c.args.t.now c.args.domains.now c.args.y.now c.in_ok-term.term c.in_ok-term.ty c.index-domains-0.result c.in_err-same_type.field-0.0 some c.index-domains-0.is c.in_ok-term.ensures.term
-        ((c.in_ok-term.ensures.below n c.requires.term).1, first_below n c.args.domains.now c.index-domains-0.result c.requires.domains some c.index-domains-0.is)
-        c.in_err-same_type.ensures.other c.in_err-same_type.ensures.refused in
+    other_type c.args.t.now c.args.domains.now c.args.y.now c.in_ok-term.term c.in_ok-term.ty c.index-domains-0.result c.in_err-same_type.field-0.0 some c.index-domains-0.is c.in_ok-term.ensures.term
+    ((c.in_ok-term.ensures.below n c.requires.term).1, first_below n c.args.domains.now c.index-domains-0.result c.requires.domains some c.index-domains-0.is)
+    c.in_err-same_type.ensures.other c.in_err-same_type.ensures.refused in
     let p = err_from_is_err_and c.from_residual-in_err-same_type.result c.from_residual-in_err-same_type.ensures.1 in
     rw (p.1, p.2) e
 

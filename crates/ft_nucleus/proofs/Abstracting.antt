@@ -1,30 +1,26 @@
 -- Variables as terms, and abstraction of a variable.
-use Rattle.std.proofs.Common.{◌≡◌, ◌∙◌, ℕ, zero, suc, ◌+◌, ◌*◌, ◌^◌, ◌<◌, ◌≤◌, nat_eq, Bool, true, false, cond, not, ◌&&◌, Option, Some, None, List, [], ◌∷◌, length, refl, sym, ap, ap₂, subst, arith}
+use Rattle.std.proofs.Common.{◌≡◌, ◌∙◌, ℕ, zero, suc, ◌+◌, ◌*◌, ◌^◌, ◌<◌, nat_eq, Bool, true, false, cond, not, ◌&&◌, Option, Some, None, List, [], ◌∷◌, length, refl, sym, ap, ap₂, subst, arith}
 use Rattle.std.specs.Prelude.{Ok, Err, option_map}
 use Rattle.ft_theory.specs.Expressions.{Expression, free, close_at}
 use Rattle.ft_theory.specs.Small.{IsSmall}
 use Rattle.ft_theory.specs.Statements.{Claim, is_type, has_type, equal_types, equal_terms, type_goal, term_goal, type_equation_goal, term_equation_goal, Statement, plain, abstracted, map_claim, map_statement, close_statement, domain_count, AllOfClaim, AllOfStatement}
 use Rattle.ft_theory.specs.Rules.{look_up}
 use Rattle.ft_items.specs.Sets.{Atom, met, var, insert, union, without}
-use Rattle.ft_items.specs.Item.{Name, by_var, by_abs}
-use Rattle.ft_items.specs.Store.{Assertion, Annotation, declared_variable, resolve, with_two, entry_named, variable_named, type_in}
+use Rattle.ft_items.specs.Item.{by_var, by_abs}
+use Rattle.ft_items.specs.Store.{Assertion, Annotation, declared_variable, resolve, with_two, variable_named, type_in}
 use Rattle.ft_items.specs.Rows.{when, rests_on, depends}
 use Rattle.ft_nucleus_laws.proofs.Closing.{closing_keeps_small}
 use Rattle.ft_reference.specs.Refusals as reference
 use Rattle.ft_reference.specs.Refusals.{AllSmall, expressions, claim_expressions, first_refusal, none_check}
 use Rattle.ft_reference.specs.Checks.{first_dependent}
-use Rattle.ft_syntax.specs.Table.{tree}
-use Rattle.ft_judge.specs.Meaning.{claim_in, goal_in, under, thesis_in, boundary_in}
-use Rattle.ft_judge.specs.declared.judgement.Thesis.{Thesis}
-use Rattle.ft_judge.specs.declared.judgement.Boundary.{Boundary}
-use Rattle.ft_judge.specs.declared.fault.Refusal.{Refusal}
+use Rattle.ft_judge.specs.Meaning.{under}
 use Rattle.ft_judge.specs.declared.fault.Refusal.TheVariants as judge
 use Rattle.ft_judge.specs.declared.fault.Fault.TheVariants.{Refused}
 use Rattle.ft_kernel.specs.State.{State, entry_at, statement_at, set_at}
 use Rattle.ft_calls.specs.Answers.{IsAnswer, Answers}
 use Rattle.ft_calls.specs.Named.{IsVariableAt}
 use Rattle.ft_calls.proofs.Entries.{entry_is, stated_is}
-use Rattle.ft_calls.proofs.Answering.{store, declarations, rests, entry_in, answered_ok, refused_here, with_statement}
+use Rattle.ft_calls.proofs.Answering.{store, declarations, rests, entry_in, answered_ok, refused_here}
 use Rattle.std.proofs.lemmas.Option.{same_Some}
 
 -- the set of an entry
@@ -119,3 +115,12 @@ count_under ts (d ∷ ds) c = ap suc (count_under ts ds c)
 -- a statement under fewer domains than a machine can hold
 pub closed_small : (ts : List Expression) (ds : List ℕ) (c : Claim) (v : ℕ) → length ds < 2 ^ 63 → AllSmall (expressions (under ts ds (plain c))) → AllOfStatement (λ l. IsSmall) zero (close_statement v (under ts ds (plain c)))
 closed_small ts ds c v room h = closed_at (under ts ds (plain c)) zero v (omega (arith, room, count_under ts ds c)) h
+
+-- the variable that was found by its number, or none
+pub numbered_there : {A : Type 0} (o : Option A) (w u : ℕ) → option_map (λ x. w) o ≡ Some u → (w ≡ u) × (x : A) × (o ≡ Some x)
+numbered_there None w u h = let clash : None ≡ Some u = h in cc
+numbered_there (Some x) w u h = (same_Some w u h, x, refl)
+
+pub numbered_none : {A : Type 0} (o : Option A) (w : ℕ) → option_map (λ x. w) o ≡ None → o ≡ None
+numbered_none None w h = refl
+numbered_none (Some x) w h = let clash : Some w ≡ None = h in cc

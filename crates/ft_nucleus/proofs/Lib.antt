@@ -5,3 +5,4 @@ pub mod Asking
 pub mod Parted
 pub mod Seeking
 pub mod Abstracting
+pub mod Substituting

@@ -1,3 +1,4 @@
 pub mod Forms
 pub mod Sides
 pub mod Named
+pub mod Substituting

@@ -1,0 +1,10 @@
+pub mod Naming
+pub mod Pairing
+pub mod AtInstances
+pub mod Comparing
+pub mod RuleLines
+pub mod Asking
+pub mod Fitted
+pub mod Calls
+pub mod Instancing
+pub mod Concluded

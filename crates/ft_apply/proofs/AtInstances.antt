@@ -76,6 +76,10 @@ pub putting_refused : (s t : State) (ps : List (ℕ × Arg)) (es : List ℕ) (j 
     → (IsSmall (expression_at t.trees ps e) → ⊥) → AllSmall (map (expression_at s.trees ps) es) → ⊥
 putting_refused s t ps es j e list p b h l g n k = n (subst IsSmall (sym (next_at s t ps es j e list p b h l g)) (subst AllSmall (first_at s ps es j e l g) (p.rest k)).0)
 
+pub small_next : (s t : State) (ps : List (ℕ × Arg)) (es : List ℕ) (j e : ℕ) (list : List ℕ) → Putting s t ps es j list → PairsBelow (length s.trees) ps → AllBelow (length s.trees) es → j < length es → e ≡ get_or es j e
+    → AllSmall (map (expression_at s.trees ps) es) → IsSmall (expression_at t.trees ps e)
+small_next s t ps es j e list p b h l g k = subst IsSmall (sym (next_at s t ps es j e list p b h l g)) (subst AllSmall (first_at s ps es j e l g) (p.rest k)).0
+
 pub putting_end : (s t : State) (ps : List (ℕ × Arg)) (es : List ℕ) (j : ℕ) (list : List ℕ) → Putting s t ps es j list → length es ≤ j → map (tree t.trees) list ≡ map (expression_at s.trees ps) es
 putting_end s t ps es j list p l =
     sym (append-nil (map (tree t.trees) list))

@@ -52,20 +52,20 @@ first_is ts (types d ∷ cs) r b (inl f) =
     passes ts d cs r (same_test (tree ts d.found) (tree ts d.wanted) f.0) (first_is ts cs r b.1 f.1)
   where
     passes : (ts : List Expression) (d : Differ) (cs : List Comparison) (r : Result ⊤ Refusal) → equal_expressions (tree ts d.found) (tree ts d.wanted) ≡ true → Tests ts (map (check_of ts) cs) r → Tests ts (map (check_of ts) (types d ∷ cs)) r
-    passes ts d cs (Ok x) e h = ap (λ b. cond b (first_refusal (map (check_of ts) cs)) (Some _)) e ∙ h
-    passes ts d cs (Err q) e h = (ap (λ b. cond b (first_refusal (map (check_of ts) cs)) (Some _)) e ∙ h.0, h.1)
+    passes ts d cs (Ok x) e h = ap (λ b. cond b (first_refusal (map (check_of ts) cs)) (Some (reference.refusal_of (check_of ts (types d))))) e ∙ h
+    passes ts d cs (Err q) e h = (ap (λ b. cond b (first_refusal (map (check_of ts) cs)) (Some (reference.refusal_of (check_of ts (types d))))) e ∙ h.0, h.1)
 first_is ts (sides d ∷ cs) r b (inl f) =
     passes ts d cs r (same_test (tree ts d.found) (tree ts d.wanted) f.0) (first_is ts cs r b.1 f.1)
   where
     passes : (ts : List Expression) (d : Differ) (cs : List Comparison) (r : Result ⊤ Refusal) → equal_expressions (tree ts d.found) (tree ts d.wanted) ≡ true → Tests ts (map (check_of ts) cs) r → Tests ts (map (check_of ts) (sides d ∷ cs)) r
-    passes ts d cs (Ok x) e h = ap (λ b. cond b (first_refusal (map (check_of ts) cs)) (Some _)) e ∙ h
-    passes ts d cs (Err q) e h = (ap (λ b. cond b (first_refusal (map (check_of ts) cs)) (Some _)) e ∙ h.0, h.1)
+    passes ts d cs (Ok x) e h = ap (λ b. cond b (first_refusal (map (check_of ts) cs)) (Some (reference.refusal_of (check_of ts (sides d))))) e ∙ h
+    passes ts d cs (Err q) e h = (ap (λ b. cond b (first_refusal (map (check_of ts) cs)) (Some (reference.refusal_of (check_of ts (sides d))))) e ∙ h.0, h.1)
 first_is ts (types d ∷ cs) r b (inr f) =
     subst (Tests ts (map (check_of ts) (types d ∷ cs))) (sym f.1)
-    (ap (λ b. cond b (first_refusal (map (check_of ts) cs)) (Some _)) (other_test (tree ts d.found) (tree ts d.wanted) f.0), b.0)
+    (ap (λ b. cond b (first_refusal (map (check_of ts) cs)) (Some (reference.refusal_of (check_of ts (types d))))) (other_test (tree ts d.found) (tree ts d.wanted) f.0), b.0)
 first_is ts (sides d ∷ cs) r b (inr f) =
     subst (Tests ts (map (check_of ts) (sides d ∷ cs))) (sym f.1)
-    (ap (λ b. cond b (first_refusal (map (check_of ts) cs)) (Some _)) (other_test (tree ts d.found) (tree ts d.wanted) f.0), b.0)
+    (ap (λ b. cond b (first_refusal (map (check_of ts) cs)) (Some (reference.refusal_of (check_of ts (sides d))))) (other_test (tree ts d.found) (tree ts d.wanted) f.0), b.0)
 
 -- what is compared is what is checked
 forms_alike : (f : Form) (g : Goal) → (IsFormFor f g × ((ts : List Expression) → same_form (boundary_of_claim (claim_in ts f)) (goal_in ts g) ≡ true))

@@ -5,6 +5,7 @@ pub mod Comparing
 pub mod RuleLines
 pub mod Asking
 pub mod Fitted
+pub mod Fits
 pub mod Calls
 pub mod Instancing
 pub mod Concluded

@@ -37,7 +37,8 @@ pub(crate) fn heads(alloc: Global, k: &Kernel, args: &[J]) -> Result<Vec<Arg>, M
 {
     let mut found = Vec::new(alloc);
     for i in 0..args.len() {
-        found.push(head(k, args[i]))?;
+        let argument = head(k, args[i]);
+        found.push(argument)?;
     }
     Ok(found)
 }

@@ -121,7 +121,10 @@ fn put_all(alloc: Global, k: &mut Kernel, es: &[E], i: &Instance) -> Result<Doma
 {
     let mut list = Domains::new(alloc);
     for j in 0..es.len() {
-        let e = put(k, es[j], i)?;
+        let e = match put(k, es[j], i) {
+            Ok(e) => e,
+            Err(fault) => return Err(fault),
+        };
         list.push(e)?;
     }
     Ok(list)

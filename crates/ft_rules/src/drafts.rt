@@ -1,11 +1,12 @@
 //! Rules that are being made.
 
-ghost use Rattle.std.specs.Prelude.{◌≡◌, ℕ, true, Some, IfOk};
+ghost use Rattle.std.specs.Prelude.{◌≡◌, ℕ, true, Some, None, [], map, IfOk};
+ghost use Rattle.ft_items.specs.Sets.{met};
 ghost use Rattle.ft_theory.specs.Derivability.{FinitaryUpTo};
 ghost use Rattle.ft_items.specs.Equal.{is_plain};
 ghost use Rattle.ft_items.specs.Store.{Assertion, store_of};
 ghost use Rattle.ft_kernel.specs.State.{entry_at, IsBoundaryOf};
-ghost use Rattle.ft_reference.specs.Declare.{name_fault};
+ghost use Rattle.ft_reference.specs.Declare.{name_fault, first_outside};
 ghost use Rattle.ft_rules.specs.Drafts.{IsDraftOver};
 ghost use Rattle.ft_rules.specs.Answers.{Begins, Premises, Finishes, IsNameFault};
 
@@ -91,14 +92,21 @@ impl Draft {
         ensures begins { Begins k.now.items name.now result }
         ensures draft { IfOk result (λ d. IsDraftOver k.now.items d) }
     {
-        if let Err(fault) = free_name(k, name) {
-            return Err(fault);
+        match free_name(k, name) {
+            Ok(()) => Ok(Draft::empty(alloc, name.copy()?)),
+            Err(fault) => Err(fault),
         }
-        Ok(Draft {
-            name: name.copy()?,
+    }
+
+    // A draft without premises.
+    fn empty(alloc: Global, name: Name) -> Draft
+        ensures { result ≡ record { name = name; premises = [] } }
+    {
+        Draft {
+            name,
             premises: Vec::new(alloc),
             numbers: Vec::new(alloc),
-        })
+        }
     }
 
     /// The name. It takes no memory.
@@ -123,13 +131,24 @@ impl Draft {
             Premises k.old self.old name.now b a result k.new self.new }
         ensures draft { IsDraftOver k.new.items self.new }
     {
-        let _terms = k.terms();
-        if let Some(atom) = outside(k.set_of(b).atoms(), &self.numbers) {
-            return Err(RuleFault::OpenPremise(
-                self.numbers.len() as u64 + 1,
-                atom,
-            ));
+        let place = self.numbers.len() as u64 + 1;
+        match outside(k.set_of(b).atoms(), &self.numbers) {
+            Some(atom) => Err(RuleFault::OpenPremise(place, atom)),
+            None => self.add(k, name, b),
         }
+    }
+
+    // A further premise of this name, whose boundary rests on the draft's metavariables alone.
+    fn add(&mut self, k: &mut Kernel, name: &Name, b: B) -> Result<M, RuleFault>
+        requires draft { IsDraftOver k.old.items self.old }
+        requires boundary { IsBoundaryOf k.old b }
+        requires own { (a : Assertion) → entry_at k.old b ≡ Some a →
+            first_outside (map met self.old.premises) a.set ≡ None }
+        ensures premise { (a : Assertion) → entry_at k.old b ≡ Some a →
+            Premises k.old self.old name.now b a result k.new self.new }
+        ensures draft { IsDraftOver k.new.items self.new }
+    {
+        let _terms = k.terms();
         let item = MetItem {
             name: name.copy()?,
             boundary: b,
@@ -154,9 +173,24 @@ impl Draft {
         ensures finitary { (n : ℕ) → FinitaryUpTo n (store_of k.new.items).rules }
     {
         let _terms = k.terms();
-        if let Err(fault) = free_name(k, &self.name) {
-            return Err(fault);
+        match free_name(k, &self.name) {
+            Ok(()) => self.declare(alloc, k, conclusion),
+            Err(fault) => Err(fault),
         }
+    }
+
+    // Declares the rule, whose name can be declared.
+    fn declare(&self, alloc: Global, k: &mut Kernel, conclusion: B) -> Result<RuleId, RuleFault>
+        requires draft { IsDraftOver k.old.items self.now }
+        requires boundary { IsBoundaryOf k.old conclusion }
+        requires plain { (a : Assertion) → entry_at k.old conclusion ≡ Some a →
+            is_plain a.statement ≡ true }
+        requires name { name_fault (store_of k.old.items) self.now.name ≡ None }
+        ensures rule { (a : Assertion) → entry_at k.old conclusion ≡ Some a →
+            Finishes k.old self.now conclusion a result k.new }
+        ensures finitary { (n : ℕ) → FinitaryUpTo n (store_of k.new.items).rules }
+    {
+        let _terms = k.terms();
         if let Some(atom) = outside(k.set_of(conclusion).atoms(), &self.numbers) {
             return Err(RuleFault::OpenConclusion(atom));
         }

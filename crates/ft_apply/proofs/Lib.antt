@@ -7,5 +7,6 @@ pub mod Asking
 pub mod Fitted
 pub mod Fits
 pub mod Calls
+pub mod After
 pub mod Instancing
 pub mod Concluded

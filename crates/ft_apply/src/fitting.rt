@@ -17,6 +17,7 @@ ghost use Rattle.ft_apply.specs.Instances.{boundary_at};
 
 use crate::named::{heads, instance};
 use crate::putting::put_boundary;
+use ft_base::Sequence;
 use ft_judge::{Boundary, Fault, Refusal, Thesis, fits};
 use ft_kernel::{J, Kernel, M};
 use ft_syntax::{Arg, Instance, SynFault, Terms};
@@ -25,7 +26,7 @@ use std::alloc::Global;
 /// Arguments that fit their premises: their heads, and the instance that they are.
 #[derive(Debug, Drop)]
 pub(crate) struct Given {
-    pub(crate) heads: Vec<Arg>,
+    pub(crate) heads: Sequence<Arg>,
     pub(crate) instance: Instance,
 }
 
@@ -114,9 +115,9 @@ pub(crate) fn arguments(
     requires premises { AllBelow (length (metavariables_in k.old.items)) premises.now }
     requires arguments { AreThesesOf k.old args.now }
     requires count { length premises.now ≡ length args.now }
-    ensures heads { IfOk result (λ g. arguments_in k.new.trees g.heads.items ≡
+    ensures heads { IfOk result (λ g. arguments_in k.new.trees g.heads ≡
         heads_of (statements_of k.old.items args.now)) }
-    ensures below { IfOk result (λ g. ArgumentsBelow (length k.new.trees) g.heads.items) }
+    ensures below { IfOk result (λ g. ArgumentsBelow (length k.new.trees) g.heads) }
     ensures instance { IfOk result (λ g. instance_in k.new.trees g.instance.pairs ≡
         instance_of (premises_in k.old.items premises.now)
         (heads_of (statements_of k.old.items args.now))) }
@@ -126,7 +127,7 @@ pub(crate) fn arguments(
     ensures stays { Stays k.old k.new }
 {
     let heads = heads(alloc, k, args)?;
-    let instance = instance(alloc, premises, &heads)?;
+    let instance = instance(alloc, premises, heads.items())?;
     match fit_all(alloc, k, premises, args, &instance) {
         Ok(()) => Ok(Given { heads, instance }),
         Err(fault) => Err(fault),

@@ -10,7 +10,7 @@ ghost use Rattle.ft_kernel.specs.State.{IsThesisOf};
 ghost use Rattle.ft_apply.specs.Named.{entry_of, entries_of, statements_of, AreThesesOf, head_argument};
 
 use ft_assume::Assume;
-use ft_base::Memory;
+use ft_base::{Memory, Sequence};
 use ft_judge::head_of;
 use ft_kernel::{J, Kernel, M};
 use ft_syntax::{Arg, Instance, Pairs};
@@ -28,17 +28,16 @@ fn head(k: &Kernel, j: J) -> Arg
 
 /// The heads of theses, as arguments.
 #[tactic(auto, using(crate::proofs::Naming::thesis_named, crate::proofs::Naming::heading_start, crate::proofs::Naming::heading_more, crate::proofs::Naming::heading_end))]
-pub(crate) fn heads(alloc: Global, k: &Kernel, args: &[J]) -> Result<Vec<Arg>, Memory>
+pub(crate) fn heads(alloc: Global, k: &Kernel, args: &[J]) -> Result<Sequence<Arg>, Memory>
     requires { AreThesesOf k.now args.now }
     ensures heads { IfOk result (λ r.
-        arguments_in k.now.trees r.items ≡ heads_of (statements_of k.now.items args.now)) }
-    ensures below { IfOk result (λ r. ArgumentsBelow (length k.now.trees) r.items) }
-    ensures count { IfOk result (λ r. length r.items ≡ length args.now) }
+        arguments_in k.now.trees r ≡ heads_of (statements_of k.now.items args.now)) }
+    ensures below { IfOk result (λ r. ArgumentsBelow (length k.now.trees) r) }
+    ensures count { IfOk result (λ r. length r ≡ length args.now) }
 {
-    let mut found = Vec::new(alloc);
+    let mut found = Sequence::new(alloc);
     for i in 0..args.len() {
-        let argument = head(k, args[i]);
-        found.push(argument)?;
+        found.push(head(k, args[i]))?;
     }
     Ok(found)
 }

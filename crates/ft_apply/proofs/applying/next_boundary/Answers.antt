@@ -18,7 +18,7 @@ pub returns-in-Err-clause-answers : goal.returns-in-Err-clause-answers
 returns-in-Err-clause-answers c =
     let s = c.args.k.now in
     formed_fault s c.next_formed.new.k (by_inst c.args.r c.args.args.now) (by_inst (c.args.r, rule_of s.items c.args.r) (entries_of s.items c.args.args.now)) c.in-Err.fault
-    (inst_resolved s c.args.r c.args.args.now c.terms.ensures.good c.requires.rule c.requires.arguments) c.in-Err.ensures.formed c.in-Err.ensures.stays
+    (inst_resolved s c.args.r c.args.args.now c.terms-terms.ensures.good c.requires.rule c.requires.arguments) c.in-Err.ensures.formed c.in-Err.ensures.stays
 
 pub conclude_boundary-requires-clause-answer : goal.conclude_boundary-requires-clause-answer
 conclude_boundary-requires-clause-answer c =
@@ -27,7 +27,7 @@ conclude_boundary-requires-clause-answer c =
     let js = c.args.args.now in
     subst (λ js. IsAnswer t (by_inst c.args.r js) (Ok (rests (boundary_in t.trees c.in-Ok.boundary) c.in_ok-set.set))) (sym c.in_ok-of.ensures)
     (formed_answered s t (by_inst c.args.r js) (by_inst (c.args.r, rule_of s.items c.args.r) (entries_of s.items js)) (boundary_in t.trees c.in-Ok.boundary) c.in_ok-set.set c.in-Ok.ensures.stays
-    (inst_resolved s c.args.r js c.terms.ensures.good c.requires.rule c.requires.arguments) (inst_kind s c.args.r js c.requires.arguments) c.in-Ok.ensures.formed
+    (inst_resolved s c.args.r js c.terms-terms.ensures.good c.requires.rule c.requires.arguments) (inst_kind s c.args.r js c.requires.arguments) c.in-Ok.ensures.formed
     (c.in_ok-set.ensures ∙ ap (λ items. unions (sets (entries_of items js))) c.in-Ok.ensures.stays.0))
 
 pub returns-clause-answers : goal.returns-clause-answers

@@ -1,4 +1,5 @@
-use Rattle.std.proofs.Common.{◌∙◌, subst, sym, ap, Ok, Err}
+use Rattle.std.proofs.Common.{subst, sym, Ok, Err}
+use Rattle.std.specs.Prelude.{⊤}
 use Rattle.ft_reference.specs.Refusals.{AllSmall, expressions}
 use Rattle.ft_reference.specs.Compare.{fit_checks}
 use Rattle.ft_judge.specs.Meaning.{thesis_in, boundary_in}
@@ -20,10 +21,10 @@ pub returns-in-Ok-compare-clause-checks : goal.returns-in-Ok-compare-clause-chec
 returns-in-Ok-compare-clause-checks c =
     let B = boundary_at c.args.k.now.trees c.args.i.now.pairs (boundary_of_met c.args.k.now.items c.args.m) in
     fit_result c.args.k.now c.premise_at.new.k c.args.j c.thesis_of.result.now c.in-Ok.wanted B (Ok c.in-Ok-compare.field-0) c.in-Ok.ensures.stays.0 c.thesis_of.ensures.thesis c.in-Ok.ensures.boundary c.in-Ok.ensures.small
-    (subst (λ ts. Tests ts (fit_checks (thesis_in ts c.thesis_of.result.now) (boundary_in ts c.in-Ok.wanted)) (Ok c.in-Ok-compare.field-0)) c.terms.ensures.terms c.in-Ok-compare.ensures)
+    (subst (λ ts. Tests {A = ⊤} ts (fit_checks (thesis_in ts c.thesis_of.result.now) (boundary_in ts c.in-Ok.wanted)) (Ok c.in-Ok-compare.field-0)) c.terms.ensures.terms c.in-Ok-compare.ensures)
 
 pub returns-clause-checks : goal.returns-clause-checks
 returns-clause-checks c =
     let B = boundary_at c.args.k.now.trees c.args.i.now.pairs (boundary_of_met c.args.k.now.items c.args.m) in
     fit_result c.args.k.now c.premise_at.new.k c.args.j c.thesis_of.result.now c.in-Ok.wanted B (Err c.in-Err-compare.refusal) c.in-Ok.ensures.stays.0 c.thesis_of.ensures.thesis c.in-Ok.ensures.boundary c.in-Ok.ensures.small
-    (subst (λ ts. Tests ts (fit_checks (thesis_in ts c.thesis_of.result.now) (boundary_in ts c.in-Ok.wanted)) (Err c.in-Err-compare.refusal)) c.terms.ensures.terms c.in-Err-compare.ensures)
+    (subst (λ ts. Tests {A = ⊤} ts (fit_checks (thesis_in ts c.thesis_of.result.now) (boundary_in ts c.in-Ok.wanted)) (Err c.in-Err-compare.refusal)) c.terms.ensures.terms c.in-Err-compare.ensures)

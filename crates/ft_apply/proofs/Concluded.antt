@@ -8,8 +8,8 @@ use Rattle.ft_theory.specs.Statements.{Claim, is_type, has_type, equal_types, eq
 use Rattle.ft_theory.specs.Rules.{Rule, instance_of, conclusion_at}
 use Rattle.ft_theory.specs.Small.{IsSmall}
 use Rattle.ft_items.specs.Item.{Item, by_rule, by_rulewith}
-use Rattle.ft_items.specs.Equal.{heads, equal_statements, is_thesis}
-use Rattle.ft_items.specs.Store.{Assertion, store_of, resolve, rules_in, with_two, with_three}
+use Rattle.ft_items.specs.Equal.{heads, equal_statements, is_thesis, is_plain}
+use Rattle.ft_items.specs.Store.{Assertion, store_of, resolve, rules_in, with_two, with_three, claim_in as claim_of}
 use Rattle.ft_items.specs.Good.{Good, of_kind}
 use Rattle.ft_items.specs.Rows.{when, are_arguments, rule_instance, rule_instance_with}
 use Rattle.ft_reference.specs.Refusals.{Check, first_refusal, AllSmall, claim_expressions, expressions, forms_result, forms_statement}
@@ -26,20 +26,21 @@ use Rattle.ft_syntax.specs.declared.syntax.Arg.{Arg}
 use Rattle.ft_syntax.specs.declared.syntax.SynFault.{SynFault}
 use Rattle.ft_syntax.specs.declared.syntax.SynFault.TheVariants as syntax
 use Rattle.ft_judge.specs.Faults as faults
-use Rattle.ft_judge.specs.Meaning.{claim_in, goal_in}
+use Rattle.ft_judge.specs.Meaning.{claim_in, goal_in, under, boundary_in}
+use Rattle.ft_judge.specs.declared.judgement.Boundary.{Boundary}
 use Rattle.ft_judge.specs.declared.judgement.Form.{Form}
 use Rattle.ft_judge.specs.declared.judgement.Goal.{Goal}
 use Rattle.ft_judge.specs.declared.fault.Refusal.{Refusal}
 use Rattle.ft_judge.specs.declared.fault.Refusal.TheVariants.{ArgumentCount, TooBig}
 use Rattle.ft_judge.specs.declared.fault.Fault.{Fault}
 use Rattle.ft_judge.specs.declared.fault.Fault.TheVariants.{Refused, Memory}
-use Rattle.ft_kernel.specs.State.{State, entry_at, IsBoundaryOf}
-use Rattle.ft_calls.specs.Forming.{Gives, Refuses, plain_in}
+use Rattle.ft_kernel.specs.State.{State, entry_at, statement_at, IsBoundaryOf}
+use Rattle.ft_calls.specs.Forming.{Gives, Refuses, plain_in, plain_goal_in}
 use Rattle.ft_calls.proofs.Answering.{store, entry_in}
 use Rattle.ft_apply.specs.Named.{entry_of, entries_of, statements_of, premises_in, AreThesesOf, rule_of}
-use Rattle.ft_apply.specs.Outcomes.{BigOr, Stops, Asks, Formed, given_checks}
+use Rattle.ft_apply.specs.Outcomes.{BigOr, Stops, Asks, Tests, Formed, given_checks}
 use Rattle.ft_apply.specs.Instances.{goal_at, filled_at}
-use Rattle.ft_apply.proofs.Naming.{entry_found, each_named, theses_of, theses_are, as_many}
+use Rattle.ft_apply.proofs.Naming.{entry_found, statement_found, each_named, theses_of, theses_are, as_many}
 use Rattle.ft_apply.proofs.RuleLines.{IsRuleOf, rule_resolved}
 use Rattle.ft_apply.proofs.Asking.{both_pass, small_formed, big_refused, refused_first, refused_later}
 use Rattle.ft_apply.proofs.Instancing.{premises_count}
@@ -89,6 +90,17 @@ all_same ts cs ds (Err Memory) e h = tt
 pub all_fit : (ps : List (ℕ × Statement)) (xs : List Statement) → Theses xs → first_refusal (all_argument_checks ps xs) ≡ None → are_arguments ps xs ≡ true
 all_fit ps xs t h = sym (arguments_asked (Rattle.ft_items.specs.Rows.at_arguments ps (heads xs)) ps xs t) ∙ (passed (all_argument_checks ps xs) h).0
 
+-- the goal that a rule concludes, as it is read
+under_claim : (ts : List Expression) (ds : List ℕ) (c : Claim) → is_plain (under ts ds (plain c)) ≡ true → claim_of (under ts ds (plain c)) ≡ c
+under_claim ts [] c h = refl
+under_claim ts (d ∷ ds) c h = let no : ⊥ = cc in absurd no
+
+pub conclusion_read : (s : State) (r : ℕ) (ms : List ℕ) (p : ℕ) (b : Boundary) → IsRuleOf s.items r ms p → statement_at s p ≡ Some (boundary_in s.trees b) → goal_in s.trees b.goal ≡ (rule_of s.items r).conclusion
+conclusion_read s r ms p b R h =
+    sym (under_claim s.trees b.domains (goal_in s.trees b.goal) (ap is_plain (sym (statement_found s p (boundary_in s.trees b) h)) ∙ R.plain))
+    ∙ ap claim_of (sym (statement_found s p (boundary_in s.trees b) h))
+    ∙ sym R.conclusion
+
 -- The conclusion that is formed.
 pub conclusion_there : (s t : State) (r : ℕ) (ps : List (ℕ × Arg)) (xs : List Statement) → t.items ≡ s.items → instance_in t.trees ps ≡ instance_of (rule_of s.items r).premises (heads xs)
     → goal_at t.trees ps (rule_of t.items r).conclusion ≡ conclusion_at (rule_of s.items r) (heads xs)
@@ -108,6 +120,11 @@ fill_small (term_equation_goal s t A) e h = h
 -- what is formed of a rule at arguments
 abbrev pub concluded : Rule → ℕ → List Statement → Claim
 concluded R r xs = fill_goal (conclusion_at R (heads xs)) (symbol r (heads xs))
+
+pub concluded_small : (s t : State) (r : ℕ) (ps : List (ℕ × Arg)) (xs : List Statement) → t.items ≡ s.items → instance_in t.trees ps ≡ instance_of (rule_of s.items r).premises (heads xs)
+    → AllSmall (claim_expressions (concluded (rule_of s.items r) r xs)) → AllSmall (claim_expressions (goal_at t.trees ps (rule_of t.items r).conclusion))
+concluded_small s t r ps xs e i h =
+    subst (λ c. AllSmall (claim_expressions c)) (sym (conclusion_there s t r ps xs e i)) (fill_small (conclusion_at (rule_of s.items r) (heads xs)) (symbol r (heads xs)) h)
 
 pub filled_there : (s t u : State) (r : ℕ) (ps : List (ℕ × Arg)) (hs : List Arg) (g : Goal) (xs : List Statement) → t.items ≡ s.items → Extends t.trees u.trees
     → instance_in t.trees ps ≡ instance_of (rule_of s.items r).premises (heads xs) → arguments_in t.trees hs ≡ heads xs → ArgumentsBelow (length t.trees) hs
@@ -210,3 +227,12 @@ with_kind s r b js h a =
 
 pub boundary_there : (s : State) (b : ℕ) → IsBoundaryOf s b → is_thesis (entry_of s.items b).statement ≡ false
 boundary_there s b h = ap (λ (c : Assertion). is_thesis c.statement) (entry_found s b h.0 h.1) ∙ h.2
+
+-- the boundary that was compared with the conclusion, seen from the first state
+pub compared : (s t u : State) (r b : ℕ) (ps : List (ℕ × Arg)) (g : Goal) (B : Boundary) (xs : List Statement) (q : Result ⊤ Refusal) → t.items ≡ s.items → u.items ≡ t.items
+    → instance_in t.trees ps ≡ instance_of (rule_of s.items r).premises (heads xs) → goal_in u.trees g ≡ goal_at t.trees ps (rule_of t.items r).conclusion → statement_at u b ≡ Some (boundary_in u.trees B)
+    → Tests u.trees (boundary_checks (boundary_in u.trees B) (plain_goal_in u.trees g)) q → Tests u.trees (boundary_checks (entry_of s.items b).statement (plain (conclusion_at (rule_of s.items r) (heads xs)))) q
+compared s t u r b ps g B xs q e f i h k m = subst (λ cs. Tests u.trees cs q) (ap₂ boundary_checks same (ap plain (h ∙ conclusion_there s t r ps xs e i))) m
+  where
+    same : boundary_in u.trees B ≡ (entry_of s.items b).statement
+    same = sym (statement_found u b (boundary_in u.trees B) k) ∙ ap (λ items. (entry_of items b).statement) (f ∙ e)

@@ -1,5 +1,5 @@
 -- Theses as arguments: what their heads and their instance are over a table that goes on.
-use Rattle.std.proofs.Common.{◌≡◌, ◌∙◌, ℕ, ◌<◌, true, Some, List, [], ◌∷◌, length, refl, sym, ap, ap₂, subst}
+use Rattle.std.proofs.Common.{◌≡◌, ◌∙◌, ℕ, ◌<◌, true, false, Some, List, [], ◌∷◌, length, refl, sym, ap, ap₂, subst}
 use Rattle.std.specs.List.{zip}
 use Rattle.ft_theory.specs.Expressions.{Expression, free}
 use Rattle.ft_theory.specs.Statements.{Statement, act_statement}
@@ -14,7 +14,7 @@ use Rattle.ft_syntax.specs.Table.{Extends, arguments_in, ArgumentsBelow}
 use Rattle.ft_syntax.specs.Instances.{instance_in, PairsBelow}
 use Rattle.ft_syntax.specs.Laws.{arguments_extend, pairs_below_extends}
 use Rattle.ft_syntax.specs.declared.syntax.Arg.{Arg}
-use Rattle.ft_kernel.specs.State.{State, IsThesisOf}
+use Rattle.ft_kernel.specs.State.{State, IsThesisOf, IsBoundaryOf}
 use Rattle.ft_apply.specs.Named.{statements_of, premises_in, AreThesesOf}
 use Rattle.ft_apply.specs.Outcomes.{given_checks}
 use Rattle.ft_apply.specs.Instances.{boundary_at}
@@ -24,6 +24,10 @@ use Rattle.ft_apply.proofs.Pairing.{pairs_below, instance_is}
 pub theses_stay : (s t : State) (js : List ℕ) → t.items ≡ s.items → AreThesesOf s js → AreThesesOf t js
 theses_stay s t [] e h = tt
 theses_stay s t (j ∷ js) e h = (subst (λ items. (a : Assertion) × (nth (entries_in items) j ≡ Some a) × (is_thesis a.statement ≡ true)) (sym e) h.0, theses_stay s t js e h.1)
+
+-- a boundary stays one
+pub boundary_stays : (s t : State) (b : ℕ) → t.items ≡ s.items → IsBoundaryOf s b → IsBoundaryOf t b
+boundary_stays s t b e h = subst (λ items. (a : Assertion) × (nth (entries_in items) b ≡ Some a) × (is_thesis a.statement ≡ false)) (sym e) h
 
 pub heads_stay : (ts us : List Expression) (hs : List Arg) → Extends ts us → ArgumentsBelow (length ts) hs → arguments_in us hs ≡ arguments_in ts hs
 heads_stay ts us hs x b = ap as_arguments (arguments_extend ts us hs x b)

@@ -2,6 +2,7 @@ pub mod Naming
 pub mod Pairing
 pub mod AtInstances
 pub mod Comparing
+pub mod Goals
 pub mod RuleLines
 pub mod Asking
 pub mod Fitted

@@ -6,4 +6,4 @@ mod fitting;
 mod named;
 mod putting;
 
-pub use applying::next_boundary;
+pub use applying::{apply, apply_with, next_boundary};

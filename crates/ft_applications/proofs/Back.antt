@@ -6,16 +6,16 @@ use Rattle.ft_grammar.specs.declared.token.Mark.TheVariants as mark
 use Rattle.ft_grammar.specs.declared.token.Kind.{Kind}
 use Rattle.ft_grammar.specs.declared.token.Kind.TheVariants as kind
 use Rattle.ft_applications.specs.declared.fault.Fault.{Fault}
-use Rattle.ft_applications.specs.declared.syntax.Application.{Application}
-use Rattle.ft_applications.specs.declared.syntax.Application.TheVariants as application
-use Rattle.ft_applications.specs.declared.syntax.Premise.{Premise}
-use Rattle.ft_applications.specs.declared.syntax.Premise.TheVariants as premise
-use Rattle.ft_applications.specs.declared.syntax.Conclusion.{Conclusion}
-use Rattle.ft_applications.specs.declared.syntax.Conclusion.TheVariants as conclusion
-use Rattle.ft_applications.specs.declared.syntax.Command.{Command}
-use Rattle.ft_applications.specs.declared.syntax.Command.TheVariants as command
+use Rattle.ft_applications_meaning.specs.declared.syntax.Application.{Application}
+use Rattle.ft_applications_meaning.specs.declared.syntax.Application.TheVariants as application
+use Rattle.ft_applications_meaning.specs.declared.syntax.Premise.{Premise}
+use Rattle.ft_applications_meaning.specs.declared.syntax.Premise.TheVariants as premise
+use Rattle.ft_applications_meaning.specs.declared.syntax.Conclusion.{Conclusion}
+use Rattle.ft_applications_meaning.specs.declared.syntax.Conclusion.TheVariants as conclusion
+use Rattle.ft_applications_meaning.specs.declared.syntax.Command.{Command}
+use Rattle.ft_applications_meaning.specs.declared.syntax.Command.TheVariants as command
 use Rattle.ft_applications.specs.Reading.{◌>>=◌, go_on, Outcome, Reader, and_then, expression, level, name, one_argument, arguments_from, expect_mark, sees_mark, sees_name, sees_word, sees_end, premise_inside, one_premise, premises_from, concluded, rule, show, one_command, commands_from, source, value_of}
-use Rattle.ft_applications.specs.Grammar.{left, right, colon, IsApplication, AreArguments, applied, no_argument, name_alone, in_parentheses, IsPremise, type_premise, term_premise, ArePremises, no_premise, next_premise, IsConclusion, type_conclusion, term_conclusion, IsCommand, a_rule, a_show, AreCommands, the_end, next_command}
+use Rattle.ft_applications_meaning.specs.Grammar.{left, right, colon, IsApplication, AreArguments, applied, no_argument, name_alone, in_parentheses, IsPremise, type_premise, term_premise, ArePremises, no_premise, next_premise, IsConclusion, type_conclusion, term_conclusion, IsCommand, a_rule, a_show, AreCommands, the_end, next_command}
 
 -- neither a name nor a parenthesis is next, so no argument is
 pub Stops : List Kind → Type 0

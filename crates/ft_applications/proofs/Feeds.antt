@@ -11,9 +11,9 @@ use Rattle.ft_base.specs.Names.{is_name_token, starts_name}
 use Rattle.ft_common.proofs.Booleans.{and_left, and_right}
 use Rattle.ft_theory.specs.Expressions.{Expression, bound, free, symbol, meta, Arguments, no_arguments, with_body, dummy}
 use Rattle.ft_theory.specs.Statements.{Claim, is_type, has_type, equal_types, equal_terms, type_goal, term_goal, type_equation_goal, term_equation_goal}
-use Rattle.ft_applications.specs.Texts.{name_text, symbol_text, expression_text, rest_text, claim_text}
-use Rattle.ft_applications.specs.Transcript.{is_plain_character, accepted_line, repeated_line, shown_line}
-use Rattle.ft_applications.specs.OneLine.{has_no_line_feed, IsLine}
+use Rattle.ft_applications_meaning.specs.Texts.{name_text, symbol_text, expression_text, rest_text, claim_text}
+use Rattle.ft_applications_meaning.specs.Transcript.{is_plain_character, accepted_line, repeated_line, shown_line}
+use Rattle.ft_applications_meaning.specs.OneLine.{has_no_line_feed, IsLine}
 
 -- ---- tests
 

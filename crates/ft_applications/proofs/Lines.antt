@@ -6,11 +6,12 @@ use Rattle.std.proofs.lemmas.Option.{none-some, same_Some}
 use Rattle.ft_common.proofs.Booleans.{true_false}
 use Rattle.ft_grammar.specs.Tokens.{tokens_of}
 use Rattle.ft_applications.specs.declared.fault.Fault.{Fault}
-use Rattle.ft_applications.specs.declared.syntax.Command.{Command}
-use Rattle.ft_applications.specs.Reading.{kinds, source}
-use Rattle.ft_applications.specs.Building.{Declaration, names}
-use Rattle.ft_applications.specs.Events.{Event, accepts, repeats, shows, done, events}
-use Rattle.ft_applications.specs.Transcript.{IsPlainSource, IsTranscript, is_plain_character, accepted_line, shown_line, text_of, status_of, not_yet_line}
+use Rattle.ft_applications_meaning.specs.declared.syntax.Command.{Command}
+use Rattle.ft_applications_meaning.specs.Grammar.{kinds}
+use Rattle.ft_applications.specs.Reading.{source}
+use Rattle.ft_applications_meaning.specs.Building.{Declaration, names}
+use Rattle.ft_applications_meaning.specs.Events.{Event, accepts, repeats, shows, done, events}
+use Rattle.ft_applications_meaning.specs.Transcript.{IsPlainSource, IsTranscript, is_plain_character, accepted_line, shown_line, text_of, status_of, not_yet_line}
 use Rattle.ft_applications.proofs.Plain.{source_is, no_source, one_source}
 
 -- an event that was put before others

@@ -10,15 +10,14 @@ use Rattle.ft_grammar.specs.declared.token.Kind.TheVariants as kind
 use Rattle.ft_grammar.specs.declared.token.Token.{Token}
 use Rattle.ft_grammar.specs.Tokens.{tokens_of}
 use Rattle.ft_grammar.specs.Made.{IsMadeOf, IsSpelled}
-use Rattle.ft_applications.specs.declared.syntax.Command.{Command}
-use Rattle.ft_applications.specs.declared.syntax.Command.TheVariants as command
-use Rattle.ft_applications.specs.Reading.{kinds}
-use Rattle.ft_applications.specs.Grammar.{IsCommand, AreCommands}
+use Rattle.ft_applications_meaning.specs.declared.syntax.Command.{Command}
+use Rattle.ft_applications_meaning.specs.declared.syntax.Command.TheVariants as command
+use Rattle.ft_applications_meaning.specs.Grammar.{kinds, IsCommand, AreCommands}
 use Rattle.ft_items.specs.Good.{is_new}
-use Rattle.ft_applications.specs.Building.{Declaration, names, claim_of, declared, with_rule}
-use Rattle.ft_applications.specs.Events.{Event, accepts, repeats, shows, event_of_rule, done, events, run_of}
-use Rattle.ft_applications.specs.Transcript.{IsPlainSource, is_plain_character, repeated_line, text_of, status_of}
-use Rattle.ft_applications.specs.OneLine.{IsLine, AreLines}
+use Rattle.ft_applications_meaning.specs.Building.{Declaration, names, claim_of, declared, with_rule}
+use Rattle.ft_applications_meaning.specs.Events.{Event, accepts, repeats, shows, event_of_rule, done, events, run_of}
+use Rattle.ft_applications_meaning.specs.Transcript.{IsPlainSource, is_plain_character, repeated_line, text_of, status_of}
+use Rattle.ft_applications_meaning.specs.OneLine.{IsLine, AreLines}
 use Rattle.ft_applications.proofs.Plain.{plain_is_ascii}
 use Rattle.std.proofs.lemmas.Option.{none-some, same_Some}
 use Rattle.ft_common.proofs.Booleans.{and_right}

@@ -8,9 +8,10 @@ use Rattle.std.proofs.lemmas.List.Sums.{AllPass-from_list_all}
 use Rattle.ft_common.proofs.Results.{err_ok}
 use Rattle.ft_grammar.specs.Tokens.{tokens_of}
 use Rattle.ft_applications.specs.declared.fault.Fault.{Fault}
-use Rattle.ft_applications.specs.declared.syntax.Command.{Command}
-use Rattle.ft_applications.specs.Reading.{kinds, source}
-use Rattle.ft_applications.specs.Transcript.{IsPlainSource, is_plain_character}
+use Rattle.ft_applications_meaning.specs.declared.syntax.Command.{Command}
+use Rattle.ft_applications_meaning.specs.Grammar.{kinds}
+use Rattle.ft_applications.specs.Reading.{source}
+use Rattle.ft_applications_meaning.specs.Transcript.{IsPlainSource, is_plain_character}
 use Rattle.ft_applications.proofs.Back.{reads, one_tree}
 use Rattle.ft_applications.proofs.SoundCommands.{sound}
 

@@ -12,12 +12,12 @@ use Rattle.ft_grammar.specs.contracts.token.MarkPartialEq.TheImpl as mark_eq
 use Rattle.ft_grammar.specs.declared.token.Kind.{Kind}
 use Rattle.ft_grammar.specs.declared.token.Kind.TheVariants as kind
 use Rattle.ft_applications.specs.declared.fault.Fault.TheVariants.{NotYet}
-use Rattle.ft_applications.specs.declared.syntax.Application.{Application}
-use Rattle.ft_applications.specs.declared.syntax.Application.TheVariants as application
-use Rattle.ft_applications.specs.declared.syntax.Premise.{Premise}
-use Rattle.ft_applications.specs.declared.syntax.Premise.TheVariants as premise
+use Rattle.ft_applications_meaning.specs.declared.syntax.Application.{Application}
+use Rattle.ft_applications_meaning.specs.declared.syntax.Application.TheVariants as application
+use Rattle.ft_applications_meaning.specs.declared.syntax.Premise.{Premise}
+use Rattle.ft_applications_meaning.specs.declared.syntax.Premise.TheVariants as premise
 use Rattle.ft_applications.specs.Reading.{◌>>=◌, go_on, Outcome, Reader, and_then, expression, level, name, one_argument, arguments_from, expect_mark, sees_mark, sees_name, sees_word, premise_inside}
-use Rattle.ft_applications.specs.Grammar.{left, right, colon, type_word, IsApplication, AreArguments, applied, no_argument, name_alone, in_parentheses, IsPremise, type_premise, term_premise}
+use Rattle.ft_applications_meaning.specs.Grammar.{left, right, colon, type_word, IsApplication, AreArguments, applied, no_argument, name_alone, in_parentheses, IsPremise, type_premise, term_premise}
 
 -- what was read by two readers in turn was read by the first, and then by the second
 pub in_turn : {A B : Type 0} (o : Outcome A) (f : A → Reader B) (b : B) (ts : List Kind) → and_then o f ≡ Ok (b, ts)

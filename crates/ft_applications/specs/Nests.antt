@@ -4,7 +4,7 @@ use Rattle.std.specs.declared.alloc.Global.{Global}
 use denote.Ref.{MutBor}
 use Rattle.ft_grammar.specs.declared.token.Kind.{Kind}
 use Rattle.ft_applications.specs.declared.fault.Fault.{Fault}
-use Rattle.ft_applications.specs.declared.syntax.Application.{Application}
+use Rattle.ft_applications_meaning.specs.declared.syntax.Application.{Application}
 use Rattle.ft_applications.specs.Reading.{Reads, expression}
 
 pub record Nests (depth : ℕ) (pre : Global → MutBor (List Kind) → ℕ → Type 0)

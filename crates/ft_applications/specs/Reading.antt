@@ -1,5 +1,5 @@
 -- The reader of a source, as a function on lists of tokens: what is left of the nesting bounds the recursion.
-use Rattle.std.specs.Prelude.{ℕ, zero, suc, ◌≡◌, ◌≢◌, Bool, true, false, if◌then◌else◌, List, [], ◌∷◌, ◌++◌, map, length, drop, Result, Ok, Err, Option, Some, None}
+use Rattle.std.specs.Prelude.{ℕ, zero, suc, ◌≡◌, ◌≢◌, Bool, true, false, if◌then◌else◌, List, [], ◌∷◌, ◌++◌, length, drop, Result, Ok, Err, Option, Some, None}
 use Rattle.ft_base.specs.declared.word.Word.{Word}
 use Rattle.ft_base.specs.declared.word.Word.TheVariants as word
 use Rattle.ft_base.specs.contracts.word.WordPartialEq.TheImpl as word_eq
@@ -8,17 +8,16 @@ use Rattle.ft_grammar.specs.declared.token.Mark.TheVariants as mark
 use Rattle.ft_grammar.specs.contracts.token.MarkPartialEq.TheImpl as mark_eq
 use Rattle.ft_grammar.specs.declared.token.Kind.{Kind}
 use Rattle.ft_grammar.specs.declared.token.Kind.TheVariants as kind
-use Rattle.ft_grammar.specs.declared.token.Token.{Token}
 use Rattle.ft_applications.specs.declared.fault.Fault.{Fault}
 use Rattle.ft_applications.specs.declared.fault.Fault.TheVariants.{NotYet, Memory}
-use Rattle.ft_applications.specs.declared.syntax.Application.{Application}
-use Rattle.ft_applications.specs.declared.syntax.Application.TheVariants as application
-use Rattle.ft_applications.specs.declared.syntax.Premise.{Premise}
-use Rattle.ft_applications.specs.declared.syntax.Premise.TheVariants as premise
-use Rattle.ft_applications.specs.declared.syntax.Conclusion.{Conclusion}
-use Rattle.ft_applications.specs.declared.syntax.Conclusion.TheVariants as conclusion
-use Rattle.ft_applications.specs.declared.syntax.Command.{Command}
-use Rattle.ft_applications.specs.declared.syntax.Command.TheVariants as command
+use Rattle.ft_applications_meaning.specs.declared.syntax.Application.{Application}
+use Rattle.ft_applications_meaning.specs.declared.syntax.Application.TheVariants as application
+use Rattle.ft_applications_meaning.specs.declared.syntax.Premise.{Premise}
+use Rattle.ft_applications_meaning.specs.declared.syntax.Premise.TheVariants as premise
+use Rattle.ft_applications_meaning.specs.declared.syntax.Conclusion.{Conclusion}
+use Rattle.ft_applications_meaning.specs.declared.syntax.Conclusion.TheVariants as conclusion
+use Rattle.ft_applications_meaning.specs.declared.syntax.Command.{Command}
+use Rattle.ft_applications_meaning.specs.declared.syntax.Command.TheVariants as command
 
 -- what is read, with the tokens that are left
 abbrev pub Outcome : Type 0 → Type 0
@@ -50,10 +49,6 @@ value_of (Err e) = Err e
 -- not in this language
 abbrev pub refuse : {A : Type 0} → Reader A
 refuse = λ ts. Err NotYet
-
--- the kinds of the tokens
-abbrev pub kinds : List Token → List Kind
-kinds ts = map (λ t. t.kind) ts
 
 abbrev pub is_word : Word → Kind → Bool
 is_word w (kind.Word v) = (word_eq.ghosts).eq v w

@@ -1,5 +1,6 @@
 //! The tokens that are left.
 ghost use Rattle.std.specs.Prelude.{◌≡◌, drop, length};
+ghost use Rattle.ft_applications_meaning.specs.Grammar.{kinds};
 ghost use Rattle.ft_applications.specs.Reading as spec;
 ghost use Rattle.ft_applications.specs.Reading.{Reads};
 
@@ -16,7 +17,7 @@ pub struct Cursor<'a> {
 impl<'a> Model for Cursor<'a> {
     ghost use Rattle.ft_grammar.specs.declared.token.Kind.{Kind};
     ghost use Rattle.std.specs.Prelude.{List};
-    ghost use Rattle.ft_applications.specs.Reading.{kinds};
+    ghost use Rattle.ft_applications_meaning.specs.Grammar.{kinds};
 
     ghost Value = { List Kind };
 
@@ -25,7 +26,7 @@ impl<'a> Model for Cursor<'a> {
 
 impl<'a> Cursor<'a> {
     pub fn new(rest: &'a [Token]) -> Cursor<'a>
-        ensures { result ≡ spec.kinds rest.now }
+        ensures { result ≡ kinds rest.now }
     {
         Cursor { rest }
     }

@@ -1,13 +1,13 @@
 //! Laws of the grammar and of the transcript.
 ghost use Rattle.std.specs.Prelude.{◌≡◌, ◌++◌, ◌+◌, ℕ, List, [], Ok, Some, length};
 ghost use Rattle.ft_grammar.specs.declared.token.Kind.{Kind as TokenKind};
-ghost use Rattle.ft_applications.specs.declared.syntax.Command.{Command as Tree};
+ghost use Rattle.ft_applications_meaning.specs.declared.syntax.Command.{Command as Tree};
 ghost use Rattle.ft_applications.specs.Reading as spec;
-ghost use Rattle.ft_applications.specs.Grammar.{AreCommands};
-ghost use Rattle.ft_applications.specs.Building.{Declaration};
-ghost use Rattle.ft_applications.specs.Events.{Event, events, run_of};
-ghost use Rattle.ft_applications.specs.OneLine.{AreLines};
-ghost use Rattle.ft_applications.specs.Transcript.{IsPlainSource, IsTranscript, text_of, status_of};
+ghost use Rattle.ft_applications_meaning.specs.Grammar.{AreCommands};
+ghost use Rattle.ft_applications_meaning.specs.Building.{Declaration};
+ghost use Rattle.ft_applications_meaning.specs.Events.{Event, events, run_of};
+ghost use Rattle.ft_applications_meaning.specs.OneLine.{AreLines};
+ghost use Rattle.ft_applications_meaning.specs.Transcript.{IsPlainSource, IsTranscript, text_of, status_of};
 
 use ft_lexer::laws::a_text_is_made_of_its_tokens;
 

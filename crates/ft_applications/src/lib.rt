@@ -6,7 +6,6 @@ mod fault;
 mod laws;
 mod reader;
 mod source;
-mod syntax;
 
 pub use fault::Fault;
 pub use laws::{
@@ -14,4 +13,3 @@ pub use laws::{
     what_is_in_the_grammar_is_read, what_is_read_is_in_the_grammar,
 };
 pub use source::read_source;
-pub use syntax::{Application, Command, Conclusion, Premise};

@@ -1,12 +1,13 @@
 //! Reading a source.
 ghost use Rattle.std.specs.Prelude.{[], length};
+ghost use Rattle.ft_applications_meaning.specs.Grammar.{kinds};
 ghost use Rattle.ft_applications.specs.Reading as spec;
 ghost use Rattle.ft_applications.specs.Reading.{Reads, ReadsAll};
 ghost use Rattle.ft_applications.specs.Nests.{Nests};
 
 use crate::cursor::Cursor;
 use crate::fault::Fault;
-use crate::syntax::{Application, Command, Conclusion, Premise};
+use ft_applications_meaning::{Application, Command, Conclusion, Premise};
 use ft_base::Word;
 use ft_base::limits::MAX_NESTING;
 use ft_grammar::{Mark, Token};
@@ -197,7 +198,7 @@ fn commands(alloc: Global, tokens: &mut Cursor<'_>) -> Result<Items<Command>, Fa
 /// The commands of a source's tokens.
 #[tactic(auto, unfolding(crate::specs::Reading::source))]
 pub fn read_commands(alloc: Global, tokens: &[Token]) -> Result<Items<Command>, Fault>
-    ensures { ReadsAll (spec.source (spec.kinds tokens.now)) result }
+    ensures { ReadsAll (spec.source (kinds tokens.now)) result }
 {
     commands(alloc, &mut Cursor::new(tokens))
 }

@@ -3,14 +3,15 @@ ghost use Rattle.std.specs.Prelude.{◌≡◌, IfOk, IfSome, IfNone, IsErrOf, Li
 ghost use Rattle.std.specs.List.{list_all};
 ghost use Rattle.std.specs.Str.{chars as chars_of};
 ghost use Rattle.ft_grammar.specs.Tokens.{tokens_of};
-ghost use Rattle.ft_applications.specs.Reading.{kinds, source, ReadsAll};
-ghost use Rattle.ft_applications.specs.Transcript.{IsPlainSource, is_plain_character};
+ghost use Rattle.ft_applications_meaning.specs.Grammar.{kinds};
+ghost use Rattle.ft_applications.specs.Reading.{source, ReadsAll};
+ghost use Rattle.ft_applications_meaning.specs.Transcript.{IsPlainSource, is_plain_character};
 ghost use Rattle.ft_applications.specs.declared.fault.Fault.TheVariants as fault;
-ghost use Rattle.ft_applications.specs.declared.syntax.Command.{Command as Tree};
+ghost use Rattle.ft_applications_meaning.specs.declared.syntax.Command.{Command as Tree};
 
 use crate::fault::Fault;
 use crate::reader::read_commands;
-use crate::syntax::Command;
+use ft_applications_meaning::Command;
 use ft_lexer::tokens;
 use sqlite_items::Items;
 use std::alloc::Global;

@@ -4,7 +4,7 @@ use Rattle.std.specs.Prelude.{Ok, Err, List, option_map}
 use Rattle.ft_theory.specs.Statements.{Statement}
 use Rattle.ft_items.specs.Sets.{Atom}
 use Rattle.ft_items.specs.Item.{Stated}
-use Rattle.ft_items.specs.Store.{Assertion, Store, Resolved, empty_store, store_of, entry_named, resolve, with_one, with_two, with_three}
+use Rattle.ft_items.specs.Store.{Assertion, Store, Resolved, empty_store, store_of, entry_named, resolve, with_one, with_two, with_three, Declarations, declared_by}
 use Rattle.ft_items.specs.Rows.{conclusion, result_set}
 use Rattle.ft_items.specs.Good.{of_kind, given}
 use Rattle.ft_items.proofs.Lists.{entries_all}
@@ -20,9 +20,12 @@ use Rattle.ft_calls.specs.Forming.{Gives, Refuses}
 use Rattle.ft_common.proofs.Options.{none_some}
 use Rattle.std.proofs.lemmas.Option.{same_Some}
 
--- The store of the list.
+-- The store of the list, and the declarations.
 abbrev pub store : State → Store
 store s = store_of s.items
+
+abbrev pub declarations : State → Declarations
+declarations s = declared_by s.items
 
 -- what a number names in the store is what it names in the list
 pub entry_in : (s : State) (j : ℕ) (a : Assertion) → entry_at s j ≡ Some a → entry_named (store s) j ≡ Some a
@@ -43,13 +46,13 @@ resolves_three s n f p q r P Q R e h k l =
     e ∙ ap₂ (λ a b. with_three f a b (entry_named (store s) r)) (entry_in s p P h) (entry_in s q Q k) ∙ ap (with_three f (Some P) (Some Q)) (entry_in s r R l)
 
 -- the answer of a step with what it names
-pub answered_ok : (s : State) (n : Stated) (r : Resolved) (x : Statement) → resolve (store s) n ≡ Some r → of_kind r ≡ true → Gives (checks (store s) r) (conclusion (store s) r) x
+pub answered_ok : (s : State) (n : Stated) (r : Resolved) (x : Statement) → resolve (store s) n ≡ Some r → of_kind r ≡ true → Gives (checks (declarations s) r) (conclusion (declarations s) r) x
     → IsAnswer s n (Ok (record { statement = x; set = result_set r }))
 answered_ok s n r x e k g = (r, e, ap₂ answered g.0 (ap₂ (λ b o. cond b (option_map (λ x. record { statement = x; set = result_set r }) o) None) k g.1))
 
 -- its refusal
-pub refused : (s t : State) (n : Stated) (r : Resolved) (q : Refusal) → resolve (store s) n ≡ Some r → Refuses t.trees (checks (store s) r) q → Stays s t → Answers s n (Err (Refused q)) t
-refused s t n r q e h k = ((r, e, ap (λ o. answered o (given (store s) r)) h.0), h.1, k)
+pub refused : (s t : State) (n : Stated) (r : Resolved) (q : Refusal) → resolve (store s) n ≡ Some r → Refuses t.trees (checks (declarations s) r) q → Stays s t → Answers s n (Err (Refused q)) t
+refused s t n r q e h k = ((r, e, ap (λ o. answered o (given (declarations s) r)) h.0), h.1, k)
 
 -- the assertion of a statement and a set
 abbrev pub rests : Statement → List Atom → Assertion
@@ -57,7 +60,7 @@ rests x S = record { statement = x; set = S }
 
 -- A refusal, where the list is as before.
 
-pub refused_here : (s : State) (n : Stated) (r : Resolved) (q : Refusal) → resolve (store s) n ≡ Some r → Refuses s.trees (checks (store s) r) q → Answers s n (Err (Refused q)) s
+pub refused_here : (s : State) (n : Stated) (r : Resolved) (q : Refusal) → resolve (store s) n ≡ Some r → Refuses s.trees (checks (declarations s) r) q → Answers s n (Err (Refused q)) s
 refused_here s n r q e k = refused s s n r q e k (refl, extends_same s.trees s.trees refl)
 
 -- an entry of this statement

@@ -2,7 +2,7 @@
 use Rattle.std.specs.Prelude.{ℕ, ◌≡◌, ◌<◌, List, [], ◌∷◌, ◌++◌, length, Some, Result, Ok, Err}
 use Rattle.ft_theory.specs.Expressions.{Expression}
 use Rattle.ft_items.specs.Item.{Stated, entry}
-use Rattle.ft_items.specs.Store.{Assertion, Resolved, resolve, store_of, entries_in}
+use Rattle.ft_items.specs.Store.{Assertion, Resolved, resolve, store_of, entries_in, declared_by}
 use Rattle.ft_syntax.specs.Table.{tree, Extends}
 use Rattle.ft_reference.specs.Refusals as reference
 use Rattle.ft_reference.specs.Calls.{answer}
@@ -43,7 +43,7 @@ RefusalBelow n NotApplication = Unit {0}
 
 -- the call of a stated step over the list, with what its numbers name there, answers so
 abbrev pub IsAnswer : State → Stated → Result Assertion reference.Refusal → Type 0
-IsAnswer s n o = (r : Resolved) × (resolve (store_of s.items) n ≡ Some r) × (answer (store_of s.items) r ≡ o)
+IsAnswer s n o = (r : Resolved) × (resolve (store_of s.items) n ≡ Some r) × (answer (declared_by s.items) r ≡ o)
 
 -- the items are as before, and the table's earlier trees too
 abbrev pub Stays : State → State → Type 0

@@ -1,2 +1,4 @@
 pub mod Answers
 pub mod Forming
+pub mod Named
+pub mod Declaring

@@ -9,7 +9,7 @@ use Rattle.ft_theory.specs.Rules.{Rule, rule_at, instance_of, conclusion_at}
 use Rattle.ft_items.specs.Item.{Item, Entry as AnyEntry}
 use Rattle.ft_items.specs.Sets.{Atom, union, unions}
 use Rattle.ft_items.specs.Equal.{heads, is_thesis, is_plain}
-use Rattle.ft_items.specs.Store.{Assertion, Declared, Store, claim_in, each, entry_named, metavariable_named, premises_of, rule_named, rules_in, store_of, nth}
+use Rattle.ft_items.specs.Store.{Assertion, Declared, Store, claim_in, each, entry_named, metavariable_named, premises_of, rule_named, rules_in, store_of, nth, Declarations, declared_by}
 use Rattle.ft_items.specs.Rows.{sets, when}
 use Rattle.ft_items.specs.Good.{Reject as Reason, Good, reason_of_result}
 use Rattle.ft_judge.specs.Meaning.{goal_in}
@@ -23,7 +23,7 @@ use Rattle.ft_check.proofs.Fits.{each_at, each_length}
 use Rattle.ft_common.proofs.Options.{none_some}
 use Rattle.ft_check.proofs.GoalsTaken.{KnownRule, rule_gone, rule_known}
 
-pub named_rule_stands : (W : Store) (r : ℕ) (R : ℕ × Rule) → rule_named W r ≡ Some R → (r ≡ R.0) × (rule_at W.rules r ≡ Some R.1)
+pub named_rule_stands : (W : Declarations) (r : ℕ) (R : ℕ × Rule) → rule_named W r ≡ Some R → (r ≡ R.0) × (rule_at W.rules r ≡ Some R.1)
 named_rule_stands W r R h = go (rule_at W.rules r) refl h
   where
     go : (o : Option Rule) → rule_at W.rules r ≡ o → option_map (λ Q. (r, Q)) o ≡ Some R → (r ≡ R.0) × (rule_at W.rules r ≡ Some R.1)
@@ -33,16 +33,16 @@ named_rule_stands W r R h = go (rule_at W.rules r) refl h
         (ap (λ (x : ℕ × Rule). x.0) same, e ∙ ap (λ (x : ℕ × Rule). Some x.1) same)
 
 -- A rule of a good list is read by its line, and its goal by the entry of the conclusion.
-pub no_rule : {P : Type 0} (items : List Item) (r : ℕ) (R : ℕ × Rule) → Good items → rule_named (store_of items) r ≡ Some R → None ≡ option_map line_of (nth (rules_in items) r) → P
-no_rule items r R g e h = rule_gone items r R.1 g (named_rule_stands (store_of items) r R e).1 h
+pub no_rule : {P : Type 0} (items : List Item) (r : ℕ) (R : ℕ × Rule) → Good items → rule_named (declared_by items) r ≡ Some R → None ≡ option_map line_of (nth (rules_in items) r) → P
+no_rule items r R g e h = rule_gone items r R.1 g (named_rule_stands (declared_by items) r R e).1 h
 
-known : (items : List Item) (r : ℕ) (ms : List ℕ) (p : ℕ) (R : ℕ × Rule) → Good items → rule_named (store_of items) r ≡ Some R → Some (ms, p) ≡ option_map line_of (nth (rules_in items) r) → KnownRule (store_of items) ms p R.1
-known items r ms p R g e h = rule_known items r ms p R.1 g (named_rule_stands (store_of items) r R e).1 h
+known : (items : List Item) (r : ℕ) (ms : List ℕ) (p : ℕ) (R : ℕ × Rule) → Good items → rule_named (declared_by items) r ≡ Some R → Some (ms, p) ≡ option_map line_of (nth (rules_in items) r) → KnownRule (store_of items) ms p R.1
+known items r ms p R g e h = rule_known items r ms p R.1 g (named_rule_stands (declared_by items) r R e).1 h
 
-pub no_goal_found : {P : Type 0} (items : List Item) (r : ℕ) (ms : List ℕ) (p : ℕ) (R : ℕ × Rule) → Good items → rule_named (store_of items) r ≡ Some R → Some (ms, p) ≡ option_map line_of (nth (rules_in items) r) → None ≡ entry_named (store_of items) p → P
+pub no_goal_found : {P : Type 0} (items : List Item) (r : ℕ) (ms : List ℕ) (p : ℕ) (R : ℕ × Rule) → Good items → rule_named (declared_by items) r ≡ Some R → Some (ms, p) ≡ option_map line_of (nth (rules_in items) r) → None ≡ entry_named (store_of items) p → P
 no_goal_found items r ms p R g e h q = let k = known items r ms p R g e h in none_some (q ∙ k.line.is)
 
-goal_found : (items : List Item) (r : ℕ) (ms : List ℕ) (p : ℕ) (R : ℕ × Rule) (a : Assertion) (o : Option Claim) → Good items → rule_named (store_of items) r ≡ Some R → Some (ms, p) ≡ option_map line_of (nth (rules_in items) r)
+goal_found : (items : List Item) (r : ℕ) (ms : List ℕ) (p : ℕ) (R : ℕ × Rule) (a : Assertion) (o : Option Claim) → Good items → rule_named (declared_by items) r ≡ Some R → Some (ms, p) ≡ option_map line_of (nth (rules_in items) r)
     → Some a ≡ entry_named (store_of items) p → (is_thesis a.statement ≡ false → is_plain a.statement ≡ true → o ≡ Some (claim_in a.statement)) → o ≡ Some R.1.conclusion
 goal_found items r ms p R a o g e h q f =
     let k = known items r ms p R g e h in
@@ -50,19 +50,19 @@ goal_found items r ms p R a o g e h q f =
     f (ap (λ (x : Assertion). is_thesis x.statement) same ∙ k.line.boundary) (ap (λ (x : Assertion). is_plain x.statement) same ∙ k.line.plain)
     ∙ ap Some (ap (λ (x : Assertion). claim_in x.statement) same ∙ sym k.conclusion)
 
-pub no_goal_read : {P : Type 0} (items : List Item) (r : ℕ) (ms : List ℕ) (p : ℕ) (R : ℕ × Rule) (a : Assertion) → Good items → rule_named (store_of items) r ≡ Some R → Some (ms, p) ≡ option_map line_of (nth (rules_in items) r)
+pub no_goal_read : {P : Type 0} (items : List Item) (r : ℕ) (ms : List ℕ) (p : ℕ) (R : ℕ × Rule) (a : Assertion) → Good items → rule_named (declared_by items) r ≡ Some R → Some (ms, p) ≡ option_map line_of (nth (rules_in items) r)
     → Some a ≡ entry_named (store_of items) p → (is_thesis a.statement ≡ false → is_plain a.statement ≡ true → None ≡ Some (claim_in a.statement)) → P
 no_goal_read items r ms p R a g e h q f = none_some (goal_found items r ms p R a None g e h q f)
 
-pub rule_read : (ts : List Expression) (items : List Item) (r : ℕ) (x : RuleAt) (ms : List ℕ) (p : ℕ) (R : ℕ × Rule) (a : Assertion) → Good items → rule_named (store_of items) r ≡ Some R → Some (ms, p) ≡ option_map line_of (nth (rules_in items) r)
+pub rule_read : (ts : List Expression) (items : List Item) (r : ℕ) (x : RuleAt) (ms : List ℕ) (p : ℕ) (R : ℕ × Rule) (a : Assertion) → Good items → rule_named (declared_by items) r ≡ Some R → Some (ms, p) ≡ option_map line_of (nth (rules_in items) r)
     → Some a ≡ entry_named (store_of items) p → (is_thesis a.statement ≡ false → is_plain a.statement ≡ true → Some (goal_in ts x.goal) ≡ Some (claim_in a.statement))
-    → x.symbol ≡ r → x.metavariables.now ≡ ms → IsRule ts (store_of items) x R
+    → x.symbol ≡ r → x.metavariables.now ≡ ms → IsRule ts (declared_by items) x R
 rule_read ts items r x ms p R a g e h q f s m =
     let k = known items r ms p R g e h in
     record {
-      number = s ∙ (named_rule_stands (store_of items) r R e).0;
+      number = s ∙ (named_rule_stands (declared_by items) r R e).0;
       declared = k.line.premises;
-      are = ap (each (metavariable_named (store_of items))) m ∙ k.line.are;
+      are = ap (each (metavariable_named (declared_by items))) m ∙ k.line.are;
       premises = k.premises;
       conclusion = same_Some _ _ (goal_found items r ms p R a (Some (goal_in ts x.goal)) g e h q f);
     }
@@ -85,14 +85,14 @@ pub union_none : {P : Type 0} (W : Store) (ps : List ℕ) (given : List Assertio
 union_none W ps given k h l e = let x = each_at (entry_named W) ps given k (get_or ps k 0) h l refl in none_some (e ∙ x.1)
 
 -- the metavariables of the premises
-pub numbers_are : (W : Store) (ms : List ℕ) (ds : List (ℕ × Declared)) → each (metavariable_named W) ms ≡ Some ds → map (λ (q : ℕ × Statement). q.0) (premises_of ds) ≡ ms
+pub numbers_are : (W : Declarations) (ms : List ℕ) (ds : List (ℕ × Declared)) → each (metavariable_named W) ms ≡ Some ds → map (λ (q : ℕ × Statement). q.0) (premises_of ds) ≡ ms
 numbers_are W [] ds h = ap (λ ds. map (λ (q : ℕ × Statement). q.0) (premises_of ds)) (sym (same_Some [] ds h))
 numbers_are W (m ∷ ms) ds h =
     let s = each_first (metavariable_named W) m ms ds h in
     ap (λ ds. map (λ (q : ℕ × Statement). q.0) (premises_of ds)) s.4 ∙ ap₂ (λ n ns. n ∷ ns) (named W m s.0 s.2).0 (numbers_are W ms s.1 s.3)
 
 -- what the program compares, in the rule's own terms
-pub at_these : (ts : List Expression) (W : Store) (r : RuleAt) (R : ℕ × Rule) (xs : List Statement) (i : ℕ → ℕ → Option Expression) (a : Arguments) (list : List Compared) (b : Bool) (S Q : List Atom) (e : AnyEntry) (x : Option Reason)
+pub at_these : (ts : List Expression) (W : Declarations) (r : RuleAt) (R : ℕ × Rule) (xs : List Statement) (i : ℕ → ℕ → Option Expression) (a : Arguments) (list : List Compared) (b : Bool) (S Q : List Atom) (e : AnyEntry) (x : Option Reason)
     → IsRule ts W r R → i ≡ instance_of R.1.premises (heads xs) → a ≡ heads xs → all_same ts (instantiate (instance_of R.1.premises (heads xs))) list ≡ b → S ≡ Q
     → x ≡ reason_of_result (when (all_same ts (instantiate i) list) (plain (fill_goal (map_claim (instantiate i) (goal_in ts r.goal)) (symbol r.symbol a)))) S e
     → x ≡ reason_of_result (when b (plain (fill_goal (conclusion_at R.1 (heads xs)) (symbol R.0 (heads xs))))) Q e

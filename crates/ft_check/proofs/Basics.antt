@@ -3,7 +3,7 @@ use Rattle.std.proofs.Common.{◌≡◌, ℕ, zero, suc, Option, Some, None, Lis
 use Rattle.std.specs.Prelude.{option_map, option_and_then}
 use Rattle.std.proofs.lemmas.Option.{same_Some}
 use Rattle.ft_common.proofs.Options.{none_some}
-use Rattle.ft_items.specs.Store.{Declared, Store, each, metavariable_named, nth}
+use Rattle.ft_items.specs.Store.{Declared, each, metavariable_named, nth, Declarations}
 
 pub nth_map : {A B : Type 0} (f : A → B) (xs : List A) (n : ℕ) → nth (map f xs) n ≡ option_map f (nth xs n)
 nth_map f [] n = refl
@@ -20,7 +20,7 @@ each_first {A} {B} f x xs ys h = go (f x) refl (each f xs) refl h
     go (Some y) e (Some zs) d h = (y, zs, e, d, sym (same_Some (y ∷ zs) ys h))
 
 -- a metavariable that is named has its number, and is declared
-pub named : (W : Store) (m : ℕ) (d : ℕ × Declared) → metavariable_named W m ≡ Some d → (d.0 ≡ m) × (nth W.metavariables m ≡ Some d.1)
+pub named : (W : Declarations) (m : ℕ) (d : ℕ × Declared) → metavariable_named W m ≡ Some d → (d.0 ≡ m) × (nth W.metavariables m ≡ Some d.1)
 named W m d h = go (nth W.metavariables m) refl h
   where
     go : (o : Option Declared) → nth W.metavariables m ≡ o → option_map (λ c. (m, c)) o ≡ Some d → (d.0 ≡ m) × (nth W.metavariables m ≡ Some d.1)

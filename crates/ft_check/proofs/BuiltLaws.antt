@@ -5,11 +5,11 @@ use Rattle.ft_theory.specs.Statements.{Statement}
 use Rattle.ft_items.specs.Sets.{Atom}
 use Rattle.ft_items.specs.Equal.{is_thesis}
 use Rattle.ft_items.specs.Item.{by_var, by_generic, by_meta, by_metacong, by_abs, by_subst, by_substeq, by_refl, by_sym, by_trans, by_conv, by_conveq, by_left, by_right, by_typeof, by_domain, by_boundary, by_widen, by_btype, by_bterm, by_beqty, by_beqtm, by_rule, by_rulewith, by_inst, by_cong, by_convprem, by_convback, by_arg, by_natural, by_metainst, Stated, Entry, Item, variable, metavariable, rule, entry, shown}
-use Rattle.ft_items.specs.Store.{Store, Resolved, each, entry_named, rule_named, with_one, with_two, with_three, with_four, resolve, empty_store, add}
+use Rattle.ft_items.specs.Store.{Store, Resolved, each, entry_named, rule_named, with_one, with_two, with_three, with_four, resolve, empty_store, add, Declarations}
 use Rattle.ft_items.specs.Rows.{conclusion, result_set, concludes_thesis}
-use Rattle.ft_items.specs.Good.{Reject, Kind, Premise, unless, of_kind, same_kind, reason_of_result, reason_of_entry, reason_in, found_at, first_rejected, Counts, counts, Accepted, Rejected, verdict_by}
+use Rattle.ft_items.specs.Good.{Reject, Kind, Premise, unless, of_kind, same_truth, reason_of_result, reason_of_entry, reason_in, found_at, first_rejected, Counts, counts, Accepted, Rejected, verdict_by}
 use Rattle.ft_common.proofs.Options.{none_some}
-use Rattle.ft_check.specs.Built.{is_built, conclusion_built, reason_by, reason_built, first_rejected_by, IsBuilt, AllBuilt, BuiltIsVerdict, AcceptedIsAccepted, RejectedIsRejected}
+use Rattle.ft_verdicts.specs.Built.{is_built, conclusion_built, reason_by, reason_built, first_rejected_by, IsBuilt, AllBuilt, BuiltIsVerdict, AcceptedIsAccepted, RejectedIsRejected}
 
 some_none : {A : Type 0} {x : A} {P : Type 0} → Some x ≡ None → P
 some_none {A} {x} e = none_some (sym e)
@@ -58,23 +58,23 @@ resolved_built W (by_rule r ps) s e = two_built by_rule true (λ x y. refl) _ _ 
 resolved_built W (by_rulewith r b ps) s e = three_built by_rulewith true (λ x y z. refl) _ _ _ s e
 resolved_built W (by_inst r ps) s e = two_built by_inst false (λ x y. refl) _ _ s e
 resolved_built W (by_cong r ps es) s e = three_built by_cong false (λ x y z. refl) _ _ _ s e
-resolved_built W (by_convprem r ps es q) s e = four_built by_convprem false (λ x y z w. refl) (rule_named W r) (each (entry_named W) ps) (each (entry_named W) es) (entry_named W q) s e
-resolved_built W (by_convback r ps es q) s e = four_built by_convback false (λ x y z w. refl) (rule_named W r) (each (entry_named W) ps) (each (entry_named W) es) (entry_named W q) s e
+resolved_built W (by_convprem r ps es q) s e = four_built by_convprem false (λ x y z w. refl) (rule_named W.declarations r) (each (entry_named W) ps) (each (entry_named W) es) (entry_named W q) s e
+resolved_built W (by_convback r ps es q) s e = four_built by_convback false (λ x y z w. refl) (rule_named W.declarations r) (each (entry_named W) ps) (each (entry_named W) es) (entry_named W q) s e
 resolved_built W (by_arg i p) s e = one_built (by_arg i) false (λ x. refl) _ s e
 resolved_built W (by_natural p) s e = one_built by_natural false (λ x. refl) _ s e
 resolved_built W (by_metainst p ms qs) s e = three_built by_metainst false (λ x y z. refl) _ _ _ s e
 
 -- The reasons where the step is built.
-entry_same : (W : Store) (o : Option Resolved) (e : Entry) → ((s : Resolved) → o ≡ Some s → is_built s ≡ true) → reason_by conclusion_built W o e ≡ reason_of_entry W o e
+entry_same : (W : Declarations) (o : Option Resolved) (e : Entry) → ((s : Resolved) → o ≡ Some s → is_built s ≡ true) → reason_by conclusion_built W o e ≡ reason_of_entry W o e
 entry_same W None e h = refl
 entry_same W (Some s) e h =
-    ap (λ b. unless (of_kind s && same_kind (concludes_thesis s) (is_thesis e.statement)) Kind (reason_of_result (cond b (conclusion W s) None) (result_set s) e)) (h s refl)
+    ap (λ b. unless (of_kind s && same_truth (concludes_thesis s) (is_thesis e.statement)) Kind (reason_of_result (cond b (conclusion W s) None) (result_set s) e)) (h s refl)
 
 pub built_same : (W : Store) (i : Item) → IsBuilt i → reason_built W i ≡ reason_in W i
 built_same W (variable v n p) h = refl
 built_same W (metavariable n p) h = refl
 built_same W (rule n ms p) h = refl
-built_same W (entry e) h = entry_same W (resolve W e.step) e (λ s q. resolved_built W e.step s q ∙ h)
+built_same W (entry e) h = entry_same W.declarations (resolve W e.step) e (λ s q. resolved_built W e.step s q ∙ h)
 built_same W (shown p) h = refl
 
 -- Where there is no reason, there is none; another one than Premise is the same.
@@ -88,26 +88,26 @@ tested_other k true c S e why n h = h
 tested_other true false c S e why n h = absurd (n (sym (same_Some Premise why h)))
 tested_other false false c S e why n h = h
 
-entry_none : (W : Store) (o : Option Resolved) (e : Entry) → reason_by conclusion_built W o e ≡ None → reason_of_entry W o e ≡ None
+entry_none : (W : Declarations) (o : Option Resolved) (e : Entry) → reason_by conclusion_built W o e ≡ None → reason_of_entry W o e ≡ None
 entry_none W None e h = h
-entry_none W (Some s) e h = tested_none (of_kind s && same_kind (concludes_thesis s) (is_thesis e.statement)) (is_built s) (conclusion W s) (result_set s) e h
+entry_none W (Some s) e h = tested_none (of_kind s && same_truth (concludes_thesis s) (is_thesis e.statement)) (is_built s) (conclusion W s) (result_set s) e h
 
-entry_other : (W : Store) (o : Option Resolved) (e : Entry) (why : Reject) → why ≢ Premise → reason_by conclusion_built W o e ≡ Some why → reason_of_entry W o e ≡ Some why
+entry_other : (W : Declarations) (o : Option Resolved) (e : Entry) (why : Reject) → why ≢ Premise → reason_by conclusion_built W o e ≡ Some why → reason_of_entry W o e ≡ Some why
 entry_other W None e why n h = h
-entry_other W (Some s) e why n h = tested_other (of_kind s && same_kind (concludes_thesis s) (is_thesis e.statement)) (is_built s) (conclusion W s) (result_set s) e why n h
+entry_other W (Some s) e why n h = tested_other (of_kind s && same_truth (concludes_thesis s) (is_thesis e.statement)) (is_built s) (conclusion W s) (result_set s) e why n h
 
 pub built_none : (W : Store) (i : Item) → reason_built W i ≡ None → reason_in W i ≡ None
 built_none W (variable v n p) h = h
 built_none W (metavariable n p) h = h
 built_none W (rule n ms p) h = h
-built_none W (entry e) h = entry_none W (resolve W e.step) e h
+built_none W (entry e) h = entry_none W.declarations (resolve W e.step) e h
 built_none W (shown p) h = h
 
 built_other : (W : Store) (i : Item) (why : Reject) → why ≢ Premise → reason_built W i ≡ Some why → reason_in W i ≡ Some why
 built_other W (variable v n p) why d h = h
 built_other W (metavariable n p) why d h = h
 built_other W (rule n ms p) why d h = h
-built_other W (entry e) why d h = entry_other W (resolve W e.step) e why d h
+built_other W (entry e) why d h = entry_other W.declarations (resolve W e.step) e why d h
 built_other W (shown p) why d h = h
 
 -- The first rejected item.

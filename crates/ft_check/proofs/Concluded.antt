@@ -8,7 +8,7 @@ use Rattle.ft_theory.specs.Rules.{look_up}
 use Rattle.ft_theory.specs.Statements.{Statement, abstracted, close_statement, has_type, plain}
 use Rattle.ft_items.specs.Item.{Entry as AnyEntry}
 use Rattle.ft_items.specs.Sets.{Atom, insert, same_set, union, var, without}
-use Rattle.ft_items.specs.Store.{Annotation, Assertion, Store, variable_named}
+use Rattle.ft_items.specs.Store.{Annotation, Assertion, variable_named, Declarations}
 use Rattle.ft_items.specs.Rows.{depends, term_equation_boundary, when}
 use Rattle.ft_items.specs.Equal.{equal_statements}
 use Rattle.ft_items.specs.Good.{Reject as Reason, Premise as premise, Conclusion as conclusion, Set as set, reason_of_result, unless}
@@ -40,7 +40,7 @@ against_three b a d c g k o p q x y z w S e r h h' i i' j j' l m v u n t =
     ∙ ap (λ (k : Assertion). reason_of_result (term_equation_boundary a.statement c.statement k.statement) (union a.set (union c.set k.set)) e) (same_Some g k (j ∙ j'))
 
 -- A variable, and abstraction of one.
-pub variable_stands : (W : Store) (v : ℕ) (d : ℕ × Annotation) → variable_named W v ≡ Some d → (v ≡ d.0) × (look_up W.variables v ≡ Some d.1)
+pub variable_stands : (W : Declarations) (v : ℕ) (d : ℕ × Annotation) → variable_named W v ≡ Some d → (v ≡ d.0) × (look_up W.variables v ≡ Some d.1)
 variable_stands W v d h = go (look_up W.variables v) refl h
   where
     go : (o : Option Annotation) → look_up W.variables v ≡ o → option_map (λ a. (v, a)) o ≡ Some d → (v ≡ d.0) × (look_up W.variables v ≡ Some d.1)

@@ -19,7 +19,7 @@ use Rattle.ft_stated.specs.declared.stated.Stated.{Stated}
 use Rattle.ft_stated.specs.declared.stated.Stated.TheVariants.{Var, Met, Rule as RuleLine, Thesis, Boundary, Shown}
 use Rattle.ft_stated.specs.declared.step.StatedStep.{StatedStep}
 use Rattle.ft_stated.specs.declared.step.StatedStep.TheVariants as step
-use Rattle.ft_check.specs.Built.{is_built, conclusion_built, reason_built}
+use Rattle.ft_verdicts.specs.Built.{is_built, conclusion_built, reason_built}
 use Rattle.ft_check.specs.Entries.{with_step}
 use Rattle.ft_check.specs.Kinds.{kinds_right}
 use Rattle.ft_check.specs.Rejects.{reason_of}
@@ -29,7 +29,7 @@ use Rattle.ft_check.proofs.BuiltLaws.{resolved_built}
 
 -- the result of a step
 abbrev pub result_of : Store → Resolved → Assertion → StatedStep → Option Reason
-result_of W s a t = reason_of_result (conclusion_built W s) (result_set s) (with_step a (stated_step t))
+result_of W s a t = reason_of_result (conclusion_built W.declarations s) (result_set s) (with_step a (stated_step t))
 
 pub btype_result : (W : Store) (t : StatedStep) (a : Assertion) (r : Option Reason) (s : Resolved) → t ≡ step.Btype → resolve W (stated_step t) ≡ Some s
     → r ≡ reason_of_result (Some (plain type_goal)) [] (with_step a (stated_step t)) → r ≡ result_of W s a t
@@ -70,17 +70,17 @@ three_result W t f (Some b) (Some c) None a x s e q h = none_some (sym e ∙ q)
 three_result W t f (Some b) (Some c) (Some d) a x s e q h = same_reason _ _ x (ap (λ s. result_of W s a t) (same_Some (f b c d) s (sym e ∙ q))) (h b c d refl refl refl)
 
 pub rule_result : {E : Type 0} (W : Store) (t : StatedStep) (r : ℕ) (ps : List ℕ) (a : Assertion) (x : Result (Option Reject) E) (b : Bool) (s : Resolved) → t ≡ step.Rule r ps → resolve W (stated_step t) ≡ Some s → kinds_right b s ≡ true
-    → ((R : ℕ × Rule) (given : List Assertion) → rule_named W r ≡ Some R → each (entry_named W) ps ≡ Some given → all_theses given ≡ true
+    → ((R : ℕ × Rule) (given : List Assertion) → rule_named W.declarations r ≡ Some R → each (entry_named W) ps ≡ Some given → all_theses given ≡ true
     → IfOk x (λ y. option_map reason_of y ≡ reason_of_result (rule_instance R.0 R.1 (statements given)) (unions (sets given)) (with_step a (stated_step t))))
     → IfOk x (λ y. option_map reason_of y ≡ result_of W s a t)
-rule_result W t r ps a x b s e q k h = go (rule_named W r) refl (each (entry_named W) ps) refl (sym (ap (λ t. resolve W (stated_step t)) e) ∙ q)
+rule_result W t r ps a x b s e q k h = go (rule_named W.declarations r) refl (each (entry_named W) ps) refl (sym (ap (λ t. resolve W (stated_step t)) e) ∙ q)
   where
     right : (R : ℕ × Rule) (given : List Assertion) → by_rule R given ≡ s → all_theses given ≡ true
     right R given same =
         let kinds : kinds_right b (by_rule R given) ≡ true = ap (kinds_right b) same ∙ k in
         (both (all_theses given) true (both (all_theses given && true) _ kinds).0).0
 
-    go : (o : Option (ℕ × Rule)) → rule_named W r ≡ o → (os : Option (List Assertion)) → each (entry_named W) ps ≡ os → with_two by_rule o os ≡ Some s → IfOk x (λ y. option_map reason_of y ≡ result_of W s a t)
+    go : (o : Option (ℕ × Rule)) → rule_named W.declarations r ≡ o → (os : Option (List Assertion)) → each (entry_named W) ps ≡ os → with_two by_rule o os ≡ Some s → IfOk x (λ y. option_map reason_of y ≡ result_of W s a t)
     go None f os g q = none_some q
     go (Some R) f None g q = none_some q
     go (Some R) f (Some given) g q =
@@ -88,10 +88,10 @@ rule_result W t r ps a x b s e q k h = go (rule_named W r) refl (each (entry_nam
         same_reason _ _ x (ap (λ s. result_of W s a t) same) (h R given f g (right R given same))
 
 pub rulewith_result : {E : Type 0} (W : Store) (t : StatedStep) (r p : ℕ) (ps : List ℕ) (a : Assertion) (x : Result (Option Reject) E) (b : Bool) (s : Resolved) → t ≡ step.Rulewith r p ps → resolve W (stated_step t) ≡ Some s → kinds_right b s ≡ true
-    → ((R : ℕ × Rule) (c : Assertion) (given : List Assertion) → rule_named W r ≡ Some R → entry_named W p ≡ Some c → is_thesis c.statement ≡ false → each (entry_named W) ps ≡ Some given → all_theses given ≡ true
+    → ((R : ℕ × Rule) (c : Assertion) (given : List Assertion) → rule_named W.declarations r ≡ Some R → entry_named W p ≡ Some c → is_thesis c.statement ≡ false → each (entry_named W) ps ≡ Some given → all_theses given ≡ true
     → IfOk x (λ y. option_map reason_of y ≡ reason_of_result (rule_instance_with R.0 R.1 c.statement (statements given)) (union c.set (unions (sets given))) (with_step a (stated_step t))))
     → IfOk x (λ y. option_map reason_of y ≡ result_of W s a t)
-rulewith_result W t r p ps a x b s e q k h = go (rule_named W r) refl (entry_named W p) refl (each (entry_named W) ps) refl (sym (ap (λ t. resolve W (stated_step t)) e) ∙ q)
+rulewith_result W t r p ps a x b s e q k h = go (rule_named W.declarations r) refl (entry_named W p) refl (each (entry_named W) ps) refl (sym (ap (λ t. resolve W (stated_step t)) e) ∙ q)
   where
     kinds : (R : ℕ × Rule) (c : Assertion) (given : List Assertion) → by_rulewith R c given ≡ s → (all_theses given ≡ true) × ((not (is_thesis c.statement) && true) ≡ true)
     kinds R c given same =
@@ -102,7 +102,7 @@ rulewith_result W t r p ps a x b s e q k h = go (rule_named W r) refl (entry_nam
     no_thesis true h = sym h
     no_thesis false h = refl
 
-    go : (o : Option (ℕ × Rule)) → rule_named W r ≡ o → (l : Option Assertion) → entry_named W p ≡ l → (os : Option (List Assertion)) → each (entry_named W) ps ≡ os → with_three by_rulewith o l os ≡ Some s → IfOk x (λ y. option_map reason_of y ≡ result_of W s a t)
+    go : (o : Option (ℕ × Rule)) → rule_named W.declarations r ≡ o → (l : Option Assertion) → entry_named W p ≡ l → (os : Option (List Assertion)) → each (entry_named W) ps ≡ os → with_three by_rulewith o l os ≡ Some s → IfOk x (λ y. option_map reason_of y ≡ result_of W s a t)
     go None f l m os g q = none_some q
     go (Some R) f None m os g q = none_some q
     go (Some R) f (Some c) m None g q = none_some q
@@ -189,7 +189,7 @@ pub unbuilt_result : (W : Store) (t : StatedStep) (a : Assertion) (s : Resolved)
     → ((r : ℕ) (b : ℕ) (ps : List ℕ) → t ≡ step.Rulewith r b ps → ⊥)
     → Some premise ≡ result_of W s a t
 unbuilt_result W t a s q n0 n1 n2 n3 n4 n5 n6 n7 n8 n9 n10 n11 n12 n13 n14 n15 n16 n17 n18 n19 n20 =
-    ap (λ b. reason_of_result (cond b (Rattle.ft_items.specs.Rows.conclusion W s) None) (result_set s) (with_step a (stated_step t))) (sym (resolved_built W (stated_step t) s q ∙ not_built t n0 n1 n2 n3 n4 n5 n6 n7 n8 n9 n10 n11 n12 n13 n14 n15 n16 n17 n18 n19 n20))
+    ap (λ b. reason_of_result (cond b (Rattle.ft_items.specs.Rows.conclusion W.declarations s) None) (result_set s) (with_step a (stated_step t))) (sym (resolved_built W (stated_step t) s q ∙ not_built t n0 n1 n2 n3 n4 n5 n6 n7 n8 n9 n10 n11 n12 n13 n14 n15 n16 n17 n18 n19 n20))
 
 -- an item without a step
 pub not_entry : (ts : List Expression) (s : Stated) → ((x : _) (S : _) (t : _) → s ≡ Thesis x S t → ⊥) → ((x : _) (S : _) (t : _) → s ≡ Boundary x S t → ⊥) → is_entry (item_in ts s) ≡ false

@@ -8,7 +8,7 @@ use Rattle.ft_theory.specs.Expressions.{Expression}
 use Rattle.ft_theory.specs.Statements.{Claim, Statement, plain}
 use Rattle.ft_items.specs.Item.{Name, Item}
 use Rattle.ft_items.specs.Equal.{equal_claims, equal_statements, fit_all, fits, is_thesis}
-use Rattle.ft_items.specs.Store.{Assertion, Declared, Store, declared, each, entry_named, metavariable_named, nth, premises_of, store_of, entries_in, metavariables_in}
+use Rattle.ft_items.specs.Store.{Assertion, Declared, Store, declared, each, entry_named, metavariable_named, nth, premises_of, store_of, entries_in, metavariables_in, declared_by}
 use Rattle.ft_items.specs.Rows.{statements}
 use Rattle.ft_items.specs.Good.{Good, all_theses}
 use Rattle.ft_items.proofs.Lists.{store_is}
@@ -35,7 +35,7 @@ pub record MetavariableKnown (items : List Item) (m : ℕ) (d : Declared) : Type
 declared_boundary : (x : Name × ℕ) (a : Assertion) (o : Option Assertion) → o ≡ Some a → (declared x o).boundary ≡ a.statement
 declared_boundary x a o e = ap (λ o. (declared x o).boundary) e
 
-pub metavariable_known : (items : List Item) (m : ℕ) (d : Declared) → Good items → nth (store_of items).metavariables m ≡ Some d → MetavariableKnown items m d
+pub metavariable_known : (items : List Item) (m : ℕ) (d : Declared) → Good items → nth (declared_by items).metavariables m ≡ Some d → MetavariableKnown items m d
 metavariable_known items m d g h = go (nth (metavariables_in items) m) refl
   where
     f : Name × ℕ → Declared
@@ -58,10 +58,10 @@ metavariable_known items m d g h = go (nth (metavariables_in items) m) refl
           kind = b.boundary;
         }
 
-pub no_boundary_named : {P : Type 0} (items : List Item) (m : ℕ) (d : Declared) → Good items → nth (store_of items).metavariables m ≡ Some d → None ≡ option_map (λ (x : Name × ℕ). x.1) (nth (metavariables_in items) m) → P
+pub no_boundary_named : {P : Type 0} (items : List Item) (m : ℕ) (d : Declared) → Good items → nth (declared_by items).metavariables m ≡ Some d → None ≡ option_map (λ (x : Name × ℕ). x.1) (nth (metavariables_in items) m) → P
 no_boundary_named items m d g h e = let k = metavariable_known items m d g h in none_some (e ∙ ap (option_map (λ (x : Name × ℕ). x.1)) k.stands)
 
-pub is_boundary_named : {A : Type 0} (items : List Item) (m p : ℕ) (d : Declared) (f : A → Assertion) (r : Option A) → Good items → nth (store_of items).metavariables m ≡ Some d
+pub is_boundary_named : {A : Type 0} (items : List Item) (m p : ℕ) (d : Declared) (f : A → Assertion) (r : Option A) → Good items → nth (declared_by items).metavariables m ≡ Some d
     → Some p ≡ option_map (λ (x : Name × ℕ). x.1) (nth (metavariables_in items) m) → option_map f r ≡ entry_named (store_of items) p → option_map (λ e. (f e).statement) r ≡ Some d.boundary
 is_boundary_named {A} items m p d f r g h e q =
     let k = metavariable_known items m d g h in
@@ -72,7 +72,7 @@ is_boundary_named {A} items m p d f r g h e q =
     go None e = none_some e
     go {a} (Some x) e = ap (λ (b : Assertion). Some b.statement) (same_Some (f x) a e)
 
-pub boundary_kind : (items : List Item) (m : ℕ) (d : Declared) → Good items → nth (store_of items).metavariables m ≡ Some d → is_thesis d.boundary ≡ false
+pub boundary_kind : (items : List Item) (m : ℕ) (d : Declared) → Good items → nth (declared_by items).metavariables m ≡ Some d → is_thesis d.boundary ≡ false
 boundary_kind items m d g h = let k = metavariable_known items m d g h in ap is_thesis k.boundary ∙ k.kind
 
 pub same_statement : (a b : Assertion) → Some a ≡ Some b → a.statement ≡ b.statement
@@ -125,11 +125,11 @@ no_same x a b e h = ap (λ y. y && a) (sym e) ∙ h
 
 -- the premises one by one
 pub fit_next : (W : Store) (ms ps : List ℕ) (ds : List (ℕ × Declared)) (given : List Assertion) (k m p : ℕ) (i : Statement → Statement) (a b c : Bool)
-    → each (metavariable_named W) ms ≡ Some ds → each (entry_named W) ps ≡ Some given → all_theses given ≡ true → length ms ≡ length ps → k < length ms → m ≡ get_or ms k 0 → p ≡ get_or ps k 0
-    → ((d : ℕ × Declared) (x : Assertion) → metavariable_named W m ≡ Some d → entry_named W p ≡ Some x → is_thesis x.statement ≡ true → c ≡ (b && fits x.statement (i d.1.boundary)))
+    → each (metavariable_named W.declarations) ms ≡ Some ds → each (entry_named W) ps ≡ Some given → all_theses given ≡ true → length ms ≡ length ps → k < length ms → m ≡ get_or ms k 0 → p ≡ get_or ps k 0
+    → ((d : ℕ × Declared) (x : Assertion) → metavariable_named W.declarations m ≡ Some d → entry_named W p ≡ Some x → is_thesis x.statement ≡ true → c ≡ (b && fits x.statement (i d.1.boundary)))
     → a ≡ (b && fit_all i (premises_of (drop k ds)) (statements (drop k given))) → a ≡ (c && fit_all i (premises_of (drop (k + 1) ds)) (statements (drop (k + 1) given)))
 fit_next W ms ps ds given k m p i a b c h q t same l e f step g =
-    let d = each_at (metavariable_named W) ms ds k m h l e in
+    let d = each_at (metavariable_named W.declarations) ms ds k m h l e in
     let x = each_at (entry_named W) ps given k p q (subst (λ n. k < n) same l) f in
     let left : all_theses (x.0 ∷ drop (k + 1) given) ≡ true = ap all_theses (sym x.2) ∙ theses_drop given k t in
     let kind : is_thesis x.0.statement ≡ true = (both (is_thesis x.0.statement) (all_theses (drop (k + 1) given)) left).0 in
@@ -138,10 +138,10 @@ fit_next W ms ps ds given k m p i a b c h q t same l e f step g =
     ∙ ap (λ z. z && fit_all i (premises_of (drop (k + 1) ds)) (statements (drop (k + 1) given))) (sym (step d.0 x.0 d.1 x.1 kind))
 
 pub fit_end : (W : Store) (ms ps : List ℕ) (ds : List (ℕ × Declared)) (given : List Assertion) (k : ℕ) (i : Statement → Statement) (a b : Bool)
-    → each (metavariable_named W) ms ≡ Some ds → each (entry_named W) ps ≡ Some given → length ms ≡ length ps → length ms ≤ k
+    → each (metavariable_named W.declarations) ms ≡ Some ds → each (entry_named W) ps ≡ Some given → length ms ≡ length ps → length ms ≤ k
     → a ≡ (b && fit_all i (premises_of (drop k ds)) (statements (drop k given))) → b ≡ a
 fit_end W ms ps ds given k i a b h q same l g =
-    let m : length ds ≤ k = subst (λ n. n ≤ k) (sym (each_length (metavariable_named W) ms ds h)) l in
+    let m : length ds ≤ k = subst (λ n. n ≤ k) (sym (each_length (metavariable_named W.declarations) ms ds h)) l in
     let n : length given ≤ k = subst (λ n. n ≤ k) (same ∙ sym (each_length (entry_named W) ps given q)) l in
     sym (g ∙ ap₂ (λ ds xs. b && fit_all i (premises_of ds) (statements xs)) (drop_all k ds m) (drop_all k given n) ∙ and-true b)
 
@@ -152,9 +152,9 @@ fit_as_many i (d ∷ ds) [] n = refl
 fit_as_many i (d ∷ ds) (x ∷ xs) n = ap (λ b. fits x.statement (i d.1.boundary) && b) (fit_as_many i ds xs (λ e. n (ap suc e))) ∙ and-false (fits x.statement (i d.1.boundary))
 
 pub fit_other : (W : Store) (ms ps : List ℕ) (ds : List (ℕ × Declared)) (given : List Assertion) (i : Statement → Statement) (b : Bool)
-    → each (metavariable_named W) ms ≡ Some ds → each (entry_named W) ps ≡ Some given → length ms ≢ length ps → false ≡ (b && fit_all i (premises_of ds) (statements given))
+    → each (metavariable_named W.declarations) ms ≡ Some ds → each (entry_named W) ps ≡ Some given → length ms ≢ length ps → false ≡ (b && fit_all i (premises_of ds) (statements given))
 fit_other W ms ps ds given i b h q n =
-    sym (and-false b) ∙ ap (λ z. b && z) (sym (fit_as_many i ds given (λ e. n (sym (each_length (metavariable_named W) ms ds h) ∙ e ∙ each_length (entry_named W) ps given q))))
+    sym (and-false b) ∙ ap (λ z. b && z) (sym (fit_as_many i ds given (λ e. n (sym (each_length (metavariable_named W.declarations) ms ds h) ∙ e ∙ each_length (entry_named W) ps given q))))
 
 -- a plain goal
 pub plain_goal : (ts : List Expression) (As : List ℕ) (g c : Claim) → is_nil As ≡ true → equal_claims g c ≡ equal_statements (under ts As (plain g)) (plain c)

@@ -7,7 +7,7 @@ use Rattle.ft_theory.specs.Statements.{plain}
 use Rattle.ft_theory.specs.Rules.{Rule, rule_at}
 use Rattle.ft_items.specs.Item.{Name, Item}
 use Rattle.ft_items.specs.Equal.{is_thesis, is_plain}
-use Rattle.ft_items.specs.Store.{Store, claim_in, premises_of, ruled, each, entry_named, metavariable_named, store_of, rules_in, nth}
+use Rattle.ft_items.specs.Store.{Store, claim_in, premises_of, ruled, each, entry_named, metavariable_named, store_of, rules_in, nth, declared_by}
 use Rattle.ft_items.specs.Good.{Good}
 use Rattle.ft_judge.specs.Meaning.{goal_in, under, thesis_in, boundary_in}
 use Rattle.ft_judge.specs.declared.judgement.Goal.{Goal}
@@ -32,11 +32,11 @@ pub goal_taken : (ts : List Expression) (b : BoundaryValue) → is_plain (bounda
 goal_taken ts b h = goal_under ts b.domains b.goal h
 
 -- A rule of a good list is that of its line.
-pub rule_gone : {P : Type 0} (items : List Item) (r : ℕ) (R : Rule) → Good items → rule_at (store_of items).rules r ≡ Some R → None ≡ option_map line_of (nth (rules_in items) r) → P
+pub rule_gone : {P : Type 0} (items : List Item) (r : ℕ) (R : Rule) → Good items → rule_at (declared_by items).rules r ≡ Some R → None ≡ option_map line_of (nth (rules_in items) r) → P
 rule_gone {P} items r R g e h = go (nth (rules_in items) r) refl h
   where
     go : (o : Option (Name × List ℕ × ℕ)) → nth (rules_in items) r ≡ o → None ≡ option_map line_of o → P
-    go None q h = none_some (sym (rule_is_line items r g ∙ ap (option_map (λ (x : Name × List ℕ × ℕ). ruled (each (metavariable_named (store_of items)) x.1) (entry_named (store_of items) x.2))) q) ∙ e)
+    go None q h = none_some (sym (rule_is_line items r g ∙ ap (option_map (λ (x : Name × List ℕ × ℕ). ruled (each (metavariable_named (declared_by items)) x.1) (entry_named (store_of items) x.2))) q) ∙ e)
     go (Some x) q h = none_some h
 
 pub record KnownRule (X : Store) (ms : List ℕ) (p : ℕ) (R : Rule) : Type 0 where
@@ -44,7 +44,7 @@ pub record KnownRule (X : Store) (ms : List ℕ) (p : ℕ) (R : Rule) : Type 0 w
   pub premises : R.premises ≡ premises_of line.premises
   pub conclusion : R.conclusion ≡ claim_in line.conclusion.statement
 
-pub rule_known : (items : List Item) (r : ℕ) (ms : List ℕ) (p : ℕ) (R : Rule) → Good items → rule_at (store_of items).rules r ≡ Some R → Some (ms, p) ≡ option_map line_of (nth (rules_in items) r) → KnownRule (store_of items) ms p R
+pub rule_known : (items : List Item) (r : ℕ) (ms : List ℕ) (p : ℕ) (R : Rule) → Good items → rule_at (declared_by items).rules r ≡ Some R → Some (ms, p) ≡ option_map line_of (nth (rules_in items) r) → KnownRule (store_of items) ms p R
 rule_known items r ms p R g e h = go (nth (rules_in items) r) refl h
   where
     X : Store
@@ -53,7 +53,7 @@ rule_known items r ms p R g e h = go (nth (rules_in items) r) refl h
     known : (x : Name × List ℕ × ℕ) → nth (rules_in items) r ≡ Some x → line_of x ≡ (ms, p) → KnownRule X ms p R
     known (n, ms', p') q same =
         let l : Ruled X ms' p' = rule_line items r (n, ms', p') g q in
-        let is : Some (ruled (each (metavariable_named X) ms') (entry_named X p')) ≡ Some R = sym (rule_is_line items r g ∙ ap (option_map (λ (x : Name × List ℕ × ℕ). ruled (each (metavariable_named X) x.1) (entry_named X x.2))) q) ∙ e in
+        let is : Some (ruled (each (metavariable_named X.declarations) ms') (entry_named X p')) ≡ Some R = sym (rule_is_line items r g ∙ ap (option_map (λ (x : Name × List ℕ × ℕ). ruled (each (metavariable_named X.declarations) x.1) (entry_named X x.2))) q) ∙ e in
         let R_is : ruled (Some l.premises) (Some l.conclusion) ≡ R = ap₂ ruled (sym l.are) (sym l.is) ∙ same_Some _ R is in
         subst (λ (z : List ℕ × ℕ). KnownRule X z.0 z.1 R) same
         (record { line = l; premises = ap (λ (Q : Rule). Q.premises) (sym R_is); conclusion = ap (λ (Q : Rule). Q.conclusion) (sym R_is) })

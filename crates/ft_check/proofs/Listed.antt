@@ -6,15 +6,15 @@ use Rattle.ft_theory.specs.Statements.{Statement}
 use Rattle.ft_items.specs.Sets.{Atom}
 use Rattle.ft_items.specs.Equal.{is_thesis}
 use Rattle.ft_items.specs.Item.{Item, Entry, variable, metavariable, rule, entry, shown}
-use Rattle.ft_items.specs.Store.{Store, Resolved, Derivable, nth, resolve, add, add_all, empty_store, store_of, entries_in, rules_in}
+use Rattle.ft_items.specs.Store.{Store, Resolved, Derivable, nth, resolve, add, add_all, empty_store, store_of, entries_in, rules_in, declared_by}
 use Rattle.ft_items.specs.Levels.{level}
 use Rattle.ft_items.specs.Rows.{conclusion, result_set, concludes_thesis}
-use Rattle.ft_items.specs.Good.{Reject, Kind, unless, of_kind, same_kind, reason_of_result, Good, level_of_step, level_in, shown_in, marks, greatest_level, found_at, Counts, counts, Accepted, Rejected, verdict_by, verdict}
+use Rattle.ft_items.specs.Good.{Reject, Kind, unless, of_kind, same_truth, reason_of_result, Good, level_of_step, level_in, shown_in, marks, greatest_level, found_at, Counts, counts, Accepted, Rejected, verdict_by, verdict}
 use Rattle.ft_items.proofs.Lists.{entries_all}
 use Rattle.ft_sound.specs.Soundness.{EachEntry}
 use Rattle.ft_sound.proofs.Theorems.{accepted_are_good, accepted_are_derivable}
 use Rattle.ft_stated.specs.Places.{is_entry, is_rule}
-use Rattle.ft_check.specs.Built.{is_built, conclusion_built, reason_by, reason_built, first_rejected_by, verdict_built, AllBuilt}
+use Rattle.ft_verdicts.specs.Built.{is_built, conclusion_built, reason_by, reason_built, first_rejected_by, verdict_built, AllBuilt}
 use Rattle.ft_check.specs.Rejects.{reason_of}
 use Rattle.ft_check.specs.Verdicts.{verdict_of}
 use Rattle.ft_check.specs.declared.verdict.Verdict.{Verdict as Told}
@@ -139,7 +139,7 @@ counts_last items k x r r' e e' s s' l l' m h n n' c rs es ss ls ms =
     let g = good_so_far before n in
     let g' = good_so_far (take (k + 1) items) n' in
     let after : take (k + 1) items ≡ before ++ (x ∷ []) = take_nth items k x h in
-    let rule_count : r' ≡ length (store_of (take (k + 1) items)).rules =
+    let rule_count : r' ≡ length (declared_by (take (k + 1) items)).rules =
     rs ∙ ap (λ n. n + cond (is_rule x) 1 0) (ap (λ (c : Counts). c.rules) c ∙ rules_many before g) ∙ sym (rules_last before x) ∙ ap (λ xs. length (rules_in xs)) (sym after) ∙ sym (rules_many (take (k + 1) items) g') in
     let entry_count : e' ≡ length (store_of (take (k + 1) items)).entries =
     es ∙ ap (λ n. n + cond (is_entry x) 1 0) (ap (λ (c : Counts). c.entries) c ∙ entries_number before) ∙ sym (entries_last before x) ∙ ap (λ xs. length (entries_in xs)) (sym after) ∙ sym (entries_number (take (k + 1) items)) in
@@ -179,12 +179,12 @@ pub record BuiltStep (W : Store) (e : Entry) : Type 0 where
 pub built_step : (W : Store) (e : Entry) → reason_built W (entry e) ≡ None → BuiltStep W e
 built_step W e h = go (resolve W e.step) refl h
   where
-    go : (o : Option Resolved) → resolve W e.step ≡ o → reason_by conclusion_built W o e ≡ None → BuiltStep W e
+    go : (o : Option Resolved) → resolve W e.step ≡ o → reason_by conclusion_built W.declarations o e ≡ None → BuiltStep W e
     go None q h = none_some (sym h)
     go (Some s) q h = record {
       step = s;
       is = q;
-      built = tested_built (of_kind s && same_kind (concludes_thesis s) (is_thesis e.statement)) (is_built s) (conclusion W s) (result_set s) e h;
+      built = tested_built (of_kind s && same_truth (concludes_thesis s) (is_thesis e.statement)) (is_built s) (conclusion W.declarations s) (result_set s) e h;
     }
 
 -- the level of what is stated

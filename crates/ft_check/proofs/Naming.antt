@@ -4,7 +4,7 @@ use Rattle.std.specs.List.{list_all}
 use Rattle.std.proofs.lemmas.List.{length-map}
 use Rattle.std.proofs.lemmas.Bool.{lt-ltb, ltb-true, ltb-false}
 use Rattle.ft_items.specs.Item.{Name, Item, variable, metavariable, rule, entry, shown}
-use Rattle.ft_items.specs.Store.{store_of, rules_in}
+use Rattle.ft_items.specs.Store.{rules_in, declared_by}
 use Rattle.ft_items.specs.Good.{Good, equal_names, is_new}
 use Rattle.ft_items.proofs.Lists.{store_is}
 use Rattle.ft_stated.specs.First.{first_place, is_rule_of}
@@ -19,16 +19,16 @@ new_all n (entry e ∷ items) = new_all n items
 new_all n (shown p ∷ items) = new_all n items
 
 -- a name is new before the place of the first rule that has it
-pub new_is : (items : List Item) (i : ℕ) (n : Name) (o : Option ℕ) → o ≡ first_place (is_rule_of n) items → Good (take i items) → is_not_before i o ≡ is_new (store_of (take i items)).names n
+pub new_is : (items : List Item) (i : ℕ) (n : Name) (o : Option ℕ) → o ≡ first_place (is_rule_of n) items → Good (take i items) → is_not_before i o ≡ is_new (declared_by (take i items)).names n
 new_is items i n o e g =
     ap (is_not_before i) e ∙ sym (none_before (is_rule_of n) items i)
     ∙ sym (ap (λ ns. is_new ns n) (store_is (take i items) g).names ∙ new_all n (take i items))
 
 -- how many rules a good list has
-pub rules_many : (items : List Item) → Good items → length (store_of items).rules ≡ length (rules_in items)
+pub rules_many : (items : List Item) → Good items → length (declared_by items).rules ≡ length (rules_in items)
 rules_many items g = ap length (store_is items g).rules ∙ length-map (rules_in items) _
 
-pub room_is : (items : List Item) (b : Bool) → Good items → b ≡ nat_lt 65535 (length (rules_in items)) → nat_lt (length (store_of items).rules) 65536 ≡ not b
+pub room_is : (items : List Item) (b : Bool) → Good items → b ≡ nat_lt 65535 (length (rules_in items)) → nat_lt (length (declared_by items).rules) 65536 ≡ not b
 room_is items b g e = ap (λ n. nat_lt n 65536) (rules_many items g) ∙ go (nat_lt 65535 (length (rules_in items))) refl ∙ ap not (sym e)
   where
     below : (c : Bool) → nat_lt (length (rules_in items)) 65536 ≡ c → c ≡ false → 65536 ≤ length (rules_in items)

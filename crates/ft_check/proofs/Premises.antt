@@ -6,7 +6,7 @@ use Rattle.std.proofs.lemmas.List.{drop_all, drop_more, map-append, take_more}
 use Rattle.ft_common.proofs.Options.{is_some-option_map, none_some}
 use Rattle.ft_items.specs.Item.{Name, Item}
 use Rattle.ft_items.specs.Sets.{Atom, met, is_within}
-use Rattle.ft_items.specs.Store.{Assertion, Declared, declared, each, metavariable_named, nth, store_of, entries_in, metavariables_in}
+use Rattle.ft_items.specs.Store.{Assertion, Declared, declared, each, metavariable_named, nth, entries_in, metavariables_in, declared_by}
 use Rattle.ft_items.specs.Rows.{atoms, on_earlier}
 use Rattle.ft_items.specs.Good.{Good}
 use Rattle.ft_items.proofs.Lists.{store_is}
@@ -28,25 +28,25 @@ all_same f g h [] = refl
 all_same f g h (x ∷ xs) = ap₂ ◌&&◌ (h x) (all_same f g h xs)
 
 -- each number names a metavariable of the store where it names one of the list
-pub named_all : (items : List Item) (ms : List ℕ) → Good items → list_all (λ m. is_some (nth (metavariables_in items) m)) ms ≡ is_some (each (metavariable_named (store_of items)) ms)
-named_all items ms g = sym (is_some_each (metavariable_named (store_of items)) ms
-    ∙ all_same (λ m. is_some (metavariable_named (store_of items) m)) (λ m. is_some (nth (metavariables_in items) m))
-    (λ m. is_some-option_map (λ d. (m, d)) (nth (store_of items).metavariables m) ∙ ap (λ ds. is_some (nth ds m)) (store_is items g).metavariables
+pub named_all : (items : List Item) (ms : List ℕ) → Good items → list_all (λ m. is_some (nth (metavariables_in items) m)) ms ≡ is_some (each (metavariable_named (declared_by items)) ms)
+named_all items ms g = sym (is_some_each (metavariable_named (declared_by items)) ms
+    ∙ all_same (λ m. is_some (metavariable_named (declared_by items) m)) (λ m. is_some (nth (metavariables_in items) m))
+    (λ m. is_some-option_map (λ d. (m, d)) (nth (declared_by items).metavariables m) ∙ ap (λ ds. is_some (nth ds m)) (store_is items g).metavariables
     ∙ ap is_some (nth_map (λ (x : Name × ℕ). declared x (nth (entries_in items) x.1)) (metavariables_in items) m)
     ∙ is_some-option_map (λ (x : Name × ℕ). declared x (nth (entries_in items) x.1)) (nth (metavariables_in items) m)) ms)
 
-pub atoms_are : (items : List Item) (ms : List ℕ) (ds : List (ℕ × Declared)) → each (metavariable_named (store_of items)) ms ≡ Some ds → atoms ds ≡ map met ms
+pub atoms_are : (items : List Item) (ms : List ℕ) (ds : List (ℕ × Declared)) → each (metavariable_named (declared_by items)) ms ≡ Some ds → atoms ds ≡ map met ms
 atoms_are items [] ds h = let same : [] ≡ ds = cc in ap atoms (sym same)
 atoms_are items (m ∷ ms) ds h =
-    let s = each_first (metavariable_named (store_of items)) m ms ds h in
-    ap atoms s.4 ∙ ap₂ (λ n S. met n ∷ S) (named (store_of items) m s.0 s.2).0 (atoms_are items ms s.1 s.3)
+    let s = each_first (metavariable_named (declared_by items)) m ms ds h in
+    ap atoms s.4 ∙ ap₂ (λ n S. met n ∷ S) (named (declared_by items) m s.0 s.2).0 (atoms_are items ms s.1 s.3)
 
 -- what the boundary of a metavariable rests on
 declared_set : (x : Name × ℕ) (o : Option Assertion) → (declared x o).set ≡ set_or_none o
 declared_set x None = refl
 declared_set x (Some a) = refl
 
-boundary_set_is : (items : List Item) (m : ℕ) (d : Declared) → Good items → nth (store_of items).metavariables m ≡ Some d → d.set ≡ boundary_set items m
+boundary_set_is : (items : List Item) (m : ℕ) (d : Declared) → Good items → nth (declared_by items).metavariables m ≡ Some d → d.set ≡ boundary_set items m
 boundary_set_is items m d g h = go (nth (metavariables_in items) m) refl
   where
     f : Name × ℕ → Declared
@@ -63,12 +63,12 @@ boundary_set_is items m d g h = go (nth (metavariables_in items) m) refl
         ap (λ (c : Declared). c.set) (sym same) ∙ declared_set x (nth (entries_in items) x.1) ∙ ap set_or_none (sym (entries_are items x.1))
         ∙ ap (λ o. set_at items (option_map (λ (c : Name × ℕ). c.1) o)) (sym e)
 
-pub earlier_is : (items : List Item) (before : List Atom) (ms : List ℕ) (ds : List (ℕ × Declared)) → Good items → each (metavariable_named (store_of items)) ms ≡ Some ds
+pub earlier_is : (items : List Item) (before : List Atom) (ms : List ℕ) (ds : List (ℕ × Declared)) → Good items → each (metavariable_named (declared_by items)) ms ≡ Some ds
     → rest_on_earlier (boundary_set items) before ms ≡ on_earlier before ds
 earlier_is items before [] ds g h = let same : [] ≡ ds = cc in ap (on_earlier before) same
 earlier_is items before (m ∷ ms) ds g h =
-    let s = each_first (metavariable_named (store_of items)) m ms ds h in
-    let n : (s.0.0 ≡ m) × (nth (store_of items).metavariables m ≡ Some s.0.1) = named (store_of items) m s.0 s.2 in
+    let s = each_first (metavariable_named (declared_by items)) m ms ds h in
+    let n : (s.0.0 ≡ m) × (nth (declared_by items).metavariables m ≡ Some s.0.1) = named (declared_by items) m s.0 s.2 in
     sym (ap (on_earlier before) s.4
     ∙ ap₂ (λ S k. is_within S before && on_earlier (before ++ (met k ∷ [])) s.1) (boundary_set_is items m s.0.1 g n.1) n.0
     ∙ ap (λ b. is_within (boundary_set items m) before && b) (sym (earlier_is items (before ++ (met m ∷ [])) ms s.1 g s.3)))

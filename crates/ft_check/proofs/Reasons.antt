@@ -4,7 +4,7 @@ use Rattle.std.specs.List.{list_all}
 use Rattle.std.proofs.lemmas.Bool.{lt-ltb, le-ltb, ltb-true, ltb-false}
 use Rattle.ft_items.specs.Item.{Name, Item, variable, metavariable, rule, entry, shown}
 use Rattle.ft_items.specs.Sets.{metavariables_only}
-use Rattle.ft_items.specs.Store.{Assertion, annotated, nth, store_of, entries_in, variables_in}
+use Rattle.ft_items.specs.Store.{Assertion, annotated, nth, entries_in, variables_in, declared_by}
 use Rattle.ft_items.specs.Equal.{is_thesis}
 use Rattle.ft_items.specs.Good.{Reject as Reason, Reference as reference, Kind as kind, Premise as premise, Number as number, Loose as loose, Good, is_next, is_plain_type, reason_of_shown, reason_of_metavariable, reason_of_variable, unless}
 use Rattle.ft_items.proofs.Lists.{store_is, annotated_number}
@@ -83,7 +83,7 @@ next_below : (f : ℕ × Name × ℕ → Option Assertion) (v : ℕ) (xs : List 
 next_below f v [] = refl
 next_below f v (x ∷ xs) = ap₂ (λ n b. nat_lt n v && b) (annotated_number x (f x)) (next_below f v xs) ∙ below_greatest x.0 v (greatest_number xs)
 
-pub next_is : (items : List Item) (v : ℕ) (o : Option ℕ) → o ≡ greatest_number (variables_in items) → Good items → is_below v o ≡ is_next (store_of items).variables v
+pub next_is : (items : List Item) (v : ℕ) (o : Option ℕ) → o ≡ greatest_number (variables_in items) → Good items → is_below v o ≡ is_next (declared_by items).variables v
 next_is items v o e g = ap (is_below v) e ∙ sym (ap (λ G. is_next G v) (store_is items g).variables ∙ next_below (λ x. nth (entries_in items) x.2) v (variables_in items))
 
 -- the variables of a list, by their numbers

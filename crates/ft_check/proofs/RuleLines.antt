@@ -5,7 +5,7 @@ use Rattle.std.proofs.lemmas.Option.{same_Some}
 use Rattle.ft_theory.specs.Rules.{Rule, rule_at}
 use Rattle.ft_items.specs.Item.{Name, Item, variable, metavariable, rule, entry, shown}
 use Rattle.ft_items.specs.Equal.{is_thesis, is_plain}
-use Rattle.ft_items.specs.Store.{Assertion, Declared, Store, declared, ruled, nth, each, entry_named, metavariable_named, add, add_all, empty_store, store_of, metavariables_in, rules_in}
+use Rattle.ft_items.specs.Store.{Assertion, Declared, Store, declared, ruled, nth, each, entry_named, metavariable_named, add, add_all, empty_store, store_of, metavariables_in, rules_in, declared_by}
 use Rattle.ft_items.specs.Good.{AllowedRule, GoodAfter, Good}
 use Rattle.ft_items.proofs.Lists.{Before, before_all, each_before, store_is}
 use Rattle.ft_common.proofs.Options.{none_some}
@@ -14,7 +14,7 @@ use Rattle.ft_check.proofs.Basics.{nth_map}
 -- A rule that is declared has metavariables that differ, and a plain boundary for its conclusion.
 pub record Ruled (X : Store) (ms : List ℕ) (p : ℕ) : Type 0 where
   pub premises : List (ℕ × Declared)
-  pub are : each (metavariable_named X) ms ≡ Some premises
+  pub are : each (metavariable_named X.declarations) ms ≡ Some premises
   pub conclusion : Assertion
   pub is : entry_named X p ≡ Some conclusion
   pub boundary : is_thesis conclusion.statement ≡ false
@@ -23,7 +23,7 @@ pub record Ruled (X : Store) (ms : List ℕ) (p : ℕ) : Type 0 where
 ruled_stays : (W X : Store) (ms : List ℕ) (p : ℕ) (n : Name) → Before W X → AllowedRule W n ms p → Ruled X ms p
 ruled_stays W X ms p n b h = record {
   premises = h.2;
-  are = each_before W X b ms h.2 h.3;
+  are = each_before W.declarations X.declarations b.metavariables ms h.2 h.3;
   conclusion = h.4;
   is = b.entries p h.4 h.5;
   boundary = h.7;
@@ -72,8 +72,8 @@ rule_at_nth (R ∷ rs) zero = refl
 rule_at_nth (R ∷ rs) (suc r) = rule_at_nth rs r
 
 pub rule_is_line : (items : List Item) (r : ℕ) → Good items
-    → rule_at (store_of items).rules r ≡ option_map (λ (x : Name × List ℕ × ℕ). ruled (each (metavariable_named (store_of items)) x.1) (entry_named (store_of items) x.2)) (nth (rules_in items) r)
+    → rule_at (declared_by items).rules r ≡ option_map (λ (x : Name × List ℕ × ℕ). ruled (each (metavariable_named (declared_by items)) x.1) (entry_named (store_of items) x.2)) (nth (rules_in items) r)
 rule_is_line items r g =
-    rule_at_nth (store_of items).rules r ∙ ap (λ rs. nth rs r) (store_is items g).rules
-    ∙ ap (λ es. nth (map (λ (x : Name × List ℕ × ℕ). ruled (each (metavariable_named (store_of items)) x.1) (nth es x.2)) (rules_in items)) r) (sym (store_is items g).entries)
-    ∙ nth_map (λ (x : Name × List ℕ × ℕ). ruled (each (metavariable_named (store_of items)) x.1) (entry_named (store_of items) x.2)) (rules_in items) r
+    rule_at_nth (declared_by items).rules r ∙ ap (λ rs. nth rs r) (store_is items g).rules
+    ∙ ap (λ es. nth (map (λ (x : Name × List ℕ × ℕ). ruled (each (metavariable_named (declared_by items)) x.1) (nth es x.2)) (rules_in items)) r) (sym (store_is items g).entries)
+    ∙ nth_map (λ (x : Name × List ℕ × ℕ). ruled (each (metavariable_named (declared_by items)) x.1) (entry_named (store_of items) x.2)) (rules_in items) r

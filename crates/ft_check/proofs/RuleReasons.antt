@@ -3,7 +3,7 @@ use Rattle.std.proofs.Common.{◌≡◌, ℕ, Bool, true, false, ◌&&◌, not, 
 use Rattle.std.specs.Prelude.{is_some}
 use Rattle.ft_items.specs.Item.{Item}
 use Rattle.ft_items.specs.Sets.{met, is_within}
-use Rattle.ft_items.specs.Store.{Assertion, Declared, each, metavariable_named, store_of}
+use Rattle.ft_items.specs.Store.{Assertion, Declared, each, metavariable_named, declared_by}
 use Rattle.ft_items.specs.Equal.{is_thesis, is_plain}
 use Rattle.ft_items.specs.Rows.{atoms, differ, on_earlier}
 use Rattle.ft_items.specs.Good.{Reject as Reason, Reference as reference, Kind as kind, Named as named, Many as many, Loose as loose, Good, reason_of_rule, unless}
@@ -35,19 +35,19 @@ rule_with_entry (Some ds) o a r t e f = f ds refl ∙ ap (reason_of_rule (Some d
 abbrev kinds : List (ℕ × Declared) → Assertion → Bool
 kinds ds a = differ (atoms ds) && not (is_thesis a.statement) && is_plain a.statement
 
-kinds_are : (items : List Item) (ms : List ℕ) (ds : List (ℕ × Declared)) (a : Assertion) (b : Bool) → each (metavariable_named (store_of items)) ms ≡ Some ds
+kinds_are : (items : List Item) (ms : List ℕ) (ds : List (ℕ × Declared)) (a : Assertion) (b : Bool) → each (metavariable_named (declared_by items)) ms ≡ Some ds
     → b ≡ (differ (map met ms) && not (is_thesis a.statement) && is_plain a.statement) → b ≡ kinds ds a
 kinds_are items ms ds a b h e = e ∙ ap (λ S. differ S && not (is_thesis a.statement) && is_plain a.statement) (sym (atoms_are items ms ds h))
 
-tight_is : (items : List Item) (ms : List ℕ) (ds : List (ℕ × Declared)) (a : Assertion) (c : Bool) → Good items → each (metavariable_named (store_of items)) ms ≡ Some ds
+tight_is : (items : List Item) (ms : List ℕ) (ds : List (ℕ × Declared)) (a : Assertion) (c : Bool) → Good items → each (metavariable_named (declared_by items)) ms ≡ Some ds
     → c ≡ (rest_on_earlier (boundary_set items) [] ms && is_within a.set (map met ms)) → c ≡ (on_earlier [] ds && is_within a.set (atoms ds))
 tight_is items ms ds a c g h e = e ∙ ap₂ (λ b S. b && is_within a.set S) (earlier_is items [] ms ds g h) (sym (atoms_are items ms ds h))
 
-pub rule_kind : (items : List Item) (ms : List ℕ) (ds : List (ℕ × Declared)) (a : Assertion) (b : Bool) → each (metavariable_named (store_of items)) ms ≡ Some ds
+pub rule_kind : (items : List Item) (ms : List ℕ) (ds : List (ℕ × Declared)) (a : Assertion) (b : Bool) → each (metavariable_named (declared_by items)) ms ≡ Some ds
     → b ≡ (differ (map met ms) && not (is_thesis a.statement) && is_plain a.statement) → b ≡ false → Some kind ≡ reason_of_rule (Some ds) (Some a)
 rule_kind items ms ds a b h e f = ap (λ t. unless t kind (unless (on_earlier [] ds && is_within a.set (atoms ds)) loose None)) (sym f ∙ kinds_are items ms ds a b h e)
 
-pub rule_tight : (items : List Item) (ms : List ℕ) (ds : List (ℕ × Declared)) (a : Assertion) (b c : Bool) → Good items → each (metavariable_named (store_of items)) ms ≡ Some ds
+pub rule_tight : (items : List Item) (ms : List ℕ) (ds : List (ℕ × Declared)) (a : Assertion) (b c : Bool) → Good items → each (metavariable_named (declared_by items)) ms ≡ Some ds
     → b ≡ (differ (map met ms) && not (is_thesis a.statement) && is_plain a.statement) → b ≡ true
     → c ≡ (rest_on_earlier (boundary_set items) [] ms && is_within a.set (map met ms)) → unless c loose None ≡ reason_of_rule (Some ds) (Some a)
 rule_tight items ms ds a b c g h e t f = ap₂ (λ t c. unless t kind (unless c loose None)) (sym t ∙ kinds_are items ms ds a b h e) (tight_is items ms ds a c g h f)

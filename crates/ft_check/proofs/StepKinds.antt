@@ -5,7 +5,7 @@ use Rattle.std.proofs.lemmas.Bool.{ltb-true, ltb-false}
 use Rattle.ft_theory.specs.Rules.{Rule, rule_at, look_up}
 use Rattle.ft_items.specs.Equal.{is_thesis}
 use Rattle.ft_items.specs.Item.{Name, Item}
-use Rattle.ft_items.specs.Store.{Assertion, annotated, Resolved, with_three, with_four, store_of, nth, entries_in, variables_in, metavariables_in, rules_in}
+use Rattle.ft_items.specs.Store.{Assertion, annotated, Resolved, with_three, with_four, nth, entries_in, variables_in, metavariables_in, rules_in, declared_by}
 use Rattle.ft_items.specs.Good.{Good, all_theses}
 use Rattle.ft_items.proofs.Lists.{store_is, annotated_number}
 use Rattle.ft_check.specs.Entries.{no_variable}
@@ -77,16 +77,16 @@ variables_look f v (x ∷ xs) =
     go true h = refl
     go false h = h
 
-pub variable_is : (items : List Item) (v : ℕ) → Good items → cond (no_variable v (variables_in items)) None (Some true) ≡ variable_there (store_of items) v
+pub variable_is : (items : List Item) (v : ℕ) → Good items → cond (no_variable v (variables_in items)) None (Some true) ≡ variable_there (declared_by items) v
 variable_is items v g =
-    sym (there_map (λ d. (v, d)) (look_up (store_of items).variables v)
+    sym (there_map (λ d. (v, d)) (look_up (declared_by items).variables v)
     ∙ ap (λ G. option_map (λ d. true) (look_up G v)) (store_is items g).variables
     ∙ variables_look (λ x. nth (entries_in items) x.2) v (variables_in items))
 
-pub metavariable_is : (items : List Item) (m : ℕ) (o : Option ℕ) → Good items → o ≡ option_map (λ (d : Name × ℕ). d.1) (nth (metavariables_in items) m) → option_map (λ p. true) o ≡ metavariable_there (store_of items) m
+pub metavariable_is : (items : List Item) (m : ℕ) (o : Option ℕ) → Good items → o ≡ option_map (λ (d : Name × ℕ). d.1) (nth (metavariables_in items) m) → option_map (λ p. true) o ≡ metavariable_there (declared_by items) m
 metavariable_is items m o g e =
     ap (option_map (λ p. true)) e ∙ there_map (λ (d : Name × ℕ). d.1) (nth (metavariables_in items) m)
-    ∙ sym (there_map (λ d. (m, d)) (nth (store_of items).metavariables m)
+    ∙ sym (there_map (λ d. (m, d)) (nth (declared_by items).metavariables m)
     ∙ ap (λ ds. option_map (λ d. true) (nth ds m)) (store_is items g).metavariables
     ∙ ap (option_map (λ d. true)) (nth_map _ (metavariables_in items) m)
     ∙ there_map _ (nth (metavariables_in items) m))
@@ -108,7 +108,7 @@ rule_within rs r = go (nat_lt r (length rs)) refl
     go true e = rule_some rs r (ltb-true r (length rs) e)
     go false e = rule_none rs r (ltb-false r (length rs) e)
 
-pub rule_is : (items : List Item) (r : ℕ) (b : Bool) → Good items → b ≡ nat_lt r (length (rules_in items)) → cond b (Some true) None ≡ rule_there (store_of items) r
+pub rule_is : (items : List Item) (r : ℕ) (b : Bool) → Good items → b ≡ nat_lt r (length (rules_in items)) → cond b (Some true) None ≡ rule_there (declared_by items) r
 rule_is items r b g e =
     ap (λ b. cond b (Some true) None) (e ∙ ap (nat_lt r) (sym (rules_many items g)))
-    ∙ rule_within (store_of items).rules r ∙ sym (there_map (λ R. (r, R)) (rule_at (store_of items).rules r))
+    ∙ rule_within (declared_by items).rules r ∙ sym (there_map (λ R. (r, R)) (rule_at (declared_by items).rules r))

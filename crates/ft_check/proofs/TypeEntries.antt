@@ -5,7 +5,7 @@ use Rattle.std.proofs.lemmas.Option.{same_Some}
 use Rattle.ft_common.proofs.Options.{none_some}
 use Rattle.ft_theory.specs.Rules.{look_up}
 use Rattle.ft_items.specs.Item.{Name, Item, variable, metavariable, rule, entry, shown}
-use Rattle.ft_items.specs.Store.{Assertion, Annotation, Store, annotated, nth, entry_named, empty_store, store_of, type_in, add, add_all, variables_in}
+use Rattle.ft_items.specs.Store.{Assertion, Annotation, Store, annotated, nth, entry_named, empty_store, store_of, type_in, add, add_all, variables_in, declared_by}
 use Rattle.ft_items.specs.Good.{Good, GoodAfter, is_plain_type}
 use Rattle.ft_items.proofs.Lists.{before_all, store_is, annotated_number, nth_within}
 use Rattle.ft_stated.specs.First.{first_place, is_variable_of}
@@ -125,7 +125,7 @@ look_in f v (x ∷ xs) =
     go true h = refl
     go false h = h
 
-pub looked_up : (items : List Item) (v : ℕ) → Good items → look_up (store_of items).variables v ≡ option_map (λ (x : ℕ × Name × ℕ). (annotated x (entry_named (store_of items) x.2)).1) (variable_in v (variables_in items))
+pub looked_up : (items : List Item) (v : ℕ) → Good items → look_up (declared_by items).variables v ≡ option_map (λ (x : ℕ × Name × ℕ). (annotated x (entry_named (store_of items) x.2)).1) (variable_in v (variables_in items))
 looked_up items v g =
     ap (λ G. look_up G v) ((store_is items g).variables ∙ ap (λ es. map (λ (x : ℕ × Name × ℕ). annotated x (nth es x.2)) (variables_in items)) (sym (store_is items g).entries))
     ∙ look_in (λ x. entry_named (store_of items) x.2) v (variables_in items)
@@ -138,7 +138,7 @@ pub record Known (X : Store) (p : ℕ) (d : Annotation) : Type 0 where
   pub annotation : d.annotation ≡ type_in entry.statement
   pub set : d.set ≡ entry.set
 
-pub annotation_known : (items : List Item) (v p : ℕ) (d : Annotation) → Good items → look_up (store_of items).variables v ≡ Some d → Some p ≡ option_map (λ (x : ℕ × Name × ℕ). x.2) (variable_in v (variables_in items)) → Known (store_of items) p d
+pub annotation_known : (items : List Item) (v p : ℕ) (d : Annotation) → Good items → look_up (declared_by items).variables v ≡ Some d → Some p ≡ option_map (λ (x : ℕ × Name × ℕ). x.2) (variable_in v (variables_in items)) → Known (store_of items) p d
 annotation_known items v p d g e h = go (variable_in v (variables_in items)) refl
   where
     X : Store
@@ -153,14 +153,14 @@ annotation_known items v p d g e h = go (variable_in v (variables_in items)) ref
         let d_is : (annotated x (Some t.entry)).1 ≡ d = ap (λ o. (annotated x o).1) (sym t.is) ∙ is in
         record { entry = t.entry; is = ap (entry_named X) place ∙ t.is; type = t.type; annotation = ap (λ (d : Annotation). d.annotation) (sym d_is); set = ap (λ (d : Annotation). d.set) (sym d_is) }
 
-pub annotation_gone : {P : Type 0} (items : List Item) (v : ℕ) (d : Annotation) → Good items → look_up (store_of items).variables v ≡ Some d → None ≡ option_map (λ (x : ℕ × Name × ℕ). x.2) (variable_in v (variables_in items)) → P
+pub annotation_gone : {P : Type 0} (items : List Item) (v : ℕ) (d : Annotation) → Good items → look_up (declared_by items).variables v ≡ Some d → None ≡ option_map (λ (x : ℕ × Name × ℕ). x.2) (variable_in v (variables_in items)) → P
 annotation_gone {P} items v d g e h = go (variable_in v (variables_in items)) refl
   where
     go : (o : Option (ℕ × Name × ℕ)) → variable_in v (variables_in items) ≡ o → P
     go None q = none_some (sym (looked_up items v g ∙ ap (option_map (λ (x : ℕ × Name × ℕ). (annotated x (entry_named (store_of items) x.2)).1)) q) ∙ e)
     go (Some x) q = none_some (h ∙ ap (option_map (λ (x : ℕ × Name × ℕ). x.2)) q)
 
-pub no_annotation : {P : Type 0} (items : List Item) (v p : ℕ) → Good items → look_up (store_of items).variables v ≡ None → Some p ≡ option_map (λ (x : ℕ × Name × ℕ). x.2) (variable_in v (variables_in items)) → P
+pub no_annotation : {P : Type 0} (items : List Item) (v p : ℕ) → Good items → look_up (declared_by items).variables v ≡ None → Some p ≡ option_map (λ (x : ℕ × Name × ℕ). x.2) (variable_in v (variables_in items)) → P
 no_annotation {P} items v p g e h = go (variable_in v (variables_in items)) refl
   where
     go : (o : Option (ℕ × Name × ℕ)) → variable_in v (variables_in items) ≡ o → P

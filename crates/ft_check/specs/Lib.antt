@@ -1,6 +1,5 @@
 pub mod Rejects
 pub mod Entries
-pub mod Built
 pub mod Verdicts
 pub mod Kinds
 pub mod Comparing

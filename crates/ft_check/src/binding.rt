@@ -6,7 +6,7 @@ ghost use Rattle.ft_theory.specs.Statements.{Statement, abstracted, close_statem
 ghost use Rattle.ft_items.specs.Item.{Stated as StatedNumbers};
 ghost use Rattle.ft_items.specs.Equal.{equal_statements};
 ghost use Rattle.ft_items.specs.Sets.{insert, union, var, without};
-ghost use Rattle.ft_items.specs.Store.{Annotation, Assertion, entry_named, store_of, variable_named};
+ghost use Rattle.ft_items.specs.Store.{Annotation, Assertion, entry_named, store_of, variable_named, declared_by};
 ghost use Rattle.ft_items.specs.Rows.{depends as depends_in, when};
 ghost use Rattle.ft_items.specs.Good.{Good, reason_of_result};
 ghost use Rattle.ft_check.specs.Entries.{entry_in, EntryBelow, with_step};
@@ -42,7 +42,7 @@ pub fn check_var(
     v: u64,
 ) -> Result<Option<Reject>, Memory>
     requires { EntryBelow (length items.now.trees) found }
-    ensures { (d : ℕ × Annotation) (t : StatedNumbers) → Good (take i items.now.items) → variable_named (store_of (take i items.now.items)) v ≡ Some d
+    ensures { (d : ℕ × Annotation) (t : StatedNumbers) → Good (take i items.now.items) → variable_named (declared_by (take i items.now.items)) v ≡ Some d
         → IfOk result (λ x. option_map reason_of x ≡ reason_of_result (Some (plain (has_type (free d.0) d.1.annotation))) (insert (var d.0) d.1.set) (with_step (entry_in items.now.trees found.entry) t)) }
 {
     let Some(typed) = typed_before(items, i, v) else {
@@ -64,8 +64,8 @@ pub fn check_abs(
     p: u64,
 ) -> Result<Option<Reject>, Memory>
     requires { EntryBelow (length items.now.trees) found }
-    ensures { (d : ℕ × Annotation) (a : Assertion) (t : StatedNumbers) → Good (take i items.now.items) → variable_named (store_of (take i items.now.items)) v ≡ Some d → entry_named (store_of (take i items.now.items)) p ≡ Some a
-        → IfOk result (λ x. option_map reason_of x ≡ reason_of_result (when (not (depends_in (store_of (take i items.now.items)).variables d.0 a.set)) (abstracted d.1.annotation (close_statement d.0 a.statement))) (union d.1.set (without (var d.0) a.set)) (with_step (entry_in items.now.trees found.entry) t)) }
+    ensures { (d : ℕ × Annotation) (a : Assertion) (t : StatedNumbers) → Good (take i items.now.items) → variable_named (declared_by (take i items.now.items)) v ≡ Some d → entry_named (store_of (take i items.now.items)) p ≡ Some a
+        → IfOk result (λ x. option_map reason_of x ≡ reason_of_result (when (not (depends_in (declared_by (take i items.now.items)).variables d.0 a.set)) (abstracted d.1.annotation (close_statement d.0 a.statement))) (union d.1.set (without (var d.0) a.set)) (with_step (entry_in items.now.trees found.entry) t)) }
 {
     let Some(typed) = typed_before(items, i, v) else {
         return Ok(Some(Reject::Reference));

@@ -5,13 +5,13 @@ ghost use Rattle.ft_theory.specs.Expressions.{Expression};
 ghost use Rattle.ft_theory.specs.Rules.{Rule, rule_at};
 ghost use Rattle.ft_items.specs.Levels.{level as level_of, rule_level as level_of_rule};
 ghost use Rattle.ft_items.specs.Equal.{is_plain};
-ghost use Rattle.ft_items.specs.Store.{Assertion, Resolved, empty_store, entry_named, resolve, store_of};
+ghost use Rattle.ft_items.specs.Store.{Assertion, Resolved, empty_store, entry_named, resolve, store_of, declared_by};
 ghost use Rattle.ft_items.specs.Good.{Good, counts, level_in, shown_in};
 ghost use Rattle.ft_judge.specs.Meaning.{goal_in};
 ghost use Rattle.ft_stated.specs.Lines.{item_in};
 ghost use Rattle.ft_stated.specs.Places.{is_entry, is_rule};
 ghost use Rattle.ft_stated.specs.Steps.{stated_step};
-ghost use Rattle.ft_check.specs.Built.{first_rejected_by, reason_built};
+ghost use Rattle.ft_verdicts.specs.Built.{first_rejected_by, reason_built};
 ghost use Rattle.ft_check.specs.Verdicts.{counts_of, IsAtMost};
 
 use crate::applied::rule_at_hand;
@@ -40,7 +40,7 @@ fn goal_level(goal: Goal) -> u64
 
 // The same for the rule of a number.
 fn rule_level(items: &StatedItems, i: u64, r: u64) -> u64
-    ensures { (R : Rule) → Good (take i items.now.items) → rule_at (store_of (take i items.now.items)).rules r ≡ Some R → result ≡ level_of_rule R.conclusion }
+    ensures { (R : Rule) → Good (take i items.now.items) → rule_at (declared_by (take i items.now.items)).rules r ≡ Some R → result ≡ level_of_rule R.conclusion }
 {
     match rule_at_hand(items, i, r) {
         None => 0,

@@ -4,7 +4,7 @@ ghost use Rattle.std.specs.Prelude.{◌≡◌, ◌&&◌, ℕ, zero, List, Some, 
 ghost use Rattle.ft_theory.specs.Expressions.{Expression};
 ghost use Rattle.ft_theory.specs.Statements.{map_claim, map_statement, plain};
 ghost use Rattle.ft_items.specs.Equal.{equal_claims, equal_statements, fit_all, fits, is_thesis};
-ghost use Rattle.ft_items.specs.Store.{Assertion, Declared, each, entry_named, metavariable_named, nth, premises_of, store_of};
+ghost use Rattle.ft_items.specs.Store.{Assertion, Declared, each, entry_named, metavariable_named, nth, premises_of, store_of, declared_by};
 ghost use Rattle.ft_items.specs.Rows.{statements};
 ghost use Rattle.ft_items.specs.Good.{Good, all_theses};
 ghost use Rattle.ft_judge.specs.Meaning.{boundary_in, goal_in, BoundaryBelow, GoalBelow};
@@ -20,7 +20,7 @@ use ft_stated::StatedItems;
 
 // The boundary of the metavariable of a number.
 fn boundary_named(items: &StatedItems, i: u64, m: u64) -> Option<Entry<'_>>
-    ensures entry { (d : Declared) → Good (take i items.now.items) → nth (store_of (take i items.now.items)).metavariables m ≡ Some d → option_map (λ e. (entry_in items.now.trees e).statement) result ≡ Some d.boundary }
+    ensures entry { (d : Declared) → Good (take i items.now.items) → nth (declared_by (take i items.now.items)).metavariables m ≡ Some d → option_map (λ e. (entry_in items.now.trees e).statement) result ≡ Some d.boundary }
     ensures below { IfSome result (λ e. EntryBelow (length items.now.trees) e) }
 {
     match metavariable_before(items, i, m) {
@@ -52,7 +52,7 @@ fn push_premise(
     m: u64,
     p: u64,
 ) -> Result<bool, Memory>
-    ensures same { (d : ℕ × Declared) (a : Assertion) (j : Expression → Expression) → Good (take i items.now.items) → metavariable_named (store_of (take i items.now.items)) m ≡ Some d → entry_named (store_of (take i items.now.items)) p ≡ Some a → is_thesis a.statement ≡ true
+    ensures same { (d : ℕ × Declared) (a : Assertion) (j : Expression → Expression) → Good (take i items.now.items) → metavariable_named (declared_by (take i items.now.items)) m ≡ Some d → entry_named (store_of (take i items.now.items)) p ≡ Some a → is_thesis a.statement ≡ true
         → IfOk result (λ yes. (yes && all_same items.now.trees j list.new.items) ≡ (all_same items.now.trees j list.old.items && fits a.statement (map_statement (λ k. j) zero d.1.boundary))) }
     ensures below { ComparedBelow (length items.now.trees) list.old.items → IfOk result (λ yes. ComparedBelow (length items.now.trees) list.new.items) }
 {
@@ -74,7 +74,7 @@ fn push_each(
     ps: &[u64],
 ) -> Result<bool, Memory>
     requires { length ms.now ≡ length ps.now }
-    ensures same { (ds : List (ℕ × Declared)) (given : List Assertion) (j : Expression → Expression) → Good (take i items.now.items) → each (metavariable_named (store_of (take i items.now.items))) ms.now ≡ Some ds
+    ensures same { (ds : List (ℕ × Declared)) (given : List Assertion) (j : Expression → Expression) → Good (take i items.now.items) → each (metavariable_named (declared_by (take i items.now.items))) ms.now ≡ Some ds
         → each (entry_named (store_of (take i items.now.items))) ps.now ≡ Some given → all_theses given ≡ true
         → IfOk result (λ yes. (yes && all_same items.now.trees j list.new.items) ≡ (all_same items.now.trees j list.old.items && fit_all (map_statement (λ k. j) zero) (premises_of ds) (statements given))) }
     ensures below { ComparedBelow (length items.now.trees) list.old.items → IfOk result (λ yes. ComparedBelow (length items.now.trees) list.new.items) }
@@ -95,7 +95,7 @@ pub fn push_premises(
     ms: &[u64],
     ps: &[u64],
 ) -> Result<bool, Memory>
-    ensures same { (ds : List (ℕ × Declared)) (given : List Assertion) (j : Expression → Expression) → Good (take i items.now.items) → each (metavariable_named (store_of (take i items.now.items))) ms.now ≡ Some ds
+    ensures same { (ds : List (ℕ × Declared)) (given : List Assertion) (j : Expression → Expression) → Good (take i items.now.items) → each (metavariable_named (declared_by (take i items.now.items))) ms.now ≡ Some ds
         → each (entry_named (store_of (take i items.now.items))) ps.now ≡ Some given → all_theses given ≡ true
         → IfOk result (λ yes. (yes && all_same items.now.trees j list.new.items) ≡ (all_same items.now.trees j list.old.items && fit_all (map_statement (λ k. j) zero) (premises_of ds) (statements given))) }
     ensures below { ComparedBelow (length items.now.trees) list.old.items → IfOk result (λ yes. ComparedBelow (length items.now.trees) list.new.items) }

@@ -3,11 +3,11 @@
 ghost use Rattle.std.specs.Prelude.{◌≡◌, ◌<◌, Some, true, length, take, option_map, IfOk};
 ghost use Rattle.ft_items.specs.Item.{Item};
 ghost use Rattle.ft_items.specs.Equal.{is_thesis};
-ghost use Rattle.ft_items.specs.Store.{Resolved, nth, resolve, store_of};
+ghost use Rattle.ft_items.specs.Store.{Resolved, nth, resolve, store_of, declared_by};
 ghost use Rattle.ft_items.specs.Rows.{result_set};
 ghost use Rattle.ft_items.specs.Good.{Good, reason_of_result};
 ghost use Rattle.ft_stated.specs.Steps.{stated_step};
-ghost use Rattle.ft_check.specs.Built.{conclusion_built, reason_built, reason_by};
+ghost use Rattle.ft_verdicts.specs.Built.{conclusion_built, reason_built, reason_by};
 ghost use Rattle.ft_check.specs.Entries.{entry_in, EntryBelow, with_step};
 ghost use Rattle.ft_check.specs.Kinds.{kinds_right};
 ghost use Rattle.ft_check.specs.Rejects.{reason_of};
@@ -35,7 +35,7 @@ fn check_result(
 ) -> Result<Option<Reject>, Memory>
     requires { EntryBelow (length items.now.trees) found }
     ensures { (s : Resolved) → Good (take i items.now.items) → resolve (store_of (take i items.now.items)) (stated_step step.now) ≡ Some s → kinds_right (is_thesis (entry_in items.now.trees found.entry).statement) s ≡ true
-        → IfOk result (λ r. option_map reason_of r ≡ reason_of_result (conclusion_built (store_of (take i items.now.items)) s) (result_set s) (with_step (entry_in items.now.trees found.entry) (stated_step step.now))) }
+        → IfOk result (λ r. option_map reason_of r ≡ reason_of_result (conclusion_built (declared_by (take i items.now.items)) s) (result_set s) (with_step (entry_in items.now.trees found.entry) (stated_step step.now))) }
 {
     match step {
         StatedStep::Var(v) => check_var(alloc, items, i, found, *v),
@@ -73,7 +73,7 @@ fn check_entry(
 ) -> Result<Option<Reject>, Memory>
     requires { EntryBelow (length items.now.trees) found }
     ensures { Good (take i items.now.items)
-        → IfOk result (λ r. option_map reason_of r ≡ reason_by conclusion_built (store_of (take i items.now.items)) (resolve (store_of (take i items.now.items)) (stated_step step.now)) (with_step (entry_in items.now.trees found.entry) (stated_step step.now))) }
+        → IfOk result (λ r. option_map reason_of r ≡ reason_by conclusion_built (declared_by (take i items.now.items)) (resolve (store_of (take i items.now.items)) (stated_step step.now)) (with_step (entry_in items.now.trees found.entry) (stated_step step.now))) }
 {
     match kinds(items, i, step, found.is_thesis()) {
         None => Ok(Some(Reject::Reference)),

@@ -1,6 +1,6 @@
 //! What the verdict tells while not all steps are built.
 
-ghost use Rattle.ft_check.specs.Built.{BuiltIsVerdict, AcceptedIsAccepted, RejectedIsRejected};
+ghost use Rattle.ft_verdicts.specs.Built.{BuiltIsVerdict, AcceptedIsAccepted, RejectedIsRejected};
 
 /// Where all steps of a list are built, the verdict is the defined one.
 pub fn built_is_verdict()

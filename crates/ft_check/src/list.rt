@@ -4,7 +4,7 @@ ghost use Rattle.std.specs.Prelude.{◌≡◌, IfOk};
 ghost use Rattle.ft_items.specs.Store.{Derivable};
 ghost use Rattle.ft_items.specs.Good.{Counts, Accepted, verdict as verdict_on};
 ghost use Rattle.ft_sound.specs.Soundness.{EachEntry};
-ghost use Rattle.ft_check.specs.Built.{verdict_built, AllBuilt};
+ghost use Rattle.ft_verdicts.specs.Built.{verdict_built, AllBuilt};
 ghost use Rattle.ft_check.specs.Verdicts.{verdict_of};
 
 use crate::counts::Counted;

@@ -1,7 +1,7 @@
 //! Whether the numbers in a step name what is there, and of which kind it is.
 
 ghost use Rattle.std.specs.Prelude.{◌≡◌, take};
-ghost use Rattle.ft_items.specs.Store.{store_of};
+ghost use Rattle.ft_items.specs.Store.{store_of, declared_by};
 ghost use Rattle.ft_items.specs.Good.{Good};
 ghost use Rattle.ft_check.specs.Kinds.{thesis_named, boundary_named, kind_named, theses_named, entry_there, variable_there, metavariable_there, rule_there, both as both_tests, also as with_test};
 
@@ -91,7 +91,7 @@ pub fn is_entry(items: &StatedItems, i: u64, p: u64) -> Option<bool>
 
 /// True, where the variable is there.
 pub fn is_variable(items: &StatedItems, i: u64, v: u64) -> Option<bool>
-    ensures { Good (take i items.now.items) → result ≡ variable_there (store_of (take i items.now.items)) v }
+    ensures { Good (take i items.now.items) → result ≡ variable_there (declared_by (take i items.now.items)) v }
 {
     if lacks_variable(items, i, v) {
         None
@@ -102,7 +102,7 @@ pub fn is_variable(items: &StatedItems, i: u64, v: u64) -> Option<bool>
 
 /// True, where the metavariable is there.
 pub fn is_metavariable(items: &StatedItems, i: u64, m: u64) -> Option<bool>
-    ensures { Good (take i items.now.items) → result ≡ metavariable_there (store_of (take i items.now.items)) m }
+    ensures { Good (take i items.now.items) → result ≡ metavariable_there (declared_by (take i items.now.items)) m }
 {
     match metavariable_before(items, i, m) {
         None => None,
@@ -112,7 +112,7 @@ pub fn is_metavariable(items: &StatedItems, i: u64, m: u64) -> Option<bool>
 
 /// True, where the rule is there.
 pub fn is_rule(items: &StatedItems, i: u64, r: u64) -> Option<bool>
-    ensures { Good (take i items.now.items) → result ≡ rule_there (store_of (take i items.now.items)) r }
+    ensures { Good (take i items.now.items) → result ≡ rule_there (declared_by (take i items.now.items)) r }
 {
     if has_rule_before(items, i, r) {
         Some(true)

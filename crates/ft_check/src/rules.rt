@@ -5,7 +5,7 @@ ghost use Rattle.std.specs.List.{list_all};
 ghost use Rattle.ft_theory.specs.Expressions.{Expression};
 ghost use Rattle.ft_items.specs.Item.{rule};
 ghost use Rattle.ft_items.specs.Sets.{met, is_within as within};
-ghost use Rattle.ft_items.specs.Store.{Declared, each, metavariable_named, metavariables_in, nth, rules_in, store_of};
+ghost use Rattle.ft_items.specs.Store.{Declared, each, metavariable_named, metavariables_in, nth, rules_in, declared_by};
 ghost use Rattle.ft_items.specs.Rows.{atoms, differ as all_differ, on_earlier};
 ghost use Rattle.ft_items.specs.Equal.{is_thesis, is_plain};
 ghost use Rattle.ft_items.specs.Good.{Good, is_new as is_new_among, reason_of_rule};
@@ -22,7 +22,7 @@ use ft_stated::{Numbers, StatedItems};
 
 // Whether no rule before place i has the name.
 fn is_new(items: &StatedItems, i: u64, name: &Name) -> bool
-    ensures { Good (take i items.now.items) → result ≡ is_new_among (store_of (take i items.now.items)).names name.now }
+    ensures { Good (take i items.now.items) → result ≡ is_new_among (declared_by (take i items.now.items)).names name.now }
 {
     match items.name_place(name) {
         Some(place) => i <= place,
@@ -91,7 +91,7 @@ fn is_tight(items: &StatedItems, i: u64, ms: &[u64], found: Entry<'_>) -> bool
 
 // The reason against an entry as the conclusion's boundary of a rule with these metavariables.
 fn against_conclusion(items: &StatedItems, i: u64, ms: &[u64], found: Entry<'_>) -> Option<Reject>
-    ensures { (ts : List Expression) (ds : List (ℕ × Declared)) → Good (take i items.now.items) → each (metavariable_named (store_of (take i items.now.items))) ms.now ≡ Some ds → option_map reason_of result ≡ reason_of_rule (Some ds) (Some (entry_in ts found.entry)) }
+    ensures { (ts : List Expression) (ds : List (ℕ × Declared)) → Good (take i items.now.items) → each (metavariable_named (declared_by (take i items.now.items))) ms.now ≡ Some ds → option_map reason_of result ≡ reason_of_rule (Some ds) (Some (entry_in ts found.entry)) }
 {
     if !is_of_kind(ms, found) {
         Some(Reject::Kind)

@@ -6,7 +6,7 @@ ghost use Rattle.ft_judge.specs.Meaning.{GoalBelow};
 ghost use Rattle.ft_items.specs.Item.{Stated as StatedNumbers};
 ghost use Rattle.ft_items.specs.Sets.{union, unions};
 ghost use Rattle.ft_items.specs.Equal.{is_thesis};
-ghost use Rattle.ft_items.specs.Store.{Assertion, each, entry_named, rule_named, store_of};
+ghost use Rattle.ft_items.specs.Store.{Assertion, each, entry_named, rule_named, store_of, declared_by};
 ghost use Rattle.ft_items.specs.Rows.{rule_instance, rule_instance_with, sets, statements};
 ghost use Rattle.ft_items.specs.Good.{Good, all_theses, reason_of_result};
 ghost use Rattle.ft_check.specs.Applying.{IsRule};
@@ -51,7 +51,7 @@ fn check_at(
 ) -> Result<Option<Reject>, Memory>
     requires found { EntryBelow (length items.now.trees) found }
     requires goal { GoalBelow (length items.now.trees) rule.now.goal }
-    ensures { (R : ℕ × Rule) (given : List Assertion) (t : StatedNumbers) → Good (take i items.now.items) → IsRule items.now.trees (store_of (take i items.now.items)) rule.now R
+    ensures { (R : ℕ × Rule) (given : List Assertion) (t : StatedNumbers) → Good (take i items.now.items) → IsRule items.now.trees (declared_by (take i items.now.items)) rule.now R
         → each (entry_named (store_of (take i items.now.items))) ps.now ≡ Some given → all_theses given ≡ true
         → IfOk result (λ x. option_map reason_of x ≡ reason_of_result (rule_instance R.0 R.1 (statements given)) (unions (sets given)) (with_step (entry_in items.now.trees found.entry) t)) }
 {
@@ -74,7 +74,7 @@ pub fn check_applied(
     ps: &Numbers,
 ) -> Result<Option<Reject>, Memory>
     requires { EntryBelow (length items.now.trees) found }
-    ensures { (R : ℕ × Rule) (given : List Assertion) (t : StatedNumbers) → Good (take i items.now.items) → rule_named (store_of (take i items.now.items)) r ≡ Some R
+    ensures { (R : ℕ × Rule) (given : List Assertion) (t : StatedNumbers) → Good (take i items.now.items) → rule_named (declared_by (take i items.now.items)) r ≡ Some R
         → each (entry_named (store_of (take i items.now.items))) ps.now ≡ Some given → all_theses given ≡ true
         → IfOk result (λ x. option_map reason_of x ≡ reason_of_result (rule_instance R.0 R.1 (statements given)) (unions (sets given)) (with_step (entry_in items.now.trees found.entry) t)) }
 {
@@ -97,7 +97,7 @@ fn check_at_with(
     requires found { EntryBelow (length items.now.trees) found }
     requires goal { GoalBelow (length items.now.trees) rule.now.goal }
     requires bound { EntryBelow (length items.now.trees) bound }
-    ensures { (R : ℕ × Rule) (given : List Assertion) (t : StatedNumbers) → Good (take i items.now.items) → IsRule items.now.trees (store_of (take i items.now.items)) rule.now R
+    ensures { (R : ℕ × Rule) (given : List Assertion) (t : StatedNumbers) → Good (take i items.now.items) → IsRule items.now.trees (declared_by (take i items.now.items)) rule.now R
         → is_thesis (entry_in items.now.trees bound.entry).statement ≡ false → each (entry_named (store_of (take i items.now.items))) ps.now ≡ Some given → all_theses given ≡ true
         → IfOk result (λ x. option_map reason_of x ≡ reason_of_result (rule_instance_with R.0 R.1 (entry_in items.now.trees bound.entry).statement (statements given)) (union (entry_in items.now.trees bound.entry).set (unions (sets given))) (with_step (entry_in items.now.trees found.entry) t)) }
 {
@@ -125,7 +125,7 @@ pub fn check_applied_with(
     ps: &Numbers,
 ) -> Result<Option<Reject>, Memory>
     requires { EntryBelow (length items.now.trees) found }
-    ensures { (R : ℕ × Rule) (a : Assertion) (given : List Assertion) (t : StatedNumbers) → Good (take i items.now.items) → rule_named (store_of (take i items.now.items)) r ≡ Some R
+    ensures { (R : ℕ × Rule) (a : Assertion) (given : List Assertion) (t : StatedNumbers) → Good (take i items.now.items) → rule_named (declared_by (take i items.now.items)) r ≡ Some R
         → entry_named (store_of (take i items.now.items)) b ≡ Some a → is_thesis a.statement ≡ false
         → each (entry_named (store_of (take i items.now.items))) ps.now ≡ Some given → all_theses given ≡ true
         → IfOk result (λ x. option_map reason_of x ≡ reason_of_result (rule_instance_with R.0 R.1 a.statement (statements given)) (union a.set (unions (sets given))) (with_step (entry_in items.now.trees found.entry) t)) }

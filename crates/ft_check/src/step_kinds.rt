@@ -1,7 +1,7 @@
 //! Of which kind the entries are that a step names.
 
 ghost use Rattle.std.specs.Prelude.{◌≡◌, take, option_map};
-ghost use Rattle.ft_items.specs.Store.{resolve, store_of};
+ghost use Rattle.ft_items.specs.Store.{resolve, store_of, declared_by};
 ghost use Rattle.ft_items.specs.Good.{Good};
 ghost use Rattle.ft_stated.specs.Steps.{stated_step};
 ghost use Rattle.ft_check.specs.Kinds.{thesis_named, boundary_named, kind_named, theses_named, entry_there, variable_there, metavariable_there, rule_there, both as both_tests, also as with_test, kinds_right};
@@ -32,7 +32,7 @@ fn three_theses(items: &StatedItems, i: u64, p: u64, q: u64, r: u64, right: bool
 }
 
 fn metavariable_at(items: &StatedItems, i: u64, m: u64, ps: &Numbers, right: bool) -> Option<bool>
-    ensures { Good (take i items.now.items) → result ≡ with_test (both_tests (metavariable_there (store_of (take i items.now.items)) m) (theses_named (store_of (take i items.now.items)) ps.now)) right }
+    ensures { Good (take i items.now.items) → result ≡ with_test (both_tests (metavariable_there (declared_by (take i items.now.items)) m) (theses_named (store_of (take i items.now.items)) ps.now)) right }
 {
     also(
         both(is_metavariable(items, i, m), are_theses(items, i, ps)),
@@ -41,13 +41,13 @@ fn metavariable_at(items: &StatedItems, i: u64, m: u64, ps: &Numbers, right: boo
 }
 
 fn rule_at(items: &StatedItems, i: u64, r: u64, ps: &Numbers, right: bool) -> Option<bool>
-    ensures { Good (take i items.now.items) → result ≡ with_test (both_tests (rule_there (store_of (take i items.now.items)) r) (theses_named (store_of (take i items.now.items)) ps.now)) right }
+    ensures { Good (take i items.now.items) → result ≡ with_test (both_tests (rule_there (declared_by (take i items.now.items)) r) (theses_named (store_of (take i items.now.items)) ps.now)) right }
 {
     also(both(is_rule(items, i, r), are_theses(items, i, ps)), right)
 }
 
 fn rule_with(items: &StatedItems, i: u64, r: u64, b: u64, ps: &Numbers, right: bool) -> Option<bool>
-    ensures { Good (take i items.now.items) → result ≡ with_test (both_tests (rule_there (store_of (take i items.now.items)) r) (both_tests (boundary_named (store_of (take i items.now.items)) b) (theses_named (store_of (take i items.now.items)) ps.now))) right }
+    ensures { Good (take i items.now.items) → result ≡ with_test (both_tests (rule_there (declared_by (take i items.now.items)) r) (both_tests (boundary_named (store_of (take i items.now.items)) b) (theses_named (store_of (take i items.now.items)) ps.now))) right }
 {
     let later = both(is_boundary(items, i, b), are_theses(items, i, ps));
     also(both(is_rule(items, i, r), later), right)
@@ -61,7 +61,7 @@ fn rule_twice(
     es: &Numbers,
     right: bool,
 ) -> Option<bool>
-    ensures { Good (take i items.now.items) → result ≡ with_test (both_tests (rule_there (store_of (take i items.now.items)) r) (both_tests (theses_named (store_of (take i items.now.items)) ps.now) (theses_named (store_of (take i items.now.items)) es.now))) right }
+    ensures { Good (take i items.now.items) → result ≡ with_test (both_tests (rule_there (declared_by (take i items.now.items)) r) (both_tests (theses_named (store_of (take i items.now.items)) ps.now) (theses_named (store_of (take i items.now.items)) es.now))) right }
 {
     let later = both(are_theses(items, i, ps), are_theses(items, i, es));
     also(both(is_rule(items, i, r), later), right)
@@ -76,7 +76,7 @@ fn rule_moved(
     q: u64,
     right: bool,
 ) -> Option<bool>
-    ensures { Good (take i items.now.items) → result ≡ with_test (both_tests (rule_there (store_of (take i items.now.items)) r) (both_tests (theses_named (store_of (take i items.now.items)) ps.now) (both_tests (theses_named (store_of (take i items.now.items)) es.now) (thesis_named (store_of (take i items.now.items)) q)))) right }
+    ensures { Good (take i items.now.items) → result ≡ with_test (both_tests (rule_there (declared_by (take i items.now.items)) r) (both_tests (theses_named (store_of (take i items.now.items)) ps.now) (both_tests (theses_named (store_of (take i items.now.items)) es.now) (thesis_named (store_of (take i items.now.items)) q)))) right }
 {
     let last = both(are_theses(items, i, es), is_thesis(items, i, q));
     let later = both(are_theses(items, i, ps), last);
@@ -90,7 +90,7 @@ fn substituted(items: &StatedItems, i: u64, p: u64, t: u64, thesis: bool) -> Opt
 }
 
 fn abstracted(items: &StatedItems, i: u64, v: u64, p: u64, thesis: bool) -> Option<bool>
-    ensures { Good (take i items.now.items) → result ≡ both_tests (variable_there (store_of (take i items.now.items)) v) (kind_named thesis (store_of (take i items.now.items)) p) }
+    ensures { Good (take i items.now.items) → result ≡ both_tests (variable_there (declared_by (take i items.now.items)) v) (kind_named thesis (store_of (take i items.now.items)) p) }
 {
     both(is_variable(items, i, v), is_of_kind(items, i, p, thesis))
 }

@@ -3,7 +3,7 @@
 ghost use Rattle.std.specs.Prelude.{◌≡◌, ◌∷◌, [], List, Some, take, option_map};
 ghost use Rattle.ft_theory.specs.Expressions.{Expression};
 ghost use Rattle.ft_items.specs.Item.{Name, variable};
-ghost use Rattle.ft_items.specs.Store.{store_of, variables_in};
+ghost use Rattle.ft_items.specs.Store.{variables_in, declared_by};
 ghost use Rattle.ft_items.specs.Good.{Good, is_next as is_greatest, reason_of_variable};
 ghost use Rattle.ft_check.specs.Entries.{entry_in, no_variable};
 ghost use Rattle.ft_check.specs.Rejects.{reason_of, IsReason};
@@ -14,7 +14,7 @@ use ft_stated::StatedItems;
 
 // Whether each variable before place i has a smaller number.
 fn is_next(items: &StatedItems, i: u64, v: u64) -> bool
-    ensures { Good (take i items.now.items) → result ≡ is_greatest (store_of (take i items.now.items)).variables v }
+    ensures { Good (take i items.now.items) → result ≡ is_greatest (declared_by (take i items.now.items)).variables v }
 {
     match items.greatest_before(i) {
         Some(greatest) => greatest < v,

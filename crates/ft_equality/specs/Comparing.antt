@@ -5,7 +5,7 @@ use Rattle.ft_theory.specs.Expressions.{Expression, bound, free, open_at}
 use Rattle.ft_theory.specs.Statements.{type_goal, term_goal, type_equation_goal, term_equation_goal, Statement, plain, abstracted, opened, domain_count}
 use Rattle.ft_theory.specs.Small.{is_small}
 use Rattle.ft_items.specs.Equal.{equal_expressions}
-use Rattle.ft_items.specs.Store.{Store}
+use Rattle.ft_items.specs.Store.{Declarations}
 use Rattle.ft_items.specs.Rows.{arguments_of, natural_type}
 use Rattle.ft_reference.specs.Refusals.{expressions}
 use Rattle.ft_equality.specs.Programs.{Question, types, terms, Program, give, stop, opens, asks, ◌>>=◌, ◌>>◌}
@@ -54,13 +54,13 @@ form_statement x = form_all (expressions x)
 
 -- To visit an application is to form its arguments as theses, each at its boundary, and its type by declaration. A variable is
 -- no application.
-abbrev pub visit : Store → Expression → Program (Unit {0})
+abbrev pub visit : Declarations → Expression → Program (Unit {0})
 visit W (bound i) = give tt
 visit W (free v) = give tt
 visit W e = form_all (flat_map expressions (arguments_of W e) ++ option_to_list (natural_type W e))
 
 -- these are visited, in their order
-abbrev pub visit_all : Store → List Expression → Program (Unit {0})
+abbrev pub visit_all : Declarations → List Expression → Program (Unit {0})
 visit_all W [] = give tt
 visit_all W (e ∷ es) = visit W e >> visit_all W es
 

@@ -5,7 +5,7 @@ use Rattle.std.specs.Prelude.{ℕ, suc, Bool, true, false, cond, nat_eq, not, Op
 use Rattle.ft_theory.specs.Expressions.{Expression, free, symbol, meta, Arguments, no_arguments, with_body, dummy, instantiate}
 use Rattle.ft_theory.specs.Statements.{has_type, Statement, plain, act_statement, boundary_of}
 use Rattle.ft_items.specs.Equal.{has_head, head}
-use Rattle.ft_items.specs.Store.{Store}
+use Rattle.ft_items.specs.Store.{Declarations}
 use Rattle.ft_items.specs.Rows.{arguments_of}
 use Rattle.ft_equality.specs.Shapes.{Premises, Computation, Extensionality, EqualityRules, is_principal}
 use Rattle.ft_equality.specs.Programs.{Question, types, terms, normals, Program, give, normalises, ◌>>=◌, ◌>>◌, Units, Answer, after, Bodies, solve}
@@ -30,7 +30,7 @@ contracted c I = do
   give (instantiate I c.right)
 
 -- the normal form of the right side of the first rule that matches; where none does the expression is normal
-abbrev pub compute : Store → List Computation → Expression → Program Expression
+abbrev pub compute : Declarations → List Computation → Expression → Program Expression
 compute W [] e = give e
 compute W (c ∷ cs) e = do
   found ← match_pattern W c.premises c.left e
@@ -53,7 +53,7 @@ principal_normal E s i (dummy n a) = do
   give (dummy n b)
 
 -- a symbol's principal arguments are normalised, and then the rules are tried; others are normal
-abbrev pub normal_by : Store → EqualityRules → Expression → Program Expression
+abbrev pub normal_by : Declarations → EqualityRules → Expression → Program Expression
 normal_by W E (symbol s a) = do
   b ← principal_normal E s 1 a
   form_all (symbol s b ∷ [])
@@ -84,13 +84,13 @@ terms_equal (plain (has_type t A) ∷ xs) (plain (has_type u B) ∷ ys) = and_th
 terms_equal xs ys = give false
 
 -- one symbol at equal arguments, or one metavariable at equal terms
-abbrev pub parts_equal : Store → EqualityRules → Expression → Expression → Program Bool
+abbrev pub parts_equal : Declarations → EqualityRules → Expression → Expression → Program Bool
 parts_equal W E (symbol s a) (symbol r b) = and_also (nat_eq s r) (λ _. arguments_equal E s 1 (arguments_of W (symbol s a)) (arguments_of W (symbol r b)))
 parts_equal W E (meta m a) (meta n b) = and_also (nat_eq m n) (λ _. terms_equal (arguments_of W (meta m a)) (arguments_of W (meta n b)))
 parts_equal W E e f = give false
 
 -- the same tree, or equal parts; both are visited first
-abbrev pub normals_equal : Store → EqualityRules → Expression → Expression → Program Bool
+abbrev pub normals_equal : Declarations → EqualityRules → Expression → Expression → Program Bool
 normals_equal W E e f = do
   visit W e
   visit W f
@@ -120,37 +120,37 @@ abbrev pub equations_hold : Instance → Premises → Program Bool
 equations_hold I qs = for_each (λ q. equation_holds (act_statement free I q.1)) qs
 
 -- the first extensionality rule whose type matches decides by its equation premises; where none does the normal forms decide
-abbrev pub by_type : Store → List Extensionality → Expression → Expression → Expression → Program Bool
+abbrev pub by_type : Declarations → List Extensionality → Expression → Expression → Expression → Program Bool
 by_type W [] s t A = by_normal_forms s t
 by_type W (x ∷ xs) s t A = do
   found ← match_pattern W x.premises x.type A
   if_found found (λ I. equations_hold (with_sides x I s t) x.equations) (λ _. by_type W xs s t A)
 
--- The questions and normal forms over a store with declared rules.
-abbrev pub answered : Store → EqualityRules → Question → Program Bool
+-- The questions and normal forms over declarations with equality rules.
+abbrev pub answered : Declarations → EqualityRules → Question → Program Bool
 answered W E (types A B) = same_or A B (by_normal_forms A B)
 answered W E (terms s t A) = same_or s t (normal_of A >>= by_type W E.extensionalities s t)
 answered W E (normals e f) = normals_equal W E e f
 
 -- what is done for each call, once its unit is spent
-abbrev pub bodies : Store → EqualityRules → Bodies
+abbrev pub bodies : Declarations → EqualityRules → Bodies
 bodies W E = record { asked = answered W E; normal = λ e. visit W e >> normal_by W E e }
 
 -- The calls: whether two types are equal, whether terms s : A and t : B are, and the normal form of an expression.
 
 -- two types
-abbrev pub types_are_equal : Store → EqualityRules → Expression → Expression → Units → Answer Bool
+abbrev pub types_are_equal : Declarations → EqualityRules → Expression → Expression → Units → Answer Bool
 types_are_equal W E A B u = (solve (bodies W E)).ask (types A B) u
 
 -- the terms at the first type, where the types are equal
-abbrev pub terms_at : Store → EqualityRules → Expression → Expression → Expression → Bool → Units → Answer Bool
+abbrev pub terms_at : Declarations → EqualityRules → Expression → Expression → Expression → Bool → Units → Answer Bool
 terms_at W E s t A false u = (Ok false, u)
 terms_at W E s t A true u = (solve (bodies W E)).ask (terms s t A) u
 
 -- two terms with their types
-abbrev pub terms_are_equal : Store → EqualityRules → Expression → Expression → Expression → Expression → Units → Answer Bool
+abbrev pub terms_are_equal : Declarations → EqualityRules → Expression → Expression → Expression → Expression → Units → Answer Bool
 terms_are_equal W E s A t B u = after (types_are_equal W E A B u) (terms_at W E s t A)
 
 -- a normal form
-abbrev pub normal_form : Store → EqualityRules → Expression → Units → Answer Expression
+abbrev pub normal_form : Declarations → EqualityRules → Expression → Units → Answer Expression
 normal_form W E e u = (solve (bodies W E)).normal e u

@@ -3,7 +3,7 @@ use Rattle.std.specs.Prelude.{ℕ, Bool, true, false, cond, nat_eq, not, ◌&&�
 use Rattle.ft_theory.specs.Expressions.{Expression, free, symbol, meta, Arguments, no_arguments, with_body, dummy, instantiate}
 use Rattle.ft_theory.specs.Statements.{Statement, act_statement, domain_count, boundary_of}
 use Rattle.ft_items.specs.Equal.{equal_statements, has_head, head}
-use Rattle.ft_items.specs.Store.{Store}
+use Rattle.ft_items.specs.Store.{Declarations}
 use Rattle.ft_items.specs.Rows.{arguments_of}
 use Rattle.ft_equality.specs.Shapes.{applications, Premises}
 use Rattle.ft_equality.specs.Programs.{Program, give, ◌>>=◌, ◌>>◌}
@@ -43,11 +43,11 @@ place_or u x walked = walked
 -- The places of a symbol at patterns in an expression: it meets its own applications alone, which are visited before their
 -- arguments are walked. And of patterns in arguments: each meets one with its number of binders, and a dummy an equation.
 abbrev mutual
-  pub walk : Store → Expression → Expression → Program Places
+  pub walk : Declarations → Expression → Expression → Program Places
   walk W (symbol s us) (symbol f a) = when (nat_eq s f) (λ _. visit W (symbol f a) >> walk_arguments W us (arguments_of W (symbol f a)))
   walk W u e = give None
 
-  pub walk_arguments : Store → Arguments → List Statement → Program Places
+  pub walk_arguments : Declarations → Arguments → List Statement → Program Places
   walk_arguments W no_arguments [] = give (Some [])
   walk_arguments W (with_body n u us) (x ∷ xs) = when (has_head x && nat_eq n (domain_count x)) (λ _. do
     found ← place_or u x (walk W u (head x))
@@ -92,7 +92,7 @@ abbrev pub repeats_equal : Premises → List Place → Program Bool
 repeats_equal qs ps = for_each (λ q. first_equals (met_by q.0 ps)) qs
 
 -- the instance, where both rounds ended with yes; the pattern at it is formed, and its applications are visited
-abbrev pub matched : Store → Expression → Instance → Bool → Program (Option Instance)
+abbrev pub matched : Declarations → Expression → Instance → Bool → Program (Option Instance)
 matched W u I false = give None
 matched W u I true = do
   form_all (instantiate I u ∷ [])
@@ -100,12 +100,12 @@ matched W u I true = do
   give (Some I)
 
 -- the instance by these places
-abbrev pub match_places : Store → Premises → Expression → Places → Program (Option Instance)
+abbrev pub match_places : Declarations → Premises → Expression → Places → Program (Option Instance)
 match_places W qs u None = give None
 match_places W qs u (Some ps) = do
   fits ← and_then (boundaries_fit (instance_by ps) qs ps) (λ _. repeats_equal qs ps)
   matched W u (instance_by ps) fits
 
 -- A pattern of a rule with these premises against an expression: the instance at which it matches, or None.
-abbrev pub match_pattern : Store → Premises → Expression → Expression → Program (Option Instance)
+abbrev pub match_pattern : Declarations → Premises → Expression → Expression → Program (Option Instance)
 match_pattern W qs u e = walk W u e >>= match_places W qs u

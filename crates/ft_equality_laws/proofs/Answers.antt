@@ -9,7 +9,7 @@ use Rattle.ft_laws.proofs.Commute.{ScopedTheory}
 use Rattle.ft_laws.proofs.Sides.{parts, boundary}
 use Rattle.ft_laws.proofs.EqualTerms.{transitive_flat}
 use Rattle.ft_laws.proofs.Finitary.{Sound, scoped}
-use Rattle.ft_items.specs.Store.{Declared, Store, nth}
+use Rattle.ft_items.specs.Store.{Declared, nth, Declarations}
 use Rattle.ft_equality.specs.Shapes.{Computation, EqualityRules}
 use Rattle.ft_equality.specs.Matching.{match_pattern}
 use Rattle.ft_equality_laws.proofs.Matches.{MatchFact}
@@ -22,7 +22,7 @@ use Rattle.ft_equality_laws.proofs.Parts.{Flat, means_map, normals_mean}
 use Rattle.ft_equality_laws.proofs.Normal.{Computes, AllCompute, computation_match, normal_mean}
 use Rattle.ft_equality_laws.proofs.ByType.{AllCompare, by_type_mean}
 
-module _ (W : Store) (E : EqualityRules) (so : Sound W.rules) (M : List (ℕ × Statement)) (ac : AllCompute W.rules E.computations) (ax : AllCompare W.rules E.extensionalities)
+module _ (W : Declarations) (E : EqualityRules) (so : Sound W.rules) (M : List (ℕ × Statement)) (ac : AllCompute W.rules E.computations) (ax : AllCompare W.rules E.extensionalities)
     (flat : (s : ℕ) (R : Rule) → rule_at W.rules s ≡ Some R → Flat E s 1 R.premises)
     (declared : (m : ℕ) (b : Statement) → look_up M m ≡ Some b → (d : Declared) × (nth W.metavariables m ≡ Some d) × (d.boundary ≡ b)) where
   normal_forms_mean : (n : ℕ) (c : Claim) (s t : Expression) → IsObjectGoal c → Means W.rules M n (λ r. If r (EqualAt W.rules M n c s t)) (by_normal_forms s t)

@@ -20,7 +20,7 @@ use Rattle.ft_laws.proofs.Substitute.{closed_term}
 use Rattle.ft_laws.proofs.Rules.{found, past, look_before}
 use Rattle.ft_laws.proofs.Finitary.{Sound, scoped, first_premises}
 use Rattle.ft_laws.proofs.Instances.{instantiate as at_instance}
-use Rattle.ft_items.specs.Store.{Store}
+use Rattle.ft_items.specs.Store.{Declarations}
 use Rattle.ft_sound.proofs.Good.{look_last}
 use Rattle.ft_equality.specs.Shapes.{Extensionality, are_patterns, determines, mentions, arguments_mention, terms_mention}
 use Rattle.ft_equality.specs.Comparing.{form_statement, sides_equal}
@@ -116,7 +116,7 @@ each_scoped T all before (q ∷ qs) w h = (
   each_scoped T all (before ++ (q ∷ [])) qs (λ m b r. w m b (ap (λ z. look_up z m) (sym (append_assoc before (q ∷ []) qs)) ∙ r)) h.3,
 )
 
-module _ (W : Store) (so : Sound W.rules) (M : List (ℕ × Statement)) where
+module _ (W : Declarations) (so : Sound W.rules) (M : List (ℕ × Statement)) where
   -- equation premises
   abbrev EqFact : ℕ → (ℕ → ℕ → Option Expression) → List (ℕ × Statement) → List (ℕ × Statement) → Type 0
   EqFact n K before qs = (G : List (ℕ × Expression)) → Below n G → IsInstance W.rules before [] M G K → Each (Met W.rules M G K) qs

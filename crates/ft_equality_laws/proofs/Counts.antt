@@ -1,7 +1,7 @@
 -- Units are kept, and calls are answered by their programs.
 use Rattle.std.proofs.Common.{ℕ, zero, suc, Bool, true, false, ◌≤◌, ◌+◌, ◌≡◌, refl, ap, ◌∙◌, arith, Ok, Err}
 use Rattle.ft_theory.specs.Expressions.{Expression}
-use Rattle.ft_items.specs.Store.{Store}
+use Rattle.ft_items.specs.Store.{Declarations}
 use Rattle.ft_sound.proofs.EqualLemmas.{expression_self}
 use Rattle.ft_equality.specs.Shapes.{EqualityRules}
 use Rattle.ft_equality.specs.Programs.{Question, types, terms, Program, give, stop, opens, asks, normalises, Units, Answer, after, spend_from, Solver, run, Bodies, solver, solve}
@@ -40,7 +40,7 @@ solver_keeps B (suc n) = record {
   normals = λ e u. spend_keeps u.used u.left (run (solver B n) (B.normal e)) (run_keeps (solver B n) (solver_keeps B n) (B.normal e));
 }
 
-module _ (W : Store) (E : EqualityRules) where
+module _ (W : Declarations) (E : EqualityRules) where
   types_keep : (A B : Expression) (u : Units) → UsesUnits u (types_are_equal W E A B u)
   types_keep A B u = (solver_keeps (bodies W E) u.left).asks (types A B) u
 

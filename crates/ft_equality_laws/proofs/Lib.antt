@@ -14,6 +14,6 @@ pub mod Normal
 pub mod ByType
 pub mod Answers
 pub mod Accepted
-pub mod Stores
+pub mod GoodLists
 pub mod Counts
 pub mod Worked

@@ -10,7 +10,7 @@ use Rattle.ft_laws.proofs.Opens.{by_test}
 use Rattle.ft_laws.proofs.Rules.{past}
 use Rattle.ft_laws.proofs.Finitary.{Sound, scoped, first_premises}
 use Rattle.ft_items.specs.Equal.{has_head, head}
-use Rattle.ft_items.specs.Store.{Store}
+use Rattle.ft_items.specs.Store.{Declarations}
 use Rattle.ft_equality.specs.Shapes.{are_patterns, determines, applications}
 use Rattle.ft_equality.specs.Programs.{give, ◌>>◌}
 use Rattle.ft_equality.specs.Comparing.{and_then, form_all, visit_all}
@@ -54,7 +54,7 @@ abbrev pub MatchFact : List Rule → List (ℕ × Statement) → ℕ → List (�
 MatchFact T M n hs u e None = Unit {0}
 MatchFact T M n hs u e (Some I) = (c : Claim) → IsObjectGoal c → (G : List (ℕ × Expression)) → Below n G → Prim T M G (plain (fill_goal c e)) → Prim T M G (plain (equate_goal c e (instantiate I u))) × HasClosedBodies I × Given T M G I hs
 
-module _ (W : Store) (so : Sound W.rules) (M hs rest : List (ℕ × Statement)) (s : ℕ) (us : Arguments) (pat : are_patterns us ≡ true) (l : Laid W.rules (symbol s us)) (only : ArgumentsMentionOnly (λ v. ⊥) (IsObjectPremise hs) us)
+module _ (W : Declarations) (so : Sound W.rules) (M hs rest : List (ℕ × Statement)) (s : ℕ) (us : Arguments) (pat : are_patterns us ≡ true) (l : Laid W.rules (symbol s us)) (only : ArgumentsMentionOnly (λ v. ⊥) (IsObjectPremise hs) us)
     (h : PremisesHold (λ N x. Prim W.rules N [] x) [] (hs ++ rest)) (d : Each (λ q. IsObject q.1 × (determines (symbol s us) q.0 ≡ true)) hs) where
   -- the places have equal arguments in the instance
   equal_places : (pl : List (ℕ × Statement)) (inside : Each (PlaceIn hs) pl) (G : List (ℕ × Expression)) → Each (Determined W.rules (scoped W.rules so) M hs rest pl inside) hs

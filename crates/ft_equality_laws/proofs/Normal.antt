@@ -17,7 +17,7 @@ use Rattle.ft_laws.proofs.Sides.{parts}
 use Rattle.ft_laws.proofs.Equal.{sides_of, types_of}
 use Rattle.ft_laws.proofs.EqualTerms.{transitive_flat}
 use Rattle.ft_laws.proofs.Finitary.{Sound, scoped}
-use Rattle.ft_items.specs.Store.{Store}
+use Rattle.ft_items.specs.Store.{Declarations}
 use Rattle.ft_equality.specs.Shapes.{Computation, EqualityRules, is_principal, are_patterns, determines}
 use Rattle.ft_equality.specs.Programs.{give, ◌>>=◌, ◌>>◌}
 use Rattle.ft_equality.specs.Comparing.{form_all, visit}
@@ -126,7 +126,7 @@ module _ (T : List Rule) (so : Sound T) (M : List (ℕ × Statement)) where
           let q : Prim T M G (plain (equal_terms (instantiate I c.left) (instantiate I c.right) (instantiate I A))) = equation_at T so M G I c.rule (record { premises = c.premises; conclusion = equation_goal c.left c.right (Some A) }) e tt (mets (Some A) e) in
           at_symbol (term_goal (instantiate I A)) tt (sides_of T (scoped T so) M G (instantiate I c.left) (instantiate I c.right) (instantiate I A) q).1 q
 
-module _ (W : Store) (so : Sound W.rules) (M : List (ℕ × Statement)) where
+module _ (W : Declarations) (so : Sound W.rules) (M : List (ℕ × Statement)) where
   -- what a derivable pattern mentions
   pub only_premises : (qs : List (ℕ × Statement)) (d : Claim) (s : ℕ) (us : Arguments) → IsObjectGoal d → Prim W.rules qs [] (plain (fill_goal d (symbol s us))) → ArgumentsMentionOnly (λ v. ⊥) (IsObjectPremise qs) us
   only_premises qs d s us o p = MentionsOnly_mono (symbol s us) (InVariables []) (λ v. ⊥) (InMetavariables qs) (IsObjectPremise qs) (λ v h. nothing h.1) (λ m k h. h)

@@ -17,7 +17,7 @@ use Rattle.ft_laws.proofs.Instances.{equal_instances}
 use Rattle.ft_laws.proofs.Rules.{look_before, given_object_premise, closed_instance, whole_instance, move_head, symmetric_equal}
 use Rattle.ft_laws.proofs.Finitary.{Sound, scoped}
 use Rattle.ft_items.specs.Equal.{has_head, head}
-use Rattle.ft_items.specs.Store.{Declared, Store, nth}
+use Rattle.ft_items.specs.Store.{Declared, nth, Declarations}
 use Rattle.ft_items.specs.Rows.{rule_arguments, meta_arguments, arguments_of}
 use Rattle.ft_sound.proofs.Good.{look_last}
 use Rattle.ft_equality.specs.Shapes.{EqualityRules, is_principal}
@@ -233,7 +233,7 @@ module _ (T : List Rule) (so : Sound T) (M : List (ℕ × Statement)) where
       (λ h. means_map T M n (TermsEqual n (opened t b) (opened u c) ts us) (TermsEqual n b c (also t ts) (also u us)) (terms_equal (term_typings (opened t b) ts) (term_typings (opened u c) us)) (λ y. one_term n b c t u ts us h.0 h.1 y)
       (terms_mean n (opened t b) (opened u c) ts us))
 
-module _ (W : Store) (E : EqualityRules) (so : Sound W.rules) (M : List (ℕ × Statement)) (flat : (s : ℕ) (R : Rule) → rule_at W.rules s ≡ Some R → Flat E s 1 R.premises)
+module _ (W : Declarations) (E : EqualityRules) (so : Sound W.rules) (M : List (ℕ × Statement)) (flat : (s : ℕ) (R : Rule) → rule_at W.rules s ≡ Some R → Flat E s 1 R.premises)
     (declared : (m : ℕ) (b : Statement) → look_up M m ≡ Some b → (d : Declared) × (nth W.metavariables m ≡ Some d) × (d.boundary ≡ b)) where
   symbols_mean : (n s : ℕ) (a b : Arguments) → Means W.rules M n (λ r. If r (Fact W.rules M n (normals (symbol s a) (symbol s b)))) (arguments_equal E s 1 (arguments_of W (symbol s a)) (arguments_of W (symbol s b)))
   symbols_mean n s a b = go (rule_at W.rules s) refl

@@ -15,7 +15,7 @@ use Rattle.ft_laws.proofs.Peel.{domain_count-fill}
 use Rattle.ft_laws.proofs.Sides.{boundary-fill}
 use Rattle.ft_laws.proofs.Finitary.{Sound}
 use Rattle.ft_items.specs.Equal.{equal_term_lists, has_head, head}
-use Rattle.ft_items.specs.Store.{Store}
+use Rattle.ft_items.specs.Store.{Declarations}
 use Rattle.ft_items.specs.Rows.{bounds, rule_arguments, arguments_of}
 use Rattle.ft_items.proofs.SetLemmas.{wrong, both}
 use Rattle.ft_sound.proofs.EqualLemmas.{lists_true}
@@ -109,7 +109,7 @@ module _ (T : List Rule) (M : List (ℕ × Statement)) where
       × ((G : List (ℕ × Expression)) → FitsPremises ps a → FitsPremises ps us → Trees (Step T) (sequents M G (filled_premises I ps a))
       → Goods G pl × ((K : ℕ → ℕ → Option Expression) → HasClosedBodies K → Each (EqualPlace G K) pl → Trees (Step T) (sequents M G (equated_premises I ps a (act_arguments free K us)))))
 
-module _ (W : Store) (so : Sound W.rules) (M : List (ℕ × Statement)) (hs : List (ℕ × Statement)) where
+module _ (W : Declarations) (so : Sound W.rules) (M : List (ℕ × Statement)) (hs : List (ℕ × Statement)) where
   T : List Rule
   T = W.rules
 

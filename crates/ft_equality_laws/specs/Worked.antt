@@ -3,7 +3,7 @@ use Rattle.std.specs.Prelude.{ℕ, ◌≡◌, ◌+◌, ◌-◌, true, false, Res
 use Rattle.ft_theory.specs.Expressions.{Expression, bound, free, symbol, meta, no_arguments, with_body, no_terms, also}
 use Rattle.ft_theory.specs.Statements.{type_goal, term_goal, type_equation_goal, term_equation_goal, Statement, plain, abstracted}
 use Rattle.ft_theory.specs.Rules.{Rule}
-use Rattle.ft_items.specs.Store.{Annotation, Declared, Store}
+use Rattle.ft_items.specs.Store.{Annotation, Declared, Declarations}
 use Rattle.ft_laws.specs.Examples.{natural, nought, successor, rule_natural, rule_nought, rule_successor, base, family, function, product, lambda, application, rule_product, rule_lambda, rule_application, rule_beta}
 use Rattle.ft_equality.specs.Results.{◌>>=◌}
 use Rattle.ft_equality.specs.Shapes.{ShapeFault, NotEquation, EquationPremise, BadLeft, Undetermined, EqualityRules, no_rules, computation_of, extensionality_of, add_computation, add_extensionality, is_principal}
@@ -96,13 +96,12 @@ abbrev pub step : Declared
 step = record { name = []; boundary = abstracted natural (plain (term_goal natural)); set = [] }
 
 -- the variables 0 and 1 of type Unit, 2 of type Pi(Nat, {x} Nat), and this metavariable
-abbrev pub store : Store
-store = record {
+abbrev pub declarations : Declarations
+declarations = record {
   rules = rules;
   names = [];
   metavariables = step ∷ [];
   variables = (0, of unit) ∷ (1, of unit) ∷ (2, of (product natural natural)) ∷ [];
-  entries = [];
 }
 
 -- the rules that compute, and those that are extensional, in this order
@@ -155,42 +154,42 @@ AreExtensionalityFaults = (extensionality_of 14 rule_number ≡ Err NotEquation)
 
 -- `plus(S(O), S(O)) == S(S(O)) : Nat`
 abbrev pub OneAndOne : Type 0
-OneAndOne = terms_are_equal store (rules_of declared) (plus (successor nought) (successor nought)) natural (successor (successor nought)) natural (spent 0) ≡ (Ok true, spent 15)
+OneAndOne = terms_are_equal declarations (rules_of declared) (plus (successor nought) (successor nought)) natural (successor (successor nought)) natural (spent 0) ≡ (Ok true, spent 15)
 
 -- not where `plusS` is not declared
 abbrev pub NotWithoutTheRule : Type 0
-NotWithoutTheRule = terms_are_equal store (rules_of (add_computation no_rules 8 rule_plus_nought)) (plus (successor nought) (successor nought)) natural (successor (successor nought)) natural (spent 0) ≡ (Ok false, spent 7)
+NotWithoutTheRule = terms_are_equal declarations (rules_of (add_computation no_rules 8 rule_plus_nought)) (plus (successor nought) (successor nought)) natural (successor (successor nought)) natural (spent 0) ≡ (Ok false, spent 7)
 
 -- two variables of type Unit are equal, by its extensionality rule
 abbrev pub UnitIsTrivial : Type 0
-UnitIsTrivial = terms_are_equal store (rules_of declared) (free 0) unit (free 1) unit (spent 0) ≡ (Ok true, spent 3)
+UnitIsTrivial = terms_are_equal declarations (rules_of declared) (free 0) unit (free 1) unit (spent 0) ≡ (Ok true, spent 3)
 
 -- `lam(Nat, {x} Nat, {x} app(Nat, {x} Nat, f, x)) == f : Pi(Nat, {x} Nat)`, by the rule for functions and beta
 abbrev pub FunctionsAreExtensional : Type 0
-FunctionsAreExtensional = terms_are_equal store (rules_of declared) (lambda natural natural (application natural natural (free 2) (bound 0))) (product natural natural) (free 2) (product natural natural) (spent 0) ≡ (Ok true, spent 13)
+FunctionsAreExtensional = terms_are_equal declarations (rules_of declared) (lambda natural natural (application natural natural (free 2) (bound 0))) (product natural natural) (free 2) (product natural natural) (spent 0) ≡ (Ok true, spent 13)
 
 -- not for `lam(Nat, {x} Nat, {x} O)`
 abbrev pub ConstantIsAnother : Type 0
-ConstantIsAnother = terms_are_equal store (rules_of declared) (lambda natural natural nought) (product natural natural) (free 2) (product natural natural) (spent 0) ≡ (Ok false, spent 12)
+ConstantIsAnother = terms_are_equal declarations (rules_of declared) (lambda natural natural nought) (product natural natural) (free 2) (product natural natural) (spent 0) ≡ (Ok false, spent 12)
 
 -- `?(plus(O, O)) == ?(O) : Nat` for the metavariable, term by term
 abbrev pub MetavariableAtEqualTerms : Type 0
-MetavariableAtEqualTerms = terms_are_equal store (rules_of declared) (meta 0 (also (plus nought nought) no_terms)) natural (meta 0 (also nought no_terms)) natural (spent 0) ≡ (Ok true, spent 13)
+MetavariableAtEqualTerms = terms_are_equal declarations (rules_of declared) (meta 0 (also (plus nought nought) no_terms)) natural (meta 0 (also nought no_terms)) natural (spent 0) ≡ (Ok true, spent 13)
 
 -- `Pi(Number, {x} Number) == Pi(Nat, {x} Nat)`, argument by argument
 abbrev pub ProductsOfNumbers : Type 0
-ProductsOfNumbers = types_are_equal store (rules_of declared) (product number number) (product natural natural) (spent 0) ≡ (Ok true, spent 15)
+ProductsOfNumbers = types_are_equal declarations (rules_of declared) (product number number) (product natural natural) (spent 0) ≡ (Ok true, spent 15)
 
 -- Normal forms.
 
 -- that of `plus(S(O), S(O))` is `S(plus(O, S(O)))`, since the argument of `S` is not principal
 abbrev pub OneAndOneIsNormal : Type 0
-OneAndOneIsNormal = normal_form store (rules_of declared) (plus (successor nought) (successor nought)) (spent 0) ≡ (Ok (successor (plus nought (successor nought))), spent 3)
+OneAndOneIsNormal = normal_form declarations (rules_of declared) (plus (successor nought) (successor nought)) (spent 0) ≡ (Ok (successor (plus nought (successor nought))), spent 3)
 
 -- `app(Nat, {x} Nat, lam(Number, {x} Nat, {x} S(x)), O)` computes, since the types at which it stands are equal
 abbrev pub BetaAtEqualTypes : Type 0
-BetaAtEqualTypes = normal_form store (rules_of declared) (application natural natural (lambda number natural (successor (bound 0))) nought) (spent 0) ≡ (Ok (successor nought), spent 20)
+BetaAtEqualTypes = normal_form declarations (rules_of declared) (application natural natural (lambda number natural (successor (bound 0))) nought) (spent 0) ≡ (Ok (successor nought), spent 20)
 
 -- a rule that loops spends all units
 abbrev pub LoopEnds : Type 0
-LoopEnds = normal_form store (rules_of declared) loop (spent 0) ≡ (Err Spent, spent 1000)
+LoopEnds = normal_form declarations (rules_of declared) loop (spent 0) ≡ (Err Spent, spent 1000)

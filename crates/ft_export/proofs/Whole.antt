@@ -5,7 +5,7 @@ use Rattle.std.proofs.lemmas.List.{length-append}
 use Rattle.ft_items.specs.Item.{Item}
 use Rattle.ft_items.specs.Store.{nth}
 use Rattle.ft_items.specs.Texts.{line_text, lines_text, text_of, ItemFits, ItemsFit}
-use Rattle.ft_outside.specs.Outside.{Appends, AppendsPrefix}
+use Rattle.ft_streams.specs.Streams.{Appends, AppendsPrefix}
 use Rattle.ft_base.specs.Names.{is_name_token}
 use Rattle.ft_export.specs.Written.{WritesUpTo}
 

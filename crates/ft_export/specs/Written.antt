@@ -4,7 +4,7 @@ use Rattle.ft_base.specs.Names.{is_name_token}
 use Rattle.ft_items.specs.Item.{Item}
 use Rattle.ft_items.specs.Store.{nth}
 use Rattle.ft_items.specs.Texts.{line_text, ItemFits}
-use Rattle.ft_outside.specs.Outside.{Appends}
+use Rattle.ft_streams.specs.Streams.{Appends}
 
 -- the line of an item, which can be written, comes after what was there
 abbrev pub AppendsLine : Item → List ℕ → List ℕ → Type 0

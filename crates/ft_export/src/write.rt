@@ -3,7 +3,7 @@
 ghost use Rattle.std.specs.Prelude.{◌≡◌, ◌≤◌, IfOk, OnOk, OnErr, IsErrOf, encode_utf8_all};
 ghost use Rattle.ft_base.specs.Names.{is_name_token};
 ghost use Rattle.ft_items.specs.Texts.{text_of, IsTextOf};
-ghost use Rattle.ft_outside.specs.Outside.{Rose, Appends, AppendsPrefix};
+ghost use Rattle.ft_streams.specs.Streams.{Rose, Appends, AppendsPrefix};
 ghost use Rattle.ft_export.specs.Written.{WritesUpTo};
 
 use crate::lines::push_item;

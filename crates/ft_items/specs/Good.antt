@@ -4,7 +4,7 @@ use Rattle.ft_theory.specs.Statements.{is_type, Statement, plain}
 use Rattle.ft_items.specs.Sets.{Atom, is_within, same_set, metavariables_only}
 use Rattle.ft_items.specs.Equal.{equal_statements, is_thesis, is_plain}
 use Rattle.ft_items.specs.Item.{Stated, Name, Entry, Item, variable, metavariable, rule, entry, shown}
-use Rattle.ft_items.specs.Store.{Assertion, Annotation, Declared, Store, each, entry_named, metavariable_named, resolve, Resolved, empty_store, add, store_of}
+use Rattle.ft_items.specs.Store.{Assertion, Annotation, Declared, Declarations, Store, each, entry_named, metavariable_named, resolve, Resolved, empty_store, add, store_of, declared_by}
 use Rattle.ft_items.specs.Levels.{level}
 use Rattle.ft_items.specs.Rows.{conclusion, result_set, theses, boundaries, concludes_thesis, atoms, differ, on_earlier}
 
@@ -24,13 +24,13 @@ all_boundaries (p ∷ ps) = not (is_thesis p.statement) && all_boundaries ps
 abbrev pub of_kind : Resolved → Bool
 of_kind s = all_theses (theses s) && all_boundaries (boundaries s)
 
--- what a step gives after a list: a statement and its set; None where a kind is wrong or a condition fails
-abbrev pub given : Store → Resolved → Option Assertion
+-- what a step gives over the declarations: a statement and its set; None where a kind is wrong or a condition fails
+abbrev pub given : Declarations → Resolved → Option Assertion
 given W s = cond (of_kind s) (option_map (λ x. record { statement = x; set = result_set s }) (conclusion W s)) None
 
 -- what a stated step gives after a list; None where a number names nothing, a kind is wrong or a condition fails
 abbrev pub gives : Store → Stated → Option Assertion
-gives W s = option_and_then (given W) (resolve W s)
+gives W s = option_and_then (given W.declarations) (resolve W s)
 
 -- When an item is allowed.
 
@@ -58,7 +58,7 @@ is_new (m ∷ ms) n = not (equal_names m n) && is_new ms n
 
 -- A variable is allowed where its number is greater than that of each earlier variable and its entry is a plain type.
 abbrev pub AllowedVariable : Store → ℕ → ℕ → Type 0
-AllowedVariable W v p = (is_next W.variables v ≡ true) × (a : Assertion) × (entry_named W p ≡ Some a) × (is_plain_type a.statement ≡ true)
+AllowedVariable W v p = (is_next W.declarations.variables v ≡ true) × (a : Assertion) × (entry_named W p ≡ Some a) × (is_plain_type a.statement ≡ true)
 
 -- A metavariable is allowed where its entry is a boundary that rests on no variable.
 abbrev pub AllowedMetavariable : Store → ℕ → Type 0
@@ -67,8 +67,8 @@ AllowedMetavariable W p = (a : Assertion) × (entry_named W p ≡ Some a) × (is
 -- A rule is allowed where its name is new, fewer than 65,536 rules stand before it, its metavariables differ, each has a
 -- boundary that rests on earlier ones alone, and its entry is a plain boundary that rests on these metavariables alone.
 abbrev pub AllowedRule : Store → Name → List ℕ → ℕ → Type 0
-AllowedRule W n ms p = (is_new W.names n ≡ true) × (length W.rules < 65536)
-    × (ds : List (ℕ × Declared)) × (each (metavariable_named W) ms ≡ Some ds) × (a : Assertion) × (entry_named W p ≡ Some a)
+AllowedRule W n ms p = (is_new W.declarations.names n ≡ true) × (length W.declarations.rules < 65536)
+    × (ds : List (ℕ × Declared)) × (each (metavariable_named W.declarations) ms ≡ Some ds) × (a : Assertion) × (entry_named W p ≡ Some a)
     × (differ (atoms ds) ≡ true) × (is_thesis a.statement ≡ false) × (is_plain a.statement ≡ true) × (on_earlier [] ds ≡ true) × (is_within a.set (atoms ds) ≡ true)
 
 -- An entry is allowed where its statement and its set are what its step gives.
@@ -121,9 +121,9 @@ abbrev pub unless : Bool → Reject → Option Reject → Option Reject
 unless b why next = cond b next (Some why)
 
 -- the test that two tests have the same outcome
-abbrev pub same_kind : Bool → Bool → Bool
-same_kind true b = b
-same_kind false b = not b
+abbrev pub same_truth : Bool → Bool → Bool
+same_truth true b = b
+same_truth false b = not b
 
 -- the reason against an entry whose step has this conclusion and this set: Premise, Conclusion, Set
 abbrev pub reason_of_result : Option Statement → List Atom → Entry → Option Reject
@@ -131,9 +131,9 @@ reason_of_result None S e = Some Premise
 reason_of_result (Some x) S e = unless (equal_statements x e.statement) Conclusion (unless (same_set S e.set) Set None)
 
 -- the reason against an entry: Reference, Kind, and those of its result
-abbrev pub reason_of_entry : Store → Option Resolved → Entry → Option Reject
+abbrev pub reason_of_entry : Declarations → Option Resolved → Entry → Option Reject
 reason_of_entry W None e = Some Reference
-reason_of_entry W (Some s) e = unless (of_kind s && same_kind (concludes_thesis s) (is_thesis e.statement)) Kind (reason_of_result (conclusion W s) (result_set s) e)
+reason_of_entry W (Some s) e = unless (of_kind s && same_truth (concludes_thesis s) (is_thesis e.statement)) Kind (reason_of_result (conclusion W s) (result_set s) e)
 
 -- the reason against a variable whose number is right: Reference, Kind, Premise
 abbrev pub reason_of_variable : Option Assertion → Option Reject
@@ -160,10 +160,10 @@ reason_of_shown (Some p) = unless (is_thesis p.statement) Kind None
 
 -- The first reason against an item after what the store has. For a variable Number comes first, for a rule Name, then Many.
 abbrev pub reason_in : Store → Item → Option Reject
-reason_in W (variable v n p) = unless (is_next W.variables v) Number (reason_of_variable (entry_named W p))
+reason_in W (variable v n p) = unless (is_next W.declarations.variables v) Number (reason_of_variable (entry_named W p))
 reason_in W (metavariable n p) = reason_of_metavariable (entry_named W p)
-reason_in W (rule n ms p) = unless (is_new W.names n) Named (unless (nat_lt (length W.rules) 65536) Many (reason_of_rule (each (metavariable_named W) ms) (entry_named W p)))
-reason_in W (entry e) = reason_of_entry W (resolve W e.step) e
+reason_in W (rule n ms p) = unless (is_new W.declarations.names n) Named (unless (nat_lt (length W.declarations.rules) 65536) Many (reason_of_rule (each (metavariable_named W.declarations) ms) (entry_named W p)))
+reason_in W (entry e) = reason_of_entry W.declarations (resolve W e.step) e
 reason_in W (shown p) = reason_of_shown (entry_named W p)
 
 -- the first reason against an item after a list; None where there is none
@@ -217,7 +217,7 @@ greatest_level W (i ∷ items) = max (level_in W i) (greatest_level (add W i) it
 
 -- the counts of a list
 abbrev pub counts : List Item → Counts
-counts items = record { rules = length (store_of items).rules; entries = length (store_of items).entries; shown = marks items; level = greatest_level empty_store items }
+counts items = record { rules = length (declared_by items).rules; entries = length (store_of items).entries; shown = marks items; level = greatest_level empty_store items }
 
 -- item k where there is a reason against it, and else what is found later
 abbrev pub found_at : ℕ → Option Reject → Option (ℕ × Reject) → Option (ℕ × Reject)

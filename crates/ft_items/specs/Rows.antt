@@ -1,13 +1,13 @@
 -- The table of steps: what each step concludes where its conditions hold, and the set of the result. One definition a row.
 -- After the rules of the context-free theories of Haselwarter and Bauer, "Finitary type theories with and without contexts".
-use Rattle.std.specs.Prelude.{ℕ, zero, suc, Option, Some, None, Bool, true, false, cond, nat_eq, ◌&&◌, not, List, [], ◌∷◌, ◌++◌, length, take, drop, option_map}
+use Rattle.std.specs.Prelude.{ℕ, zero, suc, Option, Some, None, Bool, true, false, cond, nat_eq, nat_lt, ◌&&◌, not, List, [], ◌∷◌, ◌++◌, length, take, drop, option_map}
 use Rattle.ft_theory.specs.Expressions.{Expression, bound, free, symbol, meta, Arguments, Terms, no_terms, also, open_at}
 use Rattle.ft_theory.specs.Statements.{Claim, is_type, has_type, equal_types, equal_terms, type_goal, term_goal, type_equation_goal, term_equation_goal, Statement, plain, abstracted, act_statement, close_statement, opened, domain_count, at, fill_goal, fill, equate_goal, equate, boundary_of}
 use Rattle.ft_theory.specs.Rules.{look_up, Rule, rule_at, instance_of, filled_premises, term_typings, conclusion_at}
 use Rattle.ft_items.specs.Sets.{Atom, met, var, insert, union, unions, without, has, is_within}
 use Rattle.ft_items.specs.Equal.{equal_expressions, equal_statements, is_thesis, is_object_goal, is_object, has_head, head, fits, fit_all, heads, start_all, right_heads, typed, terms, paired, left_terms, right_terms}
 use Rattle.ft_items.specs.Item.{Justification, by_var, by_generic, by_meta, by_metacong, by_abs, by_subst, by_substeq, by_refl, by_sym, by_trans, by_conv, by_conveq, by_left, by_right, by_typeof, by_domain, by_boundary, by_widen, by_btype, by_bterm, by_beqty, by_beqtm, by_rule, by_rulewith, by_inst, by_cong, by_convprem, by_convback, by_arg, by_natural, by_metainst}
-use Rattle.ft_items.specs.Store.{Assertion, Annotation, Declared, Store, nth, Resolved, premises_of}
+use Rattle.ft_items.specs.Store.{Assertion, Annotation, Declared, Declarations, nth, Resolved, premises_of}
 
 -- x, where the test holds
 abbrev pub when : {A : Type 0} → Bool → A → Option A
@@ -147,7 +147,8 @@ term_equation_boundary x y z = None
 abbrev pub at_arguments : List (ℕ × Statement) → Arguments → Statement → Statement
 at_arguments ps a b = act_statement free (instance_of ps a) b
 
--- the test that the theses are arguments for the premises: as many, and each fits its premise's boundary at their heads
+-- The test that the theses are arguments for the premises: as many, and each fits its premise's boundary at all their heads. Only
+-- the heads before it count there, since a boundary mentions only premises before its own.
 abbrev pub are_arguments : List (ℕ × Statement) → List Statement → Bool
 are_arguments ps xs = fit_all (at_arguments ps (heads xs)) ps xs
 
@@ -167,14 +168,18 @@ first_premises R xs = take (length xs) R.premises
 abbrev pub later_premises : Rule → List Statement → List (ℕ × Statement)
 later_premises R xs = drop (length xs) R.premises
 
--- the boundary of the next premise at the arguments a for the premises ps, or the conclusion's where no premise is left
+-- the boundary at the arguments a for the premises ps, where qs are left: the next premise's, or the conclusion's where none is
 abbrev pub next_boundary : Rule → List (ℕ × Statement) → Arguments → List (ℕ × Statement) → Statement
 next_boundary R ps a [] = plain (conclusion_at R a)
 next_boundary R ps a (q ∷ qs) = at_arguments ps a q.1
 
--- the next boundary after arguments for the first premises
+-- the boundary after as many premises as there are theses, at the arguments a
+abbrev pub boundary_after : Rule → List Statement → Arguments → Statement
+boundary_after R xs a = next_boundary R (first_premises R xs) a (later_premises R xs)
+
+-- the boundary after arguments for the first premises, at them
 abbrev pub boundary_instance : Rule → List Statement → Option Statement
-boundary_instance R xs = when (are_arguments (first_premises R xs) xs) (next_boundary R (first_premises R xs) (heads xs) (later_premises R xs))
+boundary_instance R xs = when (are_arguments (first_premises R xs) xs) (boundary_after R xs (heads xs))
 
 -- of an object rule r, the equation between its symbol at the arguments and at the right sides of equations that start at the
 -- arguments' heads, one for each object premise
@@ -182,20 +187,21 @@ abbrev pub congruence_of : ℕ → Rule → List Statement → List Statement �
 congruence_of r R xs es =
     when (is_object_goal R.conclusion && are_arguments R.premises xs && start_all xs es) (plain (equate_goal (conclusion_at R (heads xs)) (symbol r (heads xs)) (symbol r (right_heads xs es))))
 
--- the thesis y, which fits the next premise's boundary at the arguments a, with its head at that boundary at c
-abbrev pub moved_argument : List (ℕ × Statement) → Arguments → Arguments → List (ℕ × Statement) → Statement → Option Statement
-moved_argument ps a c [] y = None
-moved_argument ps a c (q ∷ qs) y = when (fits y (at_arguments ps a q.1)) (fill (at_arguments ps c q.1) (head y))
+-- Of arguments for the first premises of a rule, which are not all, with equations that start at their heads: the thesis y, which
+-- fits the next premise's boundary at a, with its head at that boundary at c.
+abbrev pub moved : Rule → List Statement → List Statement → Arguments → Arguments → Statement → Option Statement
+moved R xs es a c y =
+    when (nat_lt (length xs) (length R.premises)
+    && (are_arguments (first_premises R xs) xs && start_all xs es && fits y (boundary_after R xs a)))
+    (fill (boundary_after R xs c) (head y))
 
--- an argument for the premise after the given ones, moved from the arguments to the right sides of the equations
+-- an argument for the premise after such arguments, moved from these to the right sides of the equations
 abbrev pub premise_conversion : Rule → List Statement → List Statement → Statement → Option Statement
-premise_conversion R xs es y = cond (are_arguments (first_premises R xs) xs && start_all xs es)
-    (moved_argument (first_premises R xs) (heads xs) (right_heads xs es) (later_premises R xs) y) None
+premise_conversion R xs es y = moved R xs es (heads xs) (right_heads xs es) y
 
 -- the same from the right sides to the arguments
 abbrev pub premise_conversion_back : Rule → List Statement → List Statement → Statement → Option Statement
-premise_conversion_back R xs es y = cond (are_arguments (first_premises R xs) xs && start_all xs es)
-    (moved_argument (first_premises R xs) (right_heads xs es) (heads xs) (later_premises R xs) y) None
+premise_conversion_back R xs es y = moved R xs es (right_heads xs es) (heads xs) y
 
 -- What an application tells of its arguments and its type.
 
@@ -210,7 +216,7 @@ meta_arguments None a = []
 meta_arguments (Some d) a = term_typings d.boundary a
 
 -- the arguments of an application as theses; a variable has none
-abbrev pub arguments_of : Store → Expression → List Statement
+abbrev pub arguments_of : Declarations → Expression → List Statement
 arguments_of W (bound i) = []
 arguments_of W (free v) = []
 arguments_of W (symbol r a) = rule_arguments (rule_at W.rules r) a
@@ -222,7 +228,7 @@ from_one xs zero = None
 from_one xs (suc i) = nth xs i
 
 -- the i-th argument of the application in a plain type or term, as a thesis
-abbrev pub argument : Store → ℕ → Statement → Option Statement
+abbrev pub argument : Declarations → ℕ → Statement → Option Statement
 argument W i (plain (is_type e)) = from_one (arguments_of W e) i
 argument W i (plain (has_type e A)) = from_one (arguments_of W e) i
 argument W i x = None
@@ -243,14 +249,14 @@ natural_of_meta None a = None
 natural_of_meta (Some d) a = type_of_boundary (at d.boundary a)
 
 -- the type that a variable or an application has by its declaration
-abbrev pub natural_type : Store → Expression → Option Expression
+abbrev pub natural_type : Declarations → Expression → Option Expression
 natural_type W (bound i) = None
 natural_type W (free v) = option_map (λ d. d.annotation) (look_up W.variables v)
 natural_type W (symbol r a) = natural_of_rule (rule_at W.rules r) a
 natural_type W (meta m a) = natural_of_meta (nth W.metavariables m) a
 
 -- of a plain term, the equation between the type that it has by its declaration and the stated one
-abbrev pub natural : Store → Statement → Option Statement
+abbrev pub natural : Declarations → Statement → Option Statement
 natural W (plain (has_type e A)) = option_map (λ N. plain (equal_types N A)) (natural_type W e)
 natural W x = None
 
@@ -277,7 +283,7 @@ abbrev pub instantiated : List (ℕ × Declared) → Assertion → List Statemen
 instantiated ms p xs = when (differ (atoms ms) && on_earlier [] ms && is_within p.set (atoms ms) && are_arguments (premises_of ms) xs) (at_arguments (premises_of ms) (heads xs) p.statement)
 
 -- what the step concludes; None where a condition of its row fails
-abbrev pub conclusion : Store → Resolved → Option Statement
+abbrev pub conclusion : Declarations → Resolved → Option Statement
 conclusion W (by_var v) = Some (plain (has_type (free v.0) v.1.annotation))
 conclusion W (by_generic m) = Some (fill m.1.boundary (meta m.0 (bounds (domain_count m.1.boundary))))
 conclusion W (by_meta m ps) = applied_meta m.0 m.1.boundary (statements ps)
@@ -310,74 +316,90 @@ conclusion W (by_arg i p) = argument W i p.statement
 conclusion W (by_natural p) = natural W p.statement
 conclusion W (by_metainst p ms qs) = instantiated ms p (statements qs)
 
--- The set of what the step gives: the sets of all that it names, together. A variable and a metavariable add themselves;
--- abstraction takes its variable out; the instance of an entry has the sets of the arguments alone.
+-- What a step names in one place: an entry, or several in order.
+pub data Named (E : Type 0) : Type 0 where
+  one : E → Named E
+  several : List E → Named E
+
+-- the entries that a step names, place by place
+abbrev pub named : {E V M R : Type 0} → Justification E V M R → List (Named E)
+named (by_var v) = []
+named (by_generic m) = []
+named (by_meta m ps) = several ps ∷ []
+named (by_metacong m es) = several es ∷ []
+named (by_abs v p) = one p ∷ []
+named (by_subst p t) = one p ∷ one t ∷ []
+named (by_substeq p e) = one p ∷ one e ∷ []
+named (by_refl p) = one p ∷ []
+named (by_sym p) = one p ∷ []
+named (by_trans p q) = one p ∷ one q ∷ []
+named (by_conv p e) = one p ∷ one e ∷ []
+named (by_conveq p e) = one p ∷ one e ∷ []
+named (by_left p) = one p ∷ []
+named (by_right p) = one p ∷ []
+named (by_typeof p) = one p ∷ []
+named (by_domain p) = one p ∷ []
+named (by_boundary p) = one p ∷ []
+named (by_widen p q) = one p ∷ one q ∷ []
+named by_btype = []
+named (by_bterm p) = one p ∷ []
+named (by_beqty p q) = one p ∷ one q ∷ []
+named (by_beqtm p s t) = one p ∷ one s ∷ one t ∷ []
+named (by_rule r ps) = several ps ∷ []
+named (by_rulewith r b ps) = one b ∷ several ps ∷ []
+named (by_inst r ps) = several ps ∷ []
+named (by_cong r ps es) = several ps ∷ several es ∷ []
+named (by_convprem r ps es q) = several ps ∷ several es ∷ one q ∷ []
+named (by_convback r ps es q) = several ps ∷ several es ∷ one q ∷ []
+named (by_arg i p) = one p ∷ []
+named (by_natural p) = one p ∷ []
+named (by_metainst p ms qs) = one p ∷ several qs ∷ []
+
+-- the atoms of what is named in one place
+abbrev pub set_of : Named Assertion → List Atom
+set_of (one p) = p.set
+set_of (several ps) = unions (sets ps)
+
+-- the atoms of all that is named
+abbrev pub set_of_all : List (Named Assertion) → List Atom
+set_of_all [] = []
+set_of_all (n ∷ []) = set_of n
+set_of_all (n ∷ m ∷ ns) = union (set_of n) (set_of_all (m ∷ ns))
+
+-- The set of what the step gives is the union of the sets of the entries that it names. But a variable and a metavariable add
+-- themselves, with the set of their annotation; abstraction takes its variable out and adds the set of its annotation; and the
+-- instance of an entry has the sets of the arguments alone.
 abbrev pub result_set : Resolved → List Atom
 result_set (by_var v) = insert (var v.0) v.1.set
 result_set (by_generic m) = insert (met m.0) m.1.set
 result_set (by_meta m ps) = insert (met m.0) (union m.1.set (unions (sets ps)))
 result_set (by_metacong m es) = insert (met m.0) (union m.1.set (unions (sets es)))
 result_set (by_abs v p) = union v.1.set (without (var v.0) p.set)
-result_set (by_subst p t) = union p.set t.set
-result_set (by_substeq p e) = union p.set e.set
-result_set (by_refl p) = p.set
-result_set (by_sym p) = p.set
-result_set (by_trans p q) = union p.set q.set
-result_set (by_conv p e) = union p.set e.set
-result_set (by_conveq p e) = union p.set e.set
-result_set (by_left p) = p.set
-result_set (by_right p) = p.set
-result_set (by_typeof p) = p.set
-result_set (by_domain p) = p.set
-result_set (by_boundary p) = p.set
-result_set (by_widen p q) = union p.set q.set
-result_set by_btype = []
-result_set (by_bterm p) = p.set
-result_set (by_beqty p q) = union p.set q.set
-result_set (by_beqtm p s t) = union p.set (union s.set t.set)
-result_set (by_rule r ps) = unions (sets ps)
-result_set (by_rulewith r b ps) = union b.set (unions (sets ps))
-result_set (by_inst r ps) = unions (sets ps)
-result_set (by_cong r ps es) = union (unions (sets ps)) (unions (sets es))
-result_set (by_convprem r ps es q) = union (unions (sets ps)) (union (unions (sets es)) q.set)
-result_set (by_convback r ps es q) = union (unions (sets ps)) (union (unions (sets es)) q.set)
-result_set (by_arg i p) = p.set
-result_set (by_natural p) = p.set
 result_set (by_metainst p ms qs) = unions (sets qs)
+result_set s = set_of_all (named s)
 
--- the entries that the step names where its row has a thesis
+-- the entries that are named in one place
+abbrev pub entries_of : {E : Type 0} → Named E → List E
+entries_of (one p) = p ∷ []
+entries_of (several ps) = ps
+
+-- the entries that are named, in order
+abbrev pub all_entries : {E : Type 0} → List (Named E) → List E
+all_entries [] = []
+all_entries (n ∷ []) = entries_of n
+all_entries (n ∷ m ∷ ns) = entries_of n ++ all_entries (m ∷ ns)
+
+-- The entries that the step names where its row has a thesis: all, but for the places where a boundary stands or may stand.
 abbrev pub theses : {E V M R : Type 0} → Justification E V M R → List E
-theses (by_var v) = []
-theses (by_generic m) = []
-theses (by_meta m ps) = ps
-theses (by_metacong m es) = es
 theses (by_abs v p) = []
 theses (by_subst p t) = t ∷ []
-theses (by_substeq p e) = p ∷ e ∷ []
-theses (by_refl p) = p ∷ []
-theses (by_sym p) = p ∷ []
-theses (by_trans p q) = p ∷ q ∷ []
-theses (by_conv p e) = p ∷ e ∷ []
-theses (by_conveq p e) = p ∷ e ∷ []
 theses (by_left p) = []
 theses (by_right p) = []
 theses (by_typeof p) = []
 theses (by_domain p) = []
-theses (by_boundary p) = p ∷ []
-theses (by_widen p q) = p ∷ q ∷ []
-theses by_btype = []
-theses (by_bterm p) = p ∷ []
-theses (by_beqty p q) = p ∷ q ∷ []
-theses (by_beqtm p s t) = p ∷ s ∷ t ∷ []
-theses (by_rule r ps) = ps
 theses (by_rulewith r b ps) = ps
-theses (by_inst r ps) = ps
-theses (by_cong r ps es) = ps ++ es
-theses (by_convprem r ps es q) = ps ++ (es ++ (q ∷ []))
-theses (by_convback r ps es q) = ps ++ (es ++ (q ∷ []))
-theses (by_arg i p) = p ∷ []
-theses (by_natural p) = p ∷ []
 theses (by_metainst p ms qs) = qs
+theses s = all_entries (named s)
 
 -- the entries that the step names where its row has a boundary; others may be either
 abbrev pub boundaries : {E V M R : Type 0} → Justification E V M R → List E

@@ -1,6 +1,6 @@
 -- The store of a list of items: the rules, metavariables and variables that it declares, and the statements that it derives.
 -- Also the sequent of a statement, and what the numbers in a step name.
-use Rattle.std.specs.Prelude.{ℕ, zero, suc, Option, Some, None, List, [], ◌∷◌, ◌++◌, option_map, option_and_then}
+use Rattle.std.specs.Prelude.{ℕ, zero, suc, Option, Some, None, ◌≡◌, List, [], ◌∷◌, ◌++◌, option_map, option_and_then}
 use Rattle.ft_theory.specs.Expressions.{Expression, bound}
 use Rattle.ft_theory.specs.Statements.{Claim, is_type, type_goal, Statement, plain, abstracted}
 use Rattle.ft_theory.specs.Rules.{look_up, Rule, rule_at}
@@ -25,13 +25,17 @@ pub record Declared : Type 0 where
   pub boundary : Statement
   pub set : List Atom
 
--- A store has the rules of a list with their names beside them, its metavariables, variables and entries, each in the order of
--- the list. Variables have numbers of their own; the others are counted from 0.
-pub record Store : Type 0 where
+-- The declarations of a list are its rules with their names beside them, its metavariables and its variables, each in the order
+-- of the list. Variables have numbers of their own; the others are counted from 0.
+pub record Declarations : Type 0 where
   pub rules : List Rule
   pub names : List Name
   pub metavariables : List Declared
   pub variables : List (ℕ × Annotation)
+
+-- A store has the declarations of a list, and its entries in the order of the list, counted from 0.
+pub record Store : Type 0 where
+  pub declarations : Declarations
   pub entries : List Assertion
 
 -- the member at a place, counted from 0
@@ -46,7 +50,7 @@ with_boundary m None M = M
 with_boundary m (Some d) M = (m, d.boundary) ∷ M
 
 -- the metavariables of a set, each with its boundary
-abbrev pub boundaries_in : Store → List Atom → List (ℕ × Statement)
+abbrev pub boundaries_in : Declarations → List Atom → List (ℕ × Statement)
 boundaries_in W [] = []
 boundaries_in W (met m ∷ S) = with_boundary m (nth W.metavariables m) (boundaries_in W S)
 boundaries_in W (var v ∷ S) = boundaries_in W S
@@ -57,22 +61,39 @@ with_annotation v None G = G
 with_annotation v (Some d) G = (v, d.annotation) ∷ G
 
 -- the variables of a set, each with its annotation, which is its type
-abbrev pub annotations_in : Store → List Atom → List (ℕ × Expression)
+abbrev pub annotations_in : Declarations → List Atom → List (ℕ × Expression)
 annotations_in W [] = []
 annotations_in W (met m ∷ S) = annotations_in W S
 annotations_in W (var v ∷ S) = with_annotation v (look_up W.variables v) (annotations_in W S)
 
 -- The sequent of a statement and its set: over the metavariables and the variables of the set, the statement.
-abbrev pub sequent_in : Store → Statement → List Atom → Sequent
+abbrev pub sequent_in : Declarations → Statement → List Atom → Sequent
 sequent_in W x S = sequent (boundaries_in W S) (annotations_in W S) x
 
--- the sequent is derivable, by primitive steps, over the rules of the store
-abbrev pub Derivable : Store → Statement → List Atom → Type 0
+-- the sequent is derivable, by primitive steps, over the declared rules
+abbrev pub Derivable : Declarations → Statement → List Atom → Type 0
 Derivable W x S = Prim W.rules (boundaries_in W S) (annotations_in W S) x
 
--- the store before any item
+-- a member of a context is declared, and its boundary or its type is derivable over the members done before it
+abbrev pub MemberHolds : Declarations → List Atom → Atom → Type 0
+MemberHolds W done (met m) = (d : Declared) × (nth W.metavariables m ≡ Some d) × Derivable W d.boundary done
+MemberHolds W done (var v) = (d : Annotation) × (look_up W.variables v ≡ Some d) × Derivable W (plain (is_type d.annotation)) done
+
+-- each of these members holds over those done before it
+abbrev pub MembersHold : Declarations → List Atom → List Atom → Type 0
+MembersHold W done [] = Unit {0}
+MembersHold W done (a ∷ S) = MemberHolds W done a × MembersHold W (done ++ (a ∷ [])) S
+
+-- The context of a set is well formed: each member holds over those before it.
+abbrev pub WellFormedContext : Declarations → List Atom → Type 0
+WellFormedContext W S = MembersHold W [] S
+
+-- the declarations and the store before any item
+abbrev pub no_declarations : Declarations
+no_declarations = record { rules = []; names = []; metavariables = []; variables = [] }
+
 abbrev pub empty_store : Store
-empty_store = record { rules = []; names = []; metavariables = []; variables = []; entries = [] }
+empty_store = record { declarations = no_declarations; entries = [] }
 
 -- the type that a plain thesis `A type` is about; for others a dummy
 abbrev pub type_in : Statement → Expression
@@ -101,40 +122,54 @@ abbrev pub entry_named : Store → ℕ → Option Assertion
 entry_named W p = nth W.entries p
 
 -- the variable of a number, with the number
-abbrev pub variable_named : Store → ℕ → Option (ℕ × Annotation)
+abbrev pub variable_named : Declarations → ℕ → Option (ℕ × Annotation)
 variable_named W v = option_map (λ d. (v, d)) (look_up W.variables v)
 
 -- the metavariable of a number, with the number
-abbrev pub metavariable_named : Store → ℕ → Option (ℕ × Declared)
+abbrev pub metavariable_named : Declarations → ℕ → Option (ℕ × Declared)
 metavariable_named W m = option_map (λ d. (m, d)) (nth W.metavariables m)
 
 -- the rule of a number, with the number
-abbrev pub rule_named : Store → ℕ → Option (ℕ × Rule)
+abbrev pub rule_named : Declarations → ℕ → Option (ℕ × Rule)
 rule_named W r = option_map (λ R. (r, R)) (rule_at W.rules r)
 
--- What an item adds to the store. It adds nothing where it names what is not there.
+-- What is declared with an entry, for which an assertion stands.
+
+-- what is declared of a variable with this name and this type: both, and the set on which the type rests
+abbrev pub declared_variable : Name → Assertion → Annotation
+declared_variable n p = record { name = n; annotation = type_in p.statement; set = p.set }
+
+-- what is declared of a metavariable with this name and this boundary: both, and the set on which the boundary rests
+abbrev pub declared_metavariable : Name → Assertion → Declared
+declared_metavariable n b = record { name = n; boundary = b.statement; set = b.set }
+
+-- the rule with these premises and this boundary as its conclusion
+abbrev pub declared_rule : List (ℕ × Declared) → Assertion → Rule
+declared_rule ds c = record { premises = premises_of ds; conclusion = claim_in c.statement }
+
+-- What an item adds. It adds nothing where it names what is not there.
 
 -- a variable with the type and the set of its entry
-abbrev pub add_variable : Store → ℕ → Name → Option Assertion → Store
+abbrev pub add_variable : Declarations → ℕ → Name → Option Assertion → Declarations
 add_variable W v n None = W
-add_variable W v n (Some p) = record W { variables = W.variables ++ ((v, record { name = n; annotation = type_in p.statement; set = p.set }) ∷ []) }
+add_variable W v n (Some p) = record W { variables = W.variables ++ ((v, declared_variable n p) ∷ []) }
 
 -- a metavariable with the boundary and the set of its entry
-abbrev pub add_metavariable : Store → Name → Option Assertion → Store
+abbrev pub add_metavariable : Declarations → Name → Option Assertion → Declarations
 add_metavariable W n None = W
-add_metavariable W n (Some p) = record W { metavariables = W.metavariables ++ (record { name = n; boundary = p.statement; set = p.set } ∷ []) }
+add_metavariable W n (Some p) = record W { metavariables = W.metavariables ++ (declared_metavariable n p ∷ []) }
 
 -- a rule with the boundaries of its metavariables and the conclusion of its entry
-abbrev pub add_rule : Store → Name → Option (List (ℕ × Declared)) → Option Assertion → Store
+abbrev pub add_rule : Declarations → Name → Option (List (ℕ × Declared)) → Option Assertion → Declarations
 add_rule W n None p = W
 add_rule W n (Some ms) None = W
-add_rule W n (Some ms) (Some p) = record W { rules = W.rules ++ (record { premises = premises_of ms; conclusion = claim_in p.statement } ∷ []); names = W.names ++ (n ∷ []) }
+add_rule W n (Some ms) (Some p) = record W { rules = W.rules ++ (declared_rule ms p ∷ []); names = W.names ++ (n ∷ []) }
 
 -- the store after one more item; a shown mark adds nothing
 abbrev pub add : Store → Item → Store
-add W (variable v n p) = add_variable W v n (entry_named W p)
-add W (metavariable n p) = add_metavariable W n (entry_named W p)
-add W (rule n ms p) = add_rule W n (each (metavariable_named W) ms) (entry_named W p)
+add W (variable v n p) = record W { declarations = add_variable W.declarations v n (entry_named W p) }
+add W (metavariable n p) = record W { declarations = add_metavariable W.declarations n (entry_named W p) }
+add W (rule n ms p) = record W { declarations = add_rule W.declarations n (each (metavariable_named W.declarations) ms) (entry_named W p) }
 add W (entry e) = record W { entries = W.entries ++ (record { statement = e.statement; set = e.set } ∷ []) }
 add W (shown p) = W
 
@@ -146,6 +181,10 @@ add_all W (i ∷ items) = add_all (add W i) items
 -- the store of a list of items
 abbrev pub store_of : List Item → Store
 store_of items = add_all empty_store items
+
+-- the declarations of a list of items
+abbrev pub declared_by : List Item → Declarations
+declared_by items = (store_of items).declarations
 
 -- The items of one kind in a list, in order; and what each declares, read from the entries of the whole list. In a good list
 -- these are what the store has.
@@ -189,18 +228,18 @@ rules_in (shown p ∷ items) = rules_in items
 -- what a variable declares, given its entry; with a dummy where there is none
 abbrev pub annotated : ℕ × Name × ℕ → Option Assertion → ℕ × Annotation
 annotated x None = (x.0, record { name = x.1; annotation = bound zero; set = [] })
-annotated x (Some a) = (x.0, record { name = x.1; annotation = type_in a.statement; set = a.set })
+annotated x (Some a) = (x.0, declared_variable x.1 a)
 
 -- what a metavariable declares, given its entry; with a dummy where there is none
 abbrev pub declared : Name × ℕ → Option Assertion → Declared
 declared x None = record { name = x.0; boundary = plain type_goal; set = [] }
-declared x (Some a) = record { name = x.0; boundary = a.statement; set = a.set }
+declared x (Some a) = declared_metavariable x.0 a
 
 -- the rule that is declared, given its metavariables and its entry; a dummy where one of them is missing
 abbrev pub ruled : Option (List (ℕ × Declared)) → Option Assertion → Rule
 ruled None o = record { premises = []; conclusion = type_goal }
 ruled (Some ds) None = record { premises = []; conclusion = type_goal }
-ruled (Some ds) (Some a) = record { premises = premises_of ds; conclusion = claim_in a.statement }
+ruled (Some ds) (Some a) = declared_rule ds a
 
 -- Steps with what their numbers name.
 
@@ -227,11 +266,11 @@ with_four f o p q r = option_and_then (λ a. with_three (f a) p q r) o
 
 -- the stated step with what its numbers name; None where a number names nothing in the store
 abbrev pub resolve : Store → Stated → Option Resolved
-resolve W (by_var v) = with_one by_var (variable_named W v)
-resolve W (by_generic m) = with_one by_generic (metavariable_named W m)
-resolve W (by_meta m ps) = with_two by_meta (metavariable_named W m) (each (entry_named W) ps)
-resolve W (by_metacong m es) = with_two by_metacong (metavariable_named W m) (each (entry_named W) es)
-resolve W (by_abs v p) = with_two by_abs (variable_named W v) (entry_named W p)
+resolve W (by_var v) = with_one by_var (variable_named W.declarations v)
+resolve W (by_generic m) = with_one by_generic (metavariable_named W.declarations m)
+resolve W (by_meta m ps) = with_two by_meta (metavariable_named W.declarations m) (each (entry_named W) ps)
+resolve W (by_metacong m es) = with_two by_metacong (metavariable_named W.declarations m) (each (entry_named W) es)
+resolve W (by_abs v p) = with_two by_abs (variable_named W.declarations v) (entry_named W p)
 resolve W (by_subst p t) = with_two by_subst (entry_named W p) (entry_named W t)
 resolve W (by_substeq p e) = with_two by_substeq (entry_named W p) (entry_named W e)
 resolve W (by_refl p) = with_one by_refl (entry_named W p)
@@ -249,12 +288,12 @@ resolve W by_btype = Some by_btype
 resolve W (by_bterm p) = with_one by_bterm (entry_named W p)
 resolve W (by_beqty p q) = with_two by_beqty (entry_named W p) (entry_named W q)
 resolve W (by_beqtm p s t) = with_three by_beqtm (entry_named W p) (entry_named W s) (entry_named W t)
-resolve W (by_rule r ps) = with_two by_rule (rule_named W r) (each (entry_named W) ps)
-resolve W (by_rulewith r b ps) = with_three by_rulewith (rule_named W r) (entry_named W b) (each (entry_named W) ps)
-resolve W (by_inst r ps) = with_two by_inst (rule_named W r) (each (entry_named W) ps)
-resolve W (by_cong r ps es) = with_three by_cong (rule_named W r) (each (entry_named W) ps) (each (entry_named W) es)
-resolve W (by_convprem r ps es q) = with_four by_convprem (rule_named W r) (each (entry_named W) ps) (each (entry_named W) es) (entry_named W q)
-resolve W (by_convback r ps es q) = with_four by_convback (rule_named W r) (each (entry_named W) ps) (each (entry_named W) es) (entry_named W q)
+resolve W (by_rule r ps) = with_two by_rule (rule_named W.declarations r) (each (entry_named W) ps)
+resolve W (by_rulewith r b ps) = with_three by_rulewith (rule_named W.declarations r) (entry_named W b) (each (entry_named W) ps)
+resolve W (by_inst r ps) = with_two by_inst (rule_named W.declarations r) (each (entry_named W) ps)
+resolve W (by_cong r ps es) = with_three by_cong (rule_named W.declarations r) (each (entry_named W) ps) (each (entry_named W) es)
+resolve W (by_convprem r ps es q) = with_four by_convprem (rule_named W.declarations r) (each (entry_named W) ps) (each (entry_named W) es) (entry_named W q)
+resolve W (by_convback r ps es q) = with_four by_convback (rule_named W.declarations r) (each (entry_named W) ps) (each (entry_named W) es) (entry_named W q)
 resolve W (by_arg i p) = with_one (by_arg i) (entry_named W p)
 resolve W (by_natural p) = with_one by_natural (entry_named W p)
-resolve W (by_metainst p ms qs) = with_three by_metainst (entry_named W p) (each (metavariable_named W) ms) (each (entry_named W) qs)
+resolve W (by_metainst p ms qs) = with_three by_metainst (entry_named W p) (each (metavariable_named W.declarations) ms) (each (entry_named W) qs)

@@ -5,11 +5,13 @@ ghost use Rattle.ft_items.specs.Item.{variable, metavariable, rule, entry, shown
 ghost use Rattle.ft_items.specs.Store.{nth, entries_in, variables_in, metavariables_in, rules_in};
 ghost use Rattle.ft_items.specs.Good.{Allowed, Good, is_new};
 ghost use Rattle.ft_theory.specs.Expressions.{bound, free, symbol, meta, open_at, close_at, substitute, in_place_of, instantiate};
+ghost use Rattle.ft_theory.specs.Statements.{opened, abstracted, close_statement};
 ghost use Rattle.ft_theory.specs.Small.{IsSmall};
 ghost use Rattle.ft_syntax.specs.Table.{tree, Extends, ArgumentsBelow, AllBelow, arguments_in, terms_in};
 ghost use Rattle.ft_syntax.specs.Instances.{instance_in, PairsBelow};
 ghost use Rattle.ft_syntax.specs.declared.syntax.SynFault.TheVariants.{TooBig};
 ghost use Rattle.ft_judge.specs.Meaning.{thesis_in, boundary_in, ThesisBelow, BoundaryBelow, IsClosedThesis, IsClosedBoundary};
+ghost use Rattle.ft_judge.specs.Moving.{IsSmallStatement};
 ghost use Rattle.ft_kernel.specs.State.{with_item, entry_at, statement_at, set_at, IsEntryOf, IsThesisOf, IsBoundaryOf, variable_numbered, IsVariableOf, next_number as next_number_after, place_of_name, rule_names, if_below};
 ghost use Rattle.ft_kernel.specs.Shown.{IsShownAs, ShowsLine};
 ghost use Rattle.ft_kernel.specs.Lines.{item_in, assertion_in, ContentBelow, is_entry};
@@ -484,6 +486,78 @@ impl Kernel {
         ensures items { self.new.items ≡ self.old.items }
     {
         self.terms.instantiate(e, instance)
+    }
+
+    /// The thesis without its first domain, with `by` for that domain's variable. The items stay as they are.
+    #[tactic(auto, using(crate::proofs::Extended::kernel_extended, crate::proofs::Extended::items_extended, crate::proofs::Extended::trees_extended))]
+    pub fn open_first(&mut self, x: &Thesis, by: E) -> Result<Thesis, SynFault>
+        requires thesis { ThesisBelow (length self.old.trees) x.now }
+        requires by { by < length self.old.trees }
+        requires domain { 0 < length x.now.domains }
+        ensures within { IfOk result (λ r. ThesisBelow (length self.new.trees) r) }
+        ensures thesis { IfOk result (λ r. thesis_in self.new.trees r ≡
+            opened (tree self.old.trees by) (thesis_in self.old.trees x.now)) }
+        ensures goes_on { Extends self.old.trees self.new.trees }
+        ensures too_big { IfErr result (λ f. f ≡ TooBig →
+            IsSmallStatement (opened (tree self.old.trees by) (thesis_in self.old.trees x.now)) → ⊥) }
+        ensures items { self.new.items ≡ self.old.items }
+    {
+        let alloc = *self.lines.allocator();
+        ft_judge::open_first(alloc, &mut self.terms, x, by)
+    }
+
+    /// The boundary without its first domain, with `by` for that domain's variable. The items stay as they are.
+    #[tactic(auto, using(crate::proofs::Extended::kernel_extended, crate::proofs::Extended::items_extended, crate::proofs::Extended::trees_extended))]
+    pub fn open_first_boundary(&mut self, x: &Boundary, by: E) -> Result<Boundary, SynFault>
+        requires boundary { BoundaryBelow (length self.old.trees) x.now }
+        requires by { by < length self.old.trees }
+        requires domain { 0 < length x.now.domains }
+        ensures within { IfOk result (λ r. BoundaryBelow (length self.new.trees) r) }
+        ensures boundary { IfOk result (λ r. boundary_in self.new.trees r ≡
+            opened (tree self.old.trees by) (boundary_in self.old.trees x.now)) }
+        ensures goes_on { Extends self.old.trees self.new.trees }
+        ensures too_big { IfErr result (λ f. f ≡ TooBig →
+            IsSmallStatement (opened (tree self.old.trees by) (boundary_in self.old.trees x.now)) → ⊥) }
+        ensures items { self.new.items ≡ self.old.items }
+    {
+        let alloc = *self.lines.allocator();
+        ft_judge::open_first_boundary(alloc, &mut self.terms, x, by)
+    }
+
+    /// The thesis with the free variable `v`, of the type `ty`, bound as the variable of a new first domain. The items stay
+    /// as they are.
+    #[tactic(auto, using(crate::proofs::Extended::kernel_extended, crate::proofs::Extended::items_extended, crate::proofs::Extended::trees_extended))]
+    pub fn close_over(&mut self, x: &Thesis, v: u64, ty: E) -> Result<Thesis, SynFault>
+        requires thesis { ThesisBelow (length self.old.trees) x.now }
+        requires ty { ty < length self.old.trees }
+        ensures within { IfOk result (λ r. ThesisBelow (length self.new.trees) r) }
+        ensures thesis { IfOk result (λ r. thesis_in self.new.trees r ≡
+            abstracted (tree self.old.trees ty) (close_statement v (thesis_in self.old.trees x.now))) }
+        ensures goes_on { Extends self.old.trees self.new.trees }
+        ensures too_big { IfErr result (λ f. f ≡ TooBig →
+            IsSmallStatement (close_statement v (thesis_in self.old.trees x.now)) → ⊥) }
+        ensures items { self.new.items ≡ self.old.items }
+    {
+        let alloc = *self.lines.allocator();
+        ft_judge::close_over(alloc, &mut self.terms, x, v, ty)
+    }
+
+    /// The boundary with the free variable `v`, of the type `ty`, bound as the variable of a new first domain. The items stay
+    /// as they are.
+    #[tactic(auto, using(crate::proofs::Extended::kernel_extended, crate::proofs::Extended::items_extended, crate::proofs::Extended::trees_extended))]
+    pub fn close_over_boundary(&mut self, x: &Boundary, v: u64, ty: E) -> Result<Boundary, SynFault>
+        requires boundary { BoundaryBelow (length self.old.trees) x.now }
+        requires ty { ty < length self.old.trees }
+        ensures within { IfOk result (λ r. BoundaryBelow (length self.new.trees) r) }
+        ensures boundary { IfOk result (λ r. boundary_in self.new.trees r ≡
+            abstracted (tree self.old.trees ty) (close_statement v (boundary_in self.old.trees x.now))) }
+        ensures goes_on { Extends self.old.trees self.new.trees }
+        ensures too_big { IfErr result (λ f. f ≡ TooBig →
+            IsSmallStatement (close_statement v (boundary_in self.old.trees x.now)) → ⊥) }
+        ensures items { self.new.items ≡ self.old.items }
+    {
+        let alloc = *self.lines.allocator();
+        ft_judge::close_over_boundary(alloc, &mut self.terms, x, v, ty)
     }
 }
 

@@ -6,9 +6,10 @@ use Rattle.ft_theory.specs.Expressions.{Expression, bound, free, symbol, meta, A
 use Rattle.ft_theory.specs.Statements.{Claim, is_type, has_type, equal_types, equal_terms, type_goal, term_goal, type_equation_goal, term_equation_goal, Statement, plain, abstracted, map_claim, map_statement, opened, domain, domain_count, at, fill_goal, equate, IsObject, IsEquation}
 use Rattle.ft_theory.specs.Rules.{Rule, rule_at, instance_of, filled_premises, equated_premises, term_typings, term_equations, conclusion_at}
 use Rattle.ft_theory.specs.Steps.{Sequent, sequent, sequents, Step, symbol_rule, equation_rule, congruence, Tree, Trees, node, none, more, Prim}
-use Rattle.ft_theory.specs.WideSteps.{SideOfClaim, type_of_term, left_type, right_type, type_of_terms, left_term, right_term, type_of_boundary, left_type_side, right_type_side, type_of_sides, left_term_side, right_term_side, Side, plain_side, under_domain, WideStep, weakening, substitution, its_boundary, a_side, first_domain, equal_substitution, next_boundary, conclusion_boundary, object_instance, equation_instance, equal_instances, convert_premise, convert_back, metavariable_at_equal_terms, argument_in_type, argument_in_term, term_in_type, term_in_term, natural_variable, natural_symbol, natural_metavariable}
+use Rattle.ft_theory.specs.WideSteps.{SideOfClaim, type_of_term, left_type, right_type, type_of_terms, left_term, right_term, type_of_boundary, left_type_side, right_type_side, type_of_sides, left_term_side, right_term_side, Side, plain_side, under_domain, WideStep, weakening, substitution, its_boundary, a_side, first_domain, equal_substitution, boundary_at_arguments, object_instance, equation_instance, equal_instances, convert_premise, convert_back, metavariable_at_equal_terms, argument_in_type, argument_in_term, term_in_type, term_in_term, natural_variable, natural_symbol, natural_metavariable}
 use Rattle.ft_theory.specs.Derivability.{StepUpTo, DerUpTo, PremisesHold, RuleHolds, FinitaryAfter, FinitaryUpTo}
 use Rattle.std.specs.Prelude.{◌++◌}
+use Rattle.ft_laws.specs.Laws.{Each, IsPrimitive, KindIsAdmissible}
 use Rattle.ft_laws.specs.Instances.{statement_at}
 use Rattle.ft_laws.proofs.Induction.{AllOf, induct}
 use Rattle.ft_laws.proofs.Steps.{do_convert_term}
@@ -24,7 +25,7 @@ use Rattle.ft_laws.proofs.EqualTerms.{itself, staying, reify_flat, substitute_eq
 use Rattle.ft_laws.proofs.Instances.{instantiate}
 use Rattle.ft_laws.proofs.Rules.{whole_instance, whole_pair, right_premises, move_head, symmetric_equal}
 use Rattle.ft_laws.proofs.Inversion.{OfType, OfTerm, origin, pick}
-use Rattle.ft_laws.proofs.Finitary.{more_rules, Sound, scoped, premise_at}
+use Rattle.ft_laws.proofs.Finitary.{more_rules, Sound, scoped, boundary_after}
 
 -- sides under domains
 side_claim : (T : List Rule) → ScopedTheory T → (M : List (ℕ × Statement)) (G : List (ℕ × Expression)) (c d : Claim) → SideOfClaim c d → Prim T M G (plain c) → Prim T M G (plain d)
@@ -102,11 +103,8 @@ admissible T so n ps c (a_side {M} {G} x y s) (more p none) = side T (scoped T s
 admissible T so n ps c (first_domain {M} {G} A x) (more p none) = Rattle.ft_laws.proofs.EqualTerms.first_domain T M G A x p
 admissible T so n ps c (equal_substitution {M} {G} A s t b h o) (more p (more q none)) =
     subst (λ l. Prim T M G (equate (opened s (abstracted A b)) (open_at l s h) (open_at l t h))) (omega arith) (substitute_equal T (scoped T so) M G A s t b h o p q)
-admissible T so n ps c (next_boundary {M} {G} r R qs rs m b a q e f) ts =
-    let h : (IsObject b ⊎ IsEquation b) × Prim T qs [] b = premise_at (λ M x. Prim T M [] x) [] qs (m, b) rs (subst (λ z. PremisesHold (λ M x. Prim T M [] x) [] z) e (so r R q).0) in
-    instantiate T (scoped T so) qs [] M G (instance_of qs a) b (whole_instance T qs M G qs a (λ m b r. r) f ts) h.1
-admissible T so n ps c (conclusion_boundary {M} {G} r R a q f) ts =
-    instantiate T (scoped T so) R.premises [] M G (instance_of R.premises a) (plain R.conclusion) (whole_instance T R.premises M G R.premises a (λ m b r. r) f ts) (so r R q).2
+admissible T so n ps c (boundary_at_arguments {M} {G} r R qs b a q w f) ts =
+    instantiate T (scoped T so) qs [] M G (instance_of qs a) b (whole_instance T qs M G qs a (λ m b r. r) f ts) (boundary_after (λ M x. Prim T M [] x) R qs b (so r R q) w).1
 admissible T so n ps c (object_instance {M} {G} r R a q f o) ts =
     node (sequent M G (plain (conclusion_at R a)) ∷ sequents M G (filled_premises (instance_of R.premises a) R.premises a)) (symbol_rule r R a q f o)
     (more (instantiate T (scoped T so) R.premises [] M G (instance_of R.premises a) (plain R.conclusion) (whole_instance T R.premises M G R.premises a (λ m b r. r) f ts) (so r R q).2) ts)
@@ -126,20 +124,20 @@ admissible T so n ps c (equal_instances {M} {G} r R a b q f f' o) ts =
     let S : Prim T M G (plain (fill_goal cj (symbol r b))) = node (sequent M G (plain cj) ∷ sequents M G (filled_premises (instance_of P b) P b)) (symbol_rule r R b q f' o) (more (transport T sc M zero G (plain ci) (plain cj) refl e bl) dr) in
     node (sequent M G (plain (fill_goal ci (symbol r a))) ∷ sequent M G (plain (fill_goal ci (symbol r b))) ∷ sequents M G (equated_premises (instance_of P a) P a b)) (congruence r R a b q f f' o)
     (more L (more (back_here T M G ci cj (symbol r b) (object_goal-map R.conclusion (act free (instance_of P a)) o) (object_goal-map R.conclusion (act free (instance_of P b)) o) (equal_here T M G (plain ci) (plain cj) e) S) w.1))
-admissible T so n ps c (convert_premise {M} {G} r R qs rs m k a b h q e f f') (more p ts) =
+admissible T so n ps c (convert_premise {M} {G} r R qs k a b h q e f f') (more p ts) =
     let sc : ScopedTheory T = scoped T so in
     let w : Trees (Step T) (sequents M G (filled_premises (instance_of qs a) qs a)) × Trees (Step T) (sequents M G (equated_premises (instance_of qs a) qs a b)) = split (Step T) M G (filled_premises (instance_of qs a) qs a) (equated_premises (instance_of qs a) qs a b) ts in
-    let u : (IsObject k ⊎ IsEquation k) × Prim T qs [] k = premise_at (λ M x. Prim T M [] x) [] qs (m, k) rs (subst (λ z. PremisesHold (λ M x. Prim T M [] x) [] z) e (so r R q).0) in
+    let u : (IsObject k ⊎ IsEquation k) × Prim T qs [] k = boundary_after (λ M x. Prim T M [] x) R qs k (so r R q) e in
     let ee : EqualStatements T M G (statement_at (instance_of qs a) k) (statement_at (instance_of qs b) k) = Rattle.ft_laws.proofs.Instances.equal_instances T sc qs [] M G (instance_of qs a) (instance_of qs b) k (whole_pair T sc qs M G qs a b (λ m b r. r) f f' w.0 w.1) u.1 in
     move_head T sc M G (statement_at (instance_of qs a) k) (statement_at (instance_of qs b) k) h (domain_count-map k (λ l. act free (instance_of qs b)) zero ∙ sym (domain_count-map k (λ l. act free (instance_of qs a)) zero)) (kinds k a b qs u.0) ee p
   where
     kinds : (k : Statement) (a b : Arguments) (qs : List (ℕ × Statement)) → IsObject k ⊎ IsEquation k → (IsObject (statement_at (instance_of qs a) k) × IsObject (statement_at (instance_of qs b) k)) ⊎ (IsEquation (statement_at (instance_of qs a) k) × IsEquation (statement_at (instance_of qs b) k))
     kinds k a b qs (inl o) = inl (object-map k (λ l. act free (instance_of qs a)) zero o, object-map k (λ l. act free (instance_of qs b)) zero o)
     kinds k a b qs (inr o) = inr (equation-map k (λ l. act free (instance_of qs a)) zero o, equation-map k (λ l. act free (instance_of qs b)) zero o)
-admissible T so n ps c (convert_back {M} {G} r R qs rs m k a b h q e f f') (more p ts) =
+admissible T so n ps c (convert_back {M} {G} r R qs k a b h q e f f') (more p ts) =
     let sc : ScopedTheory T = scoped T so in
     let w : Trees (Step T) (sequents M G (filled_premises (instance_of qs a) qs a)) × Trees (Step T) (sequents M G (equated_premises (instance_of qs a) qs a b)) = split (Step T) M G (filled_premises (instance_of qs a) qs a) (equated_premises (instance_of qs a) qs a b) ts in
-    let u : (IsObject k ⊎ IsEquation k) × Prim T qs [] k = premise_at (λ M x. Prim T M [] x) [] qs (m, k) rs (subst (λ z. PremisesHold (λ M x. Prim T M [] x) [] z) e (so r R q).0) in
+    let u : (IsObject k ⊎ IsEquation k) × Prim T qs [] k = boundary_after (λ M x. Prim T M [] x) R qs k (so r R q) e in
     let ee : EqualStatements T M G (statement_at (instance_of qs a) k) (statement_at (instance_of qs b) k) = Rattle.ft_laws.proofs.Instances.equal_instances T sc qs [] M G (instance_of qs a) (instance_of qs b) k (whole_pair T sc qs M G qs a b (λ m b r. r) f f' w.0 w.1) u.1 in
     move_head T sc M G (statement_at (instance_of qs b) k) (statement_at (instance_of qs a) k) h (domain_count-map k (λ l. act free (instance_of qs a)) zero ∙ sym (domain_count-map k (λ l. act free (instance_of qs b)) zero)) (kinds k a b qs u.0) (symmetric_equal T sc M (domain_count (statement_at (instance_of qs a) k)) G (statement_at (instance_of qs a) k) (statement_at (instance_of qs b) k) refl ee) p
   where
@@ -265,6 +263,14 @@ at_level k T = induct (Step T) (λ c. Tree (StepUpTo k T) c) (λ ps c s ts h. no
 -- The theorem: for each level k, over each theory that is finitary at level k, and for all maps and statements.
 pub law : (k : ℕ) (T : List Rule) → FinitaryUpTo k T → (M : List (ℕ × Statement)) (G : List (ℕ × Expression)) (x : Statement) → DerUpTo k T M G x ↔ Prim T M G x
 law k T f M G x = (all_levels T (finitary_sound k T f) k (sequent M G x), at_level k T (sequent M G x))
+
+-- In a finitary theory each kind is admissible.
+pub kind_is_admissible : (k : ℕ) → KindIsAdmissible k
+kind_is_admissible k T f ps c w h = admissible T (finitary_sound 7 T f) k ps c w (trees ps h)
+  where
+    trees : (ps : List Sequent) → Each (IsPrimitive T) ps → Trees (Step T) ps
+    trees [] h = none
+    trees (p ∷ ps) h = more h.0 (trees ps h.1)
 
 -- finitary at one level is finitary at each
 finitary_after_levels : (k l : ℕ) (T Rs : List Rule) → Sound T → FinitaryAfter (λ T M x. DerUpTo k T M [] x) T Rs → FinitaryAfter (λ T M x. DerUpTo l T M [] x) T Rs

@@ -5,7 +5,7 @@ use Rattle.ft_theory.specs.Expressions.{bound, free, symbol, meta, act, substitu
 use Rattle.ft_theory.specs.Statements.{is_type, has_type, equal_types, plain, abstracted, act_statement, opened, domain_count, fill}
 use Rattle.ft_theory.specs.Rules.{Rule, rule_at}
 use Rattle.ft_theory.specs.Steps.{Sequent, sequent, abstraction, Tree, Trees, node, none, more, Prim}
-use Rattle.ft_theory.specs.WideSteps.{WideStep, weakening, substitution, its_boundary, a_side, equal_substitution, next_boundary, conclusion_boundary, object_instance, equation_instance, convert_premise, convert_back, metavariable_at_equal_terms, argument_in_type, argument_in_term, term_in_type, term_in_term, natural_variable, natural_symbol, natural_metavariable}
+use Rattle.ft_theory.specs.WideSteps.{WideStep, weakening, substitution, its_boundary, a_side, equal_substitution, boundary_at_arguments, object_instance, equation_instance, convert_premise, convert_back, metavariable_at_equal_terms, argument_in_type, argument_in_term, term_in_type, term_in_term, natural_variable, natural_symbol, natural_metavariable}
 use Rattle.ft_theory.specs.Derivability.{StepUpTo, Finitary}
 use Rattle.ft_laws.specs.Syntax.{IsObjectPremise}
 use Rattle.ft_laws.specs.Derivations.{DerivableIsPrimitive, FinitaryAtEachLevel, HasVariable, LawScope, LawRenaming, LawSimultaneousSubstitution, LawDomain, LawDomainAtEach, LawLongerTheory, LawLongerTheoryPrimitive, LawUniqueType}
@@ -18,7 +18,7 @@ use Rattle.ft_laws.proofs.Peel.{peel, Peeled}
 use Rattle.ft_laws.proofs.Steps.{do_variable, do_symmetric_types, do_transitive_types}
 use Rattle.ft_laws.proofs.Commute.{ScopedTheory, act-fill}
 use Rattle.ft_laws.proofs.Traverse.{traverse}
-use Rattle.ft_laws.proofs.Substitute.{substitution_maps, weaken}
+use Rattle.ft_laws.proofs.Substitute.{substitution_maps}
 use Rattle.ft_laws.proofs.Equal.{EqualStatements, reify, transport}
 use Rattle.ft_laws.proofs.EqualTerms.{first_domain, at_absent}
 use Rattle.ft_laws.proofs.Instances.{instantiate, equal_instances}
@@ -47,7 +47,7 @@ law_renaming T f M G H r x h p =
 pub law_simultaneous_substitution : LawSimultaneousSubstitution
 law_simultaneous_substitution T f M G H s x c h p =
     traverse T (scoped_of T f) (sequent M G x) p M H s no_bodies
-    (substitution_maps T M M G H s (λ m b q. q) c (λ v A q K g t. weaken T (scoped_of T f) M M H K (plain (has_type (s v) (substitute s A))) (λ m b q. q) g (h v A q)))
+    (substitution_maps T M M G H s (λ m b q. q) c h)
 
 pub law_domain : LawDomain
 law_domain T M G A x p =
@@ -73,13 +73,12 @@ wide_step T U w n ps c (its_boundary x) = its_boundary x
 wide_step T U w n ps c (a_side x y s) = a_side x y s
 wide_step T U w n ps c (Rattle.ft_theory.specs.WideSteps.first_domain A x) = Rattle.ft_theory.specs.WideSteps.first_domain A x
 wide_step T U w n ps c (equal_substitution A s t b h o) = equal_substitution A s t b h o
-wide_step T U w n ps c (next_boundary r R qs rs m b a q e f) = next_boundary r R qs rs m b a (w r R q) e f
-wide_step T U w n ps c (conclusion_boundary r R a q f) = conclusion_boundary r R a (w r R q) f
+wide_step T U w n ps c (boundary_at_arguments r R qs b a q e f) = boundary_at_arguments r R qs b a (w r R q) e f
 wide_step T U w n ps c (object_instance r R a q f o) = object_instance r R a (w r R q) f o
 wide_step T U w n ps c (equation_instance r R a q f o) = equation_instance r R a (w r R q) f o
 wide_step T U w n ps c (Rattle.ft_theory.specs.WideSteps.equal_instances r R a b q f f' o) = Rattle.ft_theory.specs.WideSteps.equal_instances r R a b (w r R q) f f' o
-wide_step T U w n ps c (convert_premise r R qs rs m k a b h q e f f') = convert_premise r R qs rs m k a b h (w r R q) e f f'
-wide_step T U w n ps c (convert_back r R qs rs m k a b h q e f f') = convert_back r R qs rs m k a b h (w r R q) e f f'
+wide_step T U w n ps c (convert_premise r R qs k a b h q e f f') = convert_premise r R qs k a b h (w r R q) e f f'
+wide_step T U w n ps c (convert_back r R qs k a b h q e f f') = convert_back r R qs k a b h (w r R q) e f f'
 wide_step T U w n ps c (metavariable_at_equal_terms m b a k q g o d d') = metavariable_at_equal_terms m b a k q g o d d'
 wide_step T U w n ps c (argument_in_type r R a x q m) = argument_in_type r R a x (w r R q) m
 wide_step T U w n ps c (argument_in_term r R a A x q m) = argument_in_term r R a A x (w r R q) m

@@ -3,7 +3,7 @@ use Rattle.std.proofs.Common.{◌≡◌, ℕ, zero, Some, List, [], ◌∷◌, �
 use Rattle.ft_common.proofs.Options.{none_some}
 use Rattle.ft_theory.specs.Expressions.{Expression, MentionsOnly}
 use Rattle.ft_theory.specs.Statements.{Statement, plain, domain_count, IsObject, IsEquation}
-use Rattle.ft_theory.specs.Rules.{look_up, Rule, rule_at}
+use Rattle.ft_theory.specs.Rules.{look_up, Rule, rule_at, BoundaryAfter, next_premise, its_conclusion}
 use Rattle.ft_theory.specs.Steps.{Sequent, sequent, Step, variable, metavariable, metavariable_equation, metavariable_congruence, abstraction, reflexive_type, reflexive_term, symmetric_types, symmetric_terms, transitive_types, transitive_terms, convert_term, convert_equation, for_type, for_term, for_types, for_terms, symbol_rule, equation_rule, congruence, Tree, Trees, node, none, more, Prim}
 use Rattle.ft_theory.specs.Derivability.{PremisesHold, RuleHolds}
 use Rattle.std.specs.Prelude.{◌++◌}
@@ -80,6 +80,11 @@ premise_at D M [] q qs h = (h.1, subst (λ z. D z q.1) (sym (append-nil M)) h.2)
 premise_at D M (p ∷ ps) q qs h =
     let r : (IsObject q.1 ⊎ IsEquation q.1) × D ((M ++ (p ∷ [])) ++ ps) q.1 = premise_at D (M ++ (p ∷ [])) ps q qs h.3 in
     (r.0, subst (λ z. D z q.1) (append_assoc M (p ∷ []) ps) r.1)
+
+-- the boundary after some premises
+pub boundary_after : (D : List (ℕ × Statement) → Statement → Type 0) (R : Rule) (ps : List (ℕ × Statement)) (b : Statement) → RuleHolds D R → BoundaryAfter R ps b → (IsObject b ⊎ IsEquation b) × D ps b
+boundary_after D R ps b h (next_premise _ qs m _ e) = premise_at D [] ps (m, b) qs (subst (PremisesHold D []) e h.0)
+boundary_after D R ps b h (its_conclusion _ e) = (h.1, subst (λ z. D z (plain R.conclusion)) e h.2)
 
 pub first_premises : (D : List (ℕ × Statement) → Statement → Type 0) (M ps qs : List (ℕ × Statement)) → PremisesHold D M (ps ++ qs) → PremisesHold D M ps
 first_premises D M [] qs h = tt

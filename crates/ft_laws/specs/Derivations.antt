@@ -36,11 +36,22 @@ LawRenaming = (T : List Rule) → Finitary T → (M : List (ℕ × Statement)) (
     → ((v : ℕ) (A : Expression) → look_up G v ≡ Some A → look_up H (r v) ≡ Some (substitute (λ u. free (r u)) A))
     → Prim T M G x → Prim T M H (substitute_statement (λ u. free (r u)) x)
 
--- Simultaneous substitution: where each variable goes to a derivable term of the substituted type, what is derivable is so
--- when substituted.
+-- the map K has what the map H has
+abbrev pub IsLarger : List (ℕ × Expression) → List (ℕ × Expression) → Type 0
+IsLarger H K = (v : ℕ) (A : Expression) → look_up H v ≡ Some A → look_up K v ≡ Some A
+
+-- The substitution s leads from the variables of G to terms over M and H: over each map that is larger than H, what is put for a
+-- variable has the variable's substituted type, where that is a type. Nothing is asked where it is none, since no derivation uses
+-- such a variable.
+abbrev pub LeadsTo : List Rule → List (ℕ × Statement) → List (ℕ × Expression) → List (ℕ × Expression) → (ℕ → Expression) → Type 0
+LeadsTo T M G H s = (v : ℕ) (A : Expression) → look_up G v ≡ Some A → (K : List (ℕ × Expression)) → IsLarger H K
+    → Prim T M K (plain (is_type (substitute s A))) → Prim T M K (plain (has_type (s v) (substitute s A)))
+
+-- Simultaneous substitution: where a substitution leads from the variables of one map to terms over another, what is derivable over
+-- the first is, when substituted, derivable over the other.
 abbrev pub LawSimultaneousSubstitution : Type 0
 LawSimultaneousSubstitution = (T : List Rule) → Finitary T → (M : List (ℕ × Statement)) (G H : List (ℕ × Expression)) (s : ℕ → Expression) (x : Statement)
-    → PutsClosed s → ((v : ℕ) (A : Expression) → look_up G v ≡ Some A → Prim T M H (plain (has_type (s v) (substitute s A))))
+    → PutsClosed s → LeadsTo T M G H s
     → Prim T M G x → Prim T M H (substitute_statement s x)
 
 -- a variable that the map neither has nor mentions

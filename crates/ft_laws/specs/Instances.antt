@@ -1,9 +1,9 @@
 -- The general laws of instances: some metavariables are given arguments, the others stay, and the maps before and after are
 -- two maps of their own. After the instantiation of Haselwarter and Bauer, "Finitary type theories with and without contexts".
 use Rattle.std.specs.Prelude.{ℕ, zero, Option, Some, None, ◌≡◌, List}
-use Rattle.ft_theory.specs.Expressions.{Expression, bound, free, act}
+use Rattle.ft_theory.specs.Expressions.{Expression, bound, free, Arguments, no_arguments, with_body, dummy, act}
 use Rattle.ft_theory.specs.Statements.{Statement, act_statement, domain_count, fill, equate, IsObject, IsEquation}
-use Rattle.ft_theory.specs.Rules.{look_up, Rule}
+use Rattle.ft_theory.specs.Rules.{look_up, Rule, rule_at, BoundaryAfter, instance_of, FitsPremises}
 use Rattle.ft_theory.specs.Steps.{IsVariableFree, Prim}
 use Rattle.ft_theory.specs.Derivability.{Finitary}
 use Rattle.ft_laws.specs.Syntax.{HasClosedBodies}
@@ -44,6 +44,20 @@ pub record AreEqualInstances (T : List Rule) (M : List (ℕ × Statement)) (G : 
   pub left : IsInstance T M G N H i
   pub closed : HasClosedBodies j
   pub objects : (m : ℕ) (b : Statement) → look_up M m ≡ Some b → IsVariableFree b → IsObject b → StaysOrGivenInBoth T N H i j m b
+
+-- the arguments a, and then the arguments c
+abbrev pub followed_by : Arguments → Arguments → Arguments
+followed_by no_arguments c = c
+followed_by (with_body n e a) c = with_body n e (followed_by a c)
+followed_by (dummy n a) c = dummy n (followed_by a c)
+
+-- Later arguments change nothing before them. At arguments for a rule that begin with arguments for its premises ps, the boundary
+-- after these premises is what it is at the first ones alone.
+abbrev pub LawLaterArguments : Type 0
+LawLaterArguments = (T : List Rule) → Finitary T → (r : ℕ) (R : Rule) → rule_at T r ≡ Some R
+    → (ps : List (ℕ × Statement)) (b : Statement) → BoundaryAfter R ps b
+    → (a c : Arguments) → FitsPremises ps a
+    → statement_at (instance_of R.premises (followed_by a c)) b ≡ statement_at (instance_of ps a) b
 
 -- What is derivable is derivable at an instance.
 abbrev pub LawGeneralInstance : Type 0

@@ -3,8 +3,27 @@ use Rattle.std.specs.Prelude.{ℕ, Some, None, ◌≡◌, List, [], ◌∷◌, �
 use Rattle.ft_theory.specs.Expressions.{Expression, free, Arguments, act, MentionsOnly}
 use Rattle.ft_theory.specs.Statements.{Statement, StatementMentionsOnly, act_statement, fill, equate, IsObject}
 use Rattle.ft_theory.specs.Rules.{look_up, Rule, instance_of, FitsPremises, filled_premises, equated_premises}
-use Rattle.ft_theory.specs.Steps.{Prim}
-use Rattle.ft_theory.specs.Derivability.{DerUpTo, FinitaryUpTo}
+use Rattle.ft_theory.specs.Steps.{Sequent, Prim}
+use Rattle.ft_theory.specs.WideSteps.{WideStep}
+use Rattle.ft_theory.specs.Derivability.{DerUpTo, Finitary, FinitaryUpTo}
+
+-- each of the list is as P says
+abbrev pub Each : {X : Type 0} → (X → Type 0) → List X → Type 0
+Each P [] = Unit {0}
+Each P (x ∷ xs) = P x × Each P xs
+
+-- the sequent is derivable by primitive steps
+abbrev pub IsPrimitive : List Rule → Sequent → Type 0
+IsPrimitive T c = Prim T c.metavariables c.variables c.statement
+
+-- Over a theory the wide steps of kind k are admissible: where the premises of one are derivable by primitive steps, so is its
+-- conclusion.
+abbrev pub IsAdmissible : ℕ → List Rule → Type 0
+IsAdmissible k T = (ps : List Sequent) (c : Sequent) → WideStep T k ps c → Each (IsPrimitive T) ps → IsPrimitive T c
+
+-- In every finitary theory the wide steps of kind k are admissible.
+abbrev pub KindIsAdmissible : ℕ → Type 0
+KindIsAdmissible k = (T : List Rule) → Finitary T → IsAdmissible k T
 
 -- At level k: in every theory that is finitary by derivations of that level, derivable by kinds up to k is primitively
 -- derivable, for all maps of metavariables and variables and all theses and boundaries.
@@ -18,11 +37,6 @@ Avoids ms e = MentionsOnly (λ v. Unit {0}) (λ m k. look_up ms m ≡ None) e
 -- the metavariables ms are not mentioned in the statement
 abbrev pub StatementAvoids : List (ℕ × Statement) → Statement → Type 0
 StatementAvoids ms x = StatementMentionsOnly (λ v. Unit {0}) (λ m k. look_up ms m ≡ None) x
-
--- each statement of the list is as P says
-abbrev pub Each : (Statement → Type 0) → List Statement → Type 0
-Each P [] = Unit {0}
-Each P (x ∷ xs) = P x × Each P xs
 
 -- A statement over further metavariables ms that nothing else mentions, with a derivable argument for each of them:
 -- its instance is derivable without them.

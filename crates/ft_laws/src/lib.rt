@@ -1,53 +1,60 @@
 // The laws of a type theory's wide steps. Each function states one law over the definitions alone.
 #![tactic(auto)]
 
-ghost use Rattle.ft_laws.specs.Laws.{Law, LawInstantiate, LawEqualInstantiate};
+ghost use Rattle.ft_laws.specs.Laws.{KindIsAdmissible, Law, LawInstantiate, LawEqualInstantiate};
 ghost use Rattle.ft_laws.specs.Syntax.{OpenUndoesClose, CloseUndoesOpen, OpenUndoesCloseInStatement, CloseUndoesOpenInStatement, SubstitutionAfterSubstitution, SubstitutionOfAbsent, OpenIsSubstitution, InstanceOfInstance, InstanceOfRuleInstance};
 ghost use Rattle.ft_laws.specs.Derivations.{DerivableIsPrimitive, FinitaryAtEachLevel, LawScope, LawRenaming, LawSimultaneousSubstitution, LawDomain, LawDomainAtEach, LawLongerTheory, LawLongerTheoryPrimitive, LawUniqueType};
-ghost use Rattle.ft_laws.specs.Instances.{LawGeneralInstance, LawGeneralEqualInstances, LawRightInstance};
+ghost use Rattle.ft_laws.specs.Instances.{LawLaterArguments, LawGeneralInstance, LawGeneralEqualInstances, LawRightInstance};
 ghost use Rattle.ft_laws.specs.Examples.{TermsInOrder, ConclusionOfApplication, PremisesOfApplication, TwoIsNatural, ProductsAreFinitary, BetaIsDerivable, NothingFromIllFormedBoundary, NothingFromIllFormedAnnotation, NothingFromIllFormedEquation, NoAbsentVariable, NoLooseVariable, NoughtIsNoType, NoughtIsNotInNought};
 ghost use Rattle.ft_laws.specs.Counterexamples.{LawNeedsFinitary, SidesNeedTheBoundary, SubstitutionNeedsVariableFree, NoStrengthening};
 
-/// Weakening: a statement may be taken to larger maps.
-/// Derivability by kinds up to 1 is derivability by primitive steps.
+/// Weakening, kind 1: a statement may be taken to larger maps.
+/// In a finitary theory these steps are admissible, and derivable by kinds up to 1 is derivable by primitive steps.
 pub fn law_weaken()
-    ensures law { Law 1 }
+    ensures kind { KindIsAdmissible 1 }
+    ensures levels { Law 1 }
 {}
 
-/// Substitution: a term may be put for the variable of the first domain.
-/// Derivability by kinds up to 2 is derivability by primitive steps.
+/// Substitution, kind 2: a term may be put for the variable of the first domain.
+/// In a finitary theory these steps are admissible, and derivable by kinds up to 2 is derivable by primitive steps.
 pub fn law_substitute()
-    ensures law { Law 2 }
+    ensures kind { KindIsAdmissible 2 }
+    ensures levels { Law 2 }
 {}
 
-/// Sides: what a derivable statement presupposes is derivable.
-/// Derivability by kinds up to 3 is derivability by primitive steps.
+/// Sides, kind 3: what a derivable statement presupposes is derivable.
+/// In a finitary theory these steps are admissible, and derivable by kinds up to 3 is derivable by primitive steps.
 pub fn law_sides()
-    ensures law { Law 3 }
+    ensures kind { KindIsAdmissible 3 }
+    ensures levels { Law 3 }
 {}
 
-/// Equal substitution: equal terms may be put for the variable of the first domain.
-/// Derivability by kinds up to 4 is derivability by primitive steps.
+/// Equal substitution, kind 4: equal terms may be put for the variable of the first domain.
+/// In a finitary theory these steps are admissible, and derivable by kinds up to 4 is derivable by primitive steps.
 pub fn law_equal_substitution()
-    ensures law { Law 4 }
+    ensures kind { KindIsAdmissible 4 }
+    ensures levels { Law 4 }
 {}
 
-/// Instances: the boundaries of a rule are derivable at its arguments.
-/// Derivability by kinds up to 5 is derivability by primitive steps.
+/// Instances, kind 5: the boundaries of a rule are derivable at its arguments.
+/// In a finitary theory these steps are admissible, and derivable by kinds up to 5 is derivable by primitive steps.
 pub fn law_instance()
-    ensures law { Law 5 }
+    ensures kind { KindIsAdmissible 5 }
+    ensures levels { Law 5 }
 {}
 
-/// Equal instances: equal arguments give equal applications, and arguments move between equal boundaries.
-/// Derivability by kinds up to 6 is derivability by primitive steps.
+/// Equal instances, kind 6: equal arguments give equal applications, and heads move between equal boundaries.
+/// In a finitary theory these steps are admissible, and derivable by kinds up to 6 is derivable by primitive steps.
 pub fn law_equal_instance()
-    ensures law { Law 6 }
+    ensures kind { KindIsAdmissible 6 }
+    ensures levels { Law 6 }
 {}
 
-/// Inversion: the arguments and the natural type of an application are derivable.
-/// Derivability by kinds up to 7 is derivability by primitive steps.
+/// Inversion, kind 7: the arguments and the natural type of an application are derivable.
+/// In a finitary theory these steps are admissible, and derivable by kinds up to 7 is derivable by primitive steps.
 pub fn law_inversion()
-    ensures law { Law 7 }
+    ensures kind { KindIsAdmissible 7 }
+    ensures levels { Law 7 }
 {}
 
 /// What is derivable over further metavariables is derivable at arguments for them.
@@ -117,6 +124,11 @@ pub fn law_longer_theory()
 /// All types of a term are equal.
 pub fn law_unique_type()
     ensures law { LawUniqueType }
+{}
+
+/// Later arguments of a rule change nothing in the boundaries before them.
+pub fn law_later_arguments()
+    ensures law { LawLaterArguments }
 {}
 
 /// What is derivable is derivable at an instance, where some metavariables are given arguments and the others stay.

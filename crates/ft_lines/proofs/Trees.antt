@@ -317,7 +317,7 @@ pub record Fitting (d : ℕ) (e : Expression) : Type 0 where
   pub its : ItsNumbersFit e
 
 fitting_small : (d : ℕ) (e : Expression) → d ≤ 1000 → Fitting d e → IsSmall e
-fitting_small d e l f = record { low = omega (arith, l, f.low); short = f.short; numbers = f.numbers }
+fitting_small d e l f = record { kept = (omega (arith, l, f.low), f.short, f.numbers) }
 
 mutual
   unfolding expression_within bound_variable free_variable
@@ -361,4 +361,4 @@ mutual
   )
 
 pub expression_read : (e : Expression) (rest : List ℕ) → IsSmall e → ItsNumbersFit e → sees_digit rest ≡ false → expression (expression_text e ++ rest) ≡ Ok (e, rest)
-expression_read e rest s its stops = within_read 1000 e rest (omega arith) (record { low = s.low; short = s.short; numbers = s.numbers; its = its }) stops
+expression_read e rest s its stops = within_read 1000 e rest (omega arith) (record { low = s.kept.0; short = s.kept.1; numbers = s.kept.2; its = its }) stops

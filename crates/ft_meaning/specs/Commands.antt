@@ -2,7 +2,7 @@
 use Rattle.std.specs.Prelude.{ℕ, List, [], ◌∷◌, Result, Ok, Err}
 use Rattle.ft_theory.specs.Rules.{Rule}
 use Rattle.ft_items.specs.Item.{Name}
-use Rattle.ft_items.specs.Store.{Assertion, Annotation, Declared, Store}
+use Rattle.ft_items.specs.Store.{Assertion, Annotation, Declared, Declarations}
 use Rattle.ft_reference.specs.Declare.{Outcome as Declaration, RuleFault, Draft, begin, premise, finish}
 use Rattle.ft_reference.specs.Nucleus as reference
 use Rattle.ft_equality.specs.Shapes.{ShapeFault, EqualityRules, add_computation, add_extensionality}
@@ -49,12 +49,12 @@ abstract_all [] b = pure b
 abstract_all (x ∷ xs) b = nucleus x.at (λ W. reference.abstract_variable W x.variable b) >>= abstract_all xs
 
 -- what a premise of the draft leaves and answers: its metavariable, and the draft after it; a refusal becomes a fault at the place
-abbrev pub after_premise : ℕ → Declaration (Store × Draft) (ℕ × Declared) RuleFault → Run ((ℕ × Declared) × Draft)
+abbrev pub after_premise : ℕ → Declaration (Declarations × Draft) (ℕ × Declared) RuleFault → Run ((ℕ × Declared) × Draft)
 after_premise at o = after_declaration OfRule at o.after.0 o.answer >>= λ M. pure (M, o.after.1)
 
 -- a further premise of the draft
 abbrev pub add_premise : ℕ → Draft → Name → Assertion → Run ((ℕ × Declared) × Draft)
-add_premise at d n b = λ s. after_premise at (premise s.store d n b) s
+add_premise at d n b = λ s. after_premise at (premise s.declarations d n b) s
 
 -- premises in turn: the draft and the named values after them
 abbrev pub declare_premises : List Premise → Draft → Environment → Run (Draft × Environment)

@@ -4,39 +4,39 @@ use Rattle.std.specs.Prelude.{ℕ, ◌≡◌, Option, Some, None, List, [], ◌�
 use Rattle.ft_theory.specs.Rules.{Rule}
 use Rattle.ft_theory.specs.Steps.{Sequent}
 use Rattle.ft_items.specs.Item.{Name, Item, variable, metavariable, rule, entry, shown}
-use Rattle.ft_items.specs.Store.{Assertion, Declared, Store, each, entry_named, metavariable_named, sequent_in, Derivable, add, empty_store}
+use Rattle.ft_items.specs.Store.{Assertion, Declared, each, entry_named, metavariable_named, sequent_in, Derivable, add, empty_store, declared_rule, Declarations, Store, WellFormedContext}
 use Rattle.ft_items.specs.Good.{Good}
-use Rattle.ft_reference.specs.Declare.{declared_rule}
 use Rattle.ft_meaning.specs.Commands.{Done, Accepted, ShownNone, Quiet}
 use Rattle.ft_meaning.specs.Commands as command
 
--- An event: a rule is accepted, or a judgement is shown over the store at that moment, which has the rules accepted before.
+-- An event: a rule is accepted, or a judgement is shown over what is declared at that moment, the rules accepted before among it.
 pub data Event : Type 0 where
   accepts : Name → Rule → Event
-  shows : Store → Assertion → Event
+  shows : Declarations → Assertion → Event
 
--- the events of a command, over the store after it
-abbrev pub events_of : Store → Done → List Event
+-- the events of a command, over the declarations after it
+abbrev pub events_of : Declarations → Done → List Event
 events_of W (Accepted n R) = accepts n R ∷ []
 events_of W (command.Shown js) = map (shows W) js
 events_of W ShownNone = []
 events_of W Quiet = []
 
--- a judgement that is shown, with the store at that moment
+-- a judgement that is shown, with the declarations at that moment
 pub record Shown : Type 0 where
-  pub store : Store
+  pub declarations : Declarations
   pub judgement : Assertion
 
 -- the judgements shown, in their order
 abbrev pub shown_in : List Event → List Shown
 shown_in [] = []
 shown_in (accepts n R ∷ es) = shown_in es
-shown_in (shows W j ∷ es) = record { store = W; judgement = j } ∷ shown_in es
+shown_in (shows W j ∷ es) = record { declarations = W; judgement = j } ∷ shown_in es
 
--- the judgement is derivable by primitive steps in the context of its set, which is what is printed before its `|-`, over the
--- rules accepted before its line
-abbrev pub IsDerivable : Shown → Type 0
-IsDerivable s = Derivable s.store s.judgement.statement s.judgement.set
+-- The context of the judgement's set, which is what is printed before its `|-`, is well formed, and in it the judgement is derivable
+-- by primitive steps over the rules accepted before its line.
+pub record IsDerivable (s : Shown) : Type 0 where
+  pub context : WellFormedContext s.declarations s.judgement.set
+  pub derivable : Derivable s.declarations s.judgement.statement s.judgement.set
 
 -- P holds of each of the judgements shown
 abbrev pub EachShown : (Shown → Type 0) → List Shown → Type 0
@@ -66,7 +66,7 @@ told_rule n (Some ms) None = []
 told_rule n (Some ms) (Some p) = declares n (declared_rule ms p) ∷ []
 
 -- the sequent of an entry, where it is there
-abbrev pub told_shown : Store → Option Assertion → List Told
+abbrev pub told_shown : Declarations → Option Assertion → List Told
 told_shown W None = []
 told_shown W (Some p) = states W.rules (sequent_in W p.statement p.set) ∷ []
 
@@ -74,9 +74,9 @@ told_shown W (Some p) = states W.rules (sequent_in W p.statement p.set) ∷ []
 abbrev pub told_by_item : Store → Item → List Told
 told_by_item W (variable v n p) = []
 told_by_item W (metavariable n p) = []
-told_by_item W (rule n ms p) = told_rule n (each (metavariable_named W) ms) (entry_named W p)
+told_by_item W (rule n ms p) = told_rule n (each (metavariable_named W.declarations) ms) (entry_named W p)
 told_by_item W (entry e) = []
-told_by_item W (shown p) = told_shown W (entry_named W p)
+told_by_item W (shown p) = told_shown W.declarations (entry_named W p)
 
 -- what items tell after what the store has
 abbrev pub told_from : Store → List Item → List Told

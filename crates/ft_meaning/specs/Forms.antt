@@ -5,7 +5,7 @@ use Rattle.ft_theory.specs.Rules.{Rule}
 use Rattle.ft_theory.specs.Statements.{is_type, has_type, equal_types, equal_terms, Statement, plain}
 use Rattle.ft_items.specs.Sets.{union}
 use Rattle.ft_items.specs.Item.{Name}
-use Rattle.ft_items.specs.Store.{Assertion, Annotation, Store}
+use Rattle.ft_items.specs.Store.{Assertion, Annotation, Declarations}
 use Rattle.ft_items.specs.Good.{equal_names}
 use Rattle.ft_reference.specs.Refusals.{Refusal, WrongForm}
 use Rattle.ft_reference.specs.Declare.{new_variable}
@@ -24,11 +24,11 @@ use Rattle.ft_meaning.specs.Matching.{if_found, matches}
 -- Calls of the nucleus as values.
 
 -- a call that gives a judgement
-abbrev pub judged : ℕ → (Store → Result Assertion Refusal) → Run Value
+abbrev pub judged : ℕ → (Declarations → Result Assertion Refusal) → Run Value
 judged at ask = nucleus at ask >>= λ j. pure (judgement j)
 
 -- a call that gives a boundary
-abbrev pub bounded : ℕ → (Store → Result Assertion Refusal) → Run Value
+abbrev pub bounded : ℕ → (Declarations → Result Assertion Refusal) → Run Value
 bounded at ask = nucleus at ask >>= λ b. pure (boundary b)
 
 -- the operation that is performed where a judgement does not fit the boundary that is wanted
@@ -82,7 +82,7 @@ normalise at j x = halt (fails (Refused WrongForm) at)
 -- Words.
 
 -- conversion of a term, or of a term equation
-abbrev pub conversion : Statement → Store → Assertion → Assertion → Result Assertion Refusal
+abbrev pub conversion : Statement → Declarations → Assertion → Assertion → Result Assertion Refusal
 conversion (plain (equal_terms s t A)) W d e = reference.convert_equation W d e
 conversion x W d e = reference.convert W d e
 

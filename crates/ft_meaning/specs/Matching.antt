@@ -1,9 +1,10 @@
 -- Patterns against values.
-use Rattle.std.specs.Prelude.{ℕ, suc, Bool, true, false, cond, nat_eq, Option, Some, None, ◌∷◌}
+use Rattle.std.specs.Prelude.{ℕ, suc, Bool, false, cond, nat_eq, Option, Some, None, ◌∷◌}
 use Rattle.ft_theory.specs.Expressions.{symbol}
 use Rattle.ft_theory.specs.Statements.{is_type, has_type, Statement, plain}
 use Rattle.ft_items.specs.Store.{Assertion}
 use Rattle.ft_items.specs.Rows.{when}
+use Rattle.ft_items.specs.Good.{same_truth}
 use Rattle.ft_reference.specs.Nucleus as reference
 use Rattle.ft_meaning.specs.Trees.{Pattern, cons_pattern, some_pattern, symbol_pattern, name_pattern, wildcard, truth_pattern, unit_pattern, none_pattern, nil_pattern, pair_pattern, Patterns, no_patterns, and_pattern}
 use Rattle.ft_meaning.specs.Values.{Value, judgement, unit, truth, pair, nil, cons, none, some, Environment, Run, ◌>>=◌, pure, halt, stuck, nucleus, the_rule}
@@ -23,12 +24,6 @@ infixl 10 ◌and_also◌
 -- a match, and then a further one over what the first names; it matches where both do
 abbrev pub ◌and_also◌ : Run (Option Environment) → (Environment → Run (Option Environment)) → Run (Option Environment)
 ◌and_also◌ m next = m >>= λ found. if_found found next (pure None)
-
--- the test that two truth values are the same
-abbrev pub same_truth : Bool → Bool → Bool
-same_truth true b = b
-same_truth false true = false
-same_truth false false = true
 
 -- A pattern against a value: the named values with those that it names; or None, where it doesn't match. The number is the place
 -- of the match. The arguments of a symbol are taken one by one, each matched before the next.

@@ -3,7 +3,7 @@ use Rattle.std.specs.Prelude.{ℕ, zero, suc, Bool, cond, Option, Some, None, op
 use Rattle.std.specs.List.{list_any}
 use Rattle.ft_theory.specs.Rules.{Rule}
 use Rattle.ft_items.specs.Item.{Name}
-use Rattle.ft_items.specs.Store.{Store, rule_named}
+use Rattle.ft_items.specs.Store.{rule_named, Declarations}
 use Rattle.ft_items.specs.Good.{equal_names}
 
 -- what stands under the name
@@ -21,5 +21,5 @@ number_of [] n = None
 number_of (m ∷ ms) n = cond (equal_names m n) (Some zero) (option_map suc (number_of ms n))
 
 -- the rule of the name, with its number
-abbrev pub rule_of_name : Store → Name → Option (ℕ × Rule)
+abbrev pub rule_of_name : Declarations → Name → Option (ℕ × Rule)
 rule_of_name W n = option_and_then (rule_named W) (number_of W.names n)

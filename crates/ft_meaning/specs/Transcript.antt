@@ -1,7 +1,7 @@
 -- The transcript of a source: what `run` writes, with its status, what the run did, and the units that it used.
 use Rattle.std.specs.Prelude.{ℕ, ◌≡◌, Option, Some, None, List, [], ◌∷◌, ◌++◌, Result, Ok, Err, codes, decimal}
 use Rattle.ft_items.specs.Item.{Name}
-use Rattle.ft_items.specs.Store.{empty_store}
+use Rattle.ft_items.specs.Store.{no_declarations}
 use Rattle.ft_equality.specs.Shapes.{no_rules}
 use Rattle.ft_meaning.specs.Trees.{Command, rule_command}
 use Rattle.ft_meaning.specs.Values.{Environment, State, Halt, fails, spent, stuck}
@@ -41,13 +41,13 @@ stuck_status = 255
 
 -- a command halts the run
 abbrev pub halted : Text → Command → Halt → State → Transcript
-halted source c (fails why at) s = over (error_line source at (fault_text s.store (rule_name c) why)) (fault_status why) s.units.used
+halted source c (fails why at) s = over (error_line source at (fault_text s.declarations (rule_name c) why)) (fault_status why) s.units.used
 halted source c (spent at) s = over (error_line source at (codes "budget spent")) 13 s.units.used
 halted source c stuck s = over [] stuck_status s.units.used
 
 -- a command that was run, and those after it
 abbrev pub after_command : Text → Command → Result (Done × Environment) Halt × State → (Environment → State → Transcript) → Transcript
-after_command source c (Ok d, s) next = preceded (done_lines s.store d.0) (events_of s.store d.0) (next d.1 s)
+after_command source c (Ok d, s) next = preceded (done_lines s.declarations d.0) (events_of s.declarations d.0) (next d.1 s)
 after_command source c (Err h, s) next = halted source c h s
 
 -- a command that was typed is run; one that has no type ends the run
@@ -63,7 +63,7 @@ transcript_from source (c ∷ cs) scope G s =
 
 -- the state before the first command
 abbrev pub start : ℕ → State
-start budget = record { store = empty_store; equality_rules = no_rules; units = record { used = 0; left = budget } }
+start budget = record { declarations = no_declarations; equality_rules = no_rules; units = record { used = 0; left = budget } }
 
 -- the run, where every part is built; else the first part that is not is told
 abbrev pub unless_unbuilt : Text → ℕ → List Command → Option ℕ → Transcript

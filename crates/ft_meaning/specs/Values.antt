@@ -2,7 +2,7 @@
 use Rattle.std.specs.Prelude.{ℕ, Bool, Option, Some, None, List, [], ◌∷◌, Result, Ok, Err}
 use Rattle.ft_theory.specs.Rules.{Rule}
 use Rattle.ft_items.specs.Item.{Name}
-use Rattle.ft_items.specs.Store.{Assertion, Store}
+use Rattle.ft_items.specs.Store.{Assertion, Declarations}
 use Rattle.ft_reference.specs.Refusals.{Refusal, TooBig}
 use Rattle.ft_reference.specs.Declare.{Outcome as Declaration, RuleFault}
 use Rattle.ft_equality.specs.Shapes.{ShapeFault, EqualityRules}
@@ -25,9 +25,9 @@ pub data Value : Type 0 where
 abbrev pub Environment : Type 0
 Environment = List (Name × Value)
 
--- the state of a run: the store of the nucleus, whose list of entries stays empty; the equality rules declared; and the units
+-- the state of a run: what is declared to the nucleus; the equality rules declared; and the units
 pub record State : Type 0 where
-  pub store : Store
+  pub declarations : Declarations
   pub equality_rules : EqualityRules
   pub units : Units
 
@@ -101,31 +101,31 @@ settled at s (Err NotSmall, u) = (Err (halts (fails (Refused TooBig) at)), recor
 abbrev pub spend : ℕ → Run (Unit {0})
 spend at = λ s. settled at s (spend_unit s.units (λ u. (Ok tt, u)))
 
--- a call of the equality checker over the store, the equality rules and the units, made at a place
-abbrev pub checker : {A : Type 0} → ℕ → (Store → EqualityRules → Units → Answer A) → Run A
-checker at ask = λ s. settled at s (ask s.store s.equality_rules s.units)
+-- a call of the equality checker over the declarations, the equality rules and the units, made at a place
+abbrev pub checker : {A : Type 0} → ℕ → (Declarations → EqualityRules → Units → Answer A) → Run A
+checker at ask = λ s. settled at s (ask s.declarations s.equality_rules s.units)
 
 -- an answer of the nucleus; a refusal is a fault at the place
 abbrev pub answered : {A : Type 0} → ℕ → Result A Refusal → Run A
 answered at (Ok a) = pure a
 answered at (Err r) = halt (fails (Refused r) at)
 
--- a call of the nucleus over the store, made at a place
-abbrev pub nucleus : {A : Type 0} → ℕ → (Store → Result A Refusal) → Run A
-nucleus at ask = λ s. answered at (ask s.store) s
+-- a call of the nucleus over the declarations, made at a place
+abbrev pub nucleus : {A : Type 0} → ℕ → (Declarations → Result A Refusal) → Run A
+nucleus at ask = λ s. answered at (ask s.declarations) s
 
 -- what a declaration leaves and answers; a refusal becomes a fault at the place
-abbrev pub after_declaration : {A E : Type 0} → (E → Fault) → ℕ → Store → Result A E → Run A
-after_declaration fault at W (Ok a) = λ s. (Ok a, record s { store = W })
+abbrev pub after_declaration : {A E : Type 0} → (E → Fault) → ℕ → Declarations → Result A E → Run A
+after_declaration fault at W (Ok a) = λ s. (Ok a, record s { declarations = W })
 after_declaration fault at W (Err e) = halt (fails (fault e) at)
 
--- a declaration over the store, made at a place
-abbrev pub declare : {A E : Type 0} → (E → Fault) → ℕ → (Store → Declaration Store A E) → Run A
-declare fault at d = λ s. after_declaration fault at (d s.store).after (d s.store).answer s
+-- a declaration over those before, made at a place
+abbrev pub declare : {A E : Type 0} → (E → Fault) → ℕ → (Declarations → Declaration Declarations A E) → Run A
+declare fault at d = λ s. after_declaration fault at (d s.declarations).after (d s.declarations).answer s
 
 -- the rule of a name
 abbrev pub the_rule : Name → Run (ℕ × Rule)
-the_rule n = λ s. the (rule_of_name s.store n) s
+the_rule n = λ s. the (rule_of_name s.declarations n) s
 
 -- the value is a judgement
 abbrev pub as_judgement : Value → Run Assertion

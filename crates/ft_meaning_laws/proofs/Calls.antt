@@ -7,16 +7,16 @@ use Rattle.std.proofs.lemmas.Option.{same_Some}
 use Rattle.ft_common.proofs.Options.{none_some}
 use Rattle.ft_items.specs.Equal.{is_thesis}
 use Rattle.ft_items.specs.Item.{Name, Stated, Item, variable, entry}
-use Rattle.ft_items.specs.Store.{Assertion, Annotation, Declared, Store, nth, each, entry_named, variable_named, metavariable_named, rule_named, with_one, with_two, resolve, Resolved, add_variable, add, empty_store, store_of}
+use Rattle.ft_items.specs.Store.{Assertion, Annotation, Declared, nth, each, entry_named, variable_named, metavariable_named, rule_named, with_one, with_two, resolve, Resolved, add_variable, add, empty_store, store_of, declared_variable, Declarations, declared_by, Store}
 use Rattle.ft_items.specs.Rows.{conclusion, result_set, concludes_thesis}
 use Rattle.ft_items.specs.Good.{of_kind, given, is_plain_type, is_next}
-use Rattle.ft_items.proofs.Lists.{nth_end, store_last}
-use Rattle.ft_sound.proofs.Valid.{WellFormed}
+use Rattle.ft_items.proofs.Lists.{nth_end, look_new, store_last, declared_last}
+use Rattle.ft_sound.proofs.Valid.{WellFormedStore}
 use Rattle.ft_sound.proofs.Steps.{resolved}
 use Rattle.ft_sound.proofs.KindRows.{conclusion_kind}
 use Rattle.ft_reference.specs.Refusals.{Refusal, WrongForm}
 use Rattle.ft_reference.specs.Calls.{answer}
-use Rattle.ft_reference.specs.Declare.{outcome, refused_unless, declared_variable, new_variable}
+use Rattle.ft_reference.specs.Declare.{outcome, refused_unless, new_variable}
 use Rattle.ft_nucleus_laws.proofs.Calls.{answers_its_row, answer_gives}
 use Rattle.ft_equality.specs.Programs.{spend_from}
 use Rattle.ft_meaning.specs.Names.{number_of, rule_of_name}
@@ -24,8 +24,7 @@ use Rattle.ft_meaning.specs.Values.{Value, judgement, boundary, State, Refused, 
 use Rattle.ft_meaning.specs.Stages.{Stage}
 use Rattle.ft_meaning.specs.Values as values
 use Rattle.ft_meaning.specs.Forms.{judged, bounded, make_variable}
-use Rattle.ft_meaning_laws.proofs.Bare.{bare, answer_bare}
-use Rattle.ft_meaning_laws.proofs.Grows.{quiet_self, quiet_last, next_later, next_last, look_new}
+use Rattle.ft_meaning_laws.proofs.Grows.{quiet_self, quiet_last, next_later, next_last}
 use Rattle.ft_meaning_laws.proofs.Lists.{sound_last, AreAccepted}
 use Rattle.ft_meaning_laws.proofs.Made.{IsEntry, AllTheses, IsMade, holds_last, Kept, Keeps, keeps_bind, keeps_pure, keeps_halt, keeps_weaken}
 
@@ -34,7 +33,7 @@ abbrev pub Named : List Item → Resolved → Type 0
 Named items c = (n : Stated) × (resolve (store_of items) n ≡ Some c)
 
 -- kinds
-given_is : (W : Store) (c : Resolved) (a : Assertion) → given W c ≡ Some a → (of_kind c ≡ true) × (conclusion W c ≡ Some a.statement)
+given_is : (W : Declarations) (c : Resolved) (a : Assertion) → given W c ≡ Some a → (of_kind c ≡ true) × (conclusion W c ≡ Some a.statement)
 given_is W c a h = go (of_kind c) refl (conclusion W c) refl h
   where
     go : (b : Bool) → of_kind c ≡ b → (o : Option Statement) → conclusion W c ≡ o → cond b (option_map (λ x. record { statement = x; set = result_set c }) o) None ≡ Some a → (of_kind c ≡ true) × (conclusion W c ≡ Some a.statement)
@@ -42,10 +41,10 @@ given_is W c a h = go (of_kind c) refl (conclusion W c) refl h
     go true k (Some x) l e = (k, l ∙ ap (λ (z : Assertion). Some z.statement) (same_Some (record { statement = x; set = result_set c }) a e))
     go false k o l e = none_some e
 
-answer_kind : (items : List Item) → WellFormed (store_of items) → (n : Stated) (c : Resolved) → resolve (store_of items) n ≡ Some c → (a : Assertion) → given (store_of items) c ≡ Some a → is_thesis a.statement ≡ concludes_thesis c
+answer_kind : (items : List Item) → WellFormedStore (store_of items) → (n : Stated) (c : Resolved) → resolve (store_of items) n ≡ Some c → (a : Assertion) → given (declared_by items) c ≡ Some a → is_thesis a.statement ≡ concludes_thesis c
 answer_kind items F n c r a h =
-    let k : (of_kind c ≡ true) × (conclusion (store_of items) c ≡ Some a.statement) = given_is (store_of items) c a h in
-    conclusion_kind (store_of items) F c (resolved (store_of items) F n c r) k.0 a.statement k.1
+    let k : (of_kind c ≡ true) × (conclusion (declared_by items) c ≡ Some a.statement) = given_is (declared_by items) c a h in
+    conclusion_kind (declared_by items) F.declarations c (resolved (store_of items) F n c r) k.0 a.statement k.1
 
 -- one more entry
 pub entry_end : (items : List Item) (a : Assertion) (n : Stated) → IsEntry (items ++ (entry (record { statement = a.statement; set = a.set; step = n }) ∷ [])) a
@@ -78,26 +77,26 @@ each_entry items (j ∷ js) h =
 
 -- a rule, or a variable, of the list
 abbrev pub IsRule : List Item → ℕ × Rule → Type 0
-IsRule items r = rule_at (store_of items).rules r.0 ≡ Some r.1
+IsRule items r = rule_at (declared_by items).rules r.0 ≡ Some r.1
 
 abbrev pub IsVariable : List Item → ℕ × Annotation → Type 0
-IsVariable items v = look_up (store_of items).variables v.0 ≡ Some v.1
+IsVariable items v = look_up (declared_by items).variables v.0 ≡ Some v.1
 
-pub rule_resolved : (items : List Item) (r : ℕ × Rule) → IsRule items r → rule_named (store_of items) r.0 ≡ Some r
+pub rule_resolved : (items : List Item) (r : ℕ × Rule) → IsRule items r → rule_named (declared_by items) r.0 ≡ Some r
 rule_resolved items r h = ap (option_map (λ R. (r.0, R))) h
 
-pub variable_resolved : (items : List Item) (v : ℕ × Annotation) → IsVariable items v → variable_named (store_of items) v.0 ≡ Some v
+pub variable_resolved : (items : List Item) (v : ℕ × Annotation) → IsVariable items v → variable_named (declared_by items) v.0 ≡ Some v
 variable_resolved items v h = ap (option_map (λ d. (v.0, d))) h
 
 -- the rule of a number is one of the list's
-rule_there : (W : Store) (r : ℕ) (R : ℕ × Rule) → rule_named W r ≡ Some R → rule_at W.rules R.0 ≡ Some R.1
+rule_there : (W : Declarations) (r : ℕ) (R : ℕ × Rule) → rule_named W r ≡ Some R → rule_at W.rules R.0 ≡ Some R.1
 rule_there W r R h = go (rule_at W.rules r) refl h
   where
     go : (o : Option Rule) → rule_at W.rules r ≡ o → option_map (λ S. (r, S)) o ≡ Some R → rule_at W.rules R.0 ≡ Some R.1
     go None q e = none_some e
     go (Some S) q e = subst (λ (z : ℕ × Rule). rule_at W.rules z.0 ≡ Some z.1) (same_Some (r, S) R e) q
 
-rule_of_name_there : (W : Store) (n : Name) (R : ℕ × Rule) → rule_of_name W n ≡ Some R → rule_at W.rules R.0 ≡ Some R.1
+rule_of_name_there : (W : Declarations) (n : Name) (R : ℕ × Rule) → rule_of_name W n ≡ Some R → rule_at W.rules R.0 ≡ Some R.1
 rule_of_name_there W n R h = go (number_of W.names n) h
   where
     go : (o : Option ℕ) → option_and_then (rule_named W) o ≡ Some R → rule_at W.rules R.0 ≡ Some R.1
@@ -106,21 +105,21 @@ rule_of_name_there W n R h = go (number_of W.names n) h
 
 -- a metavariable of the list
 abbrev pub IsMetavariable : List Item → ℕ × Declared → Type 0
-IsMetavariable items m = nth (store_of items).metavariables m.0 ≡ Some m.1
+IsMetavariable items m = nth (declared_by items).metavariables m.0 ≡ Some m.1
 
-pub metavariable_resolved : (items : List Item) (m : ℕ × Declared) → IsMetavariable items m → metavariable_named (store_of items) m.0 ≡ Some m
+pub metavariable_resolved : (items : List Item) (m : ℕ × Declared) → IsMetavariable items m → metavariable_named (declared_by items) m.0 ≡ Some m
 metavariable_resolved items m h = ap (option_map (λ d. (m.0, d))) h
 
 module _ (B : Stage) where
   -- a call of the nucleus on what is in the list
-  pub keeps_nucleus_with : (Q : Statement → Type 0) (items : List Item) (at : ℕ) (c : Resolved) → Named items c → ((x : Statement) → conclusion (store_of items) c ≡ Some x → Q x) → Keeps B Assertion (AnswersWith Q c) items (nucleus at (λ W. answer W c))
-  keeps_nucleus_with Q items at c n f s h = go (answer s.store c) refl
+  pub keeps_nucleus_with : (Q : Statement → Type 0) (items : List Item) (at : ℕ) (c : Resolved) → Named items c → ((x : Statement) → conclusion (declared_by items) c ≡ Some x → Q x) → Keeps B Assertion (AnswersWith Q c) items (nucleus at (λ W. answer W c))
+  keeps_nucleus_with Q items at c n f s h = go (answer s.declarations c) refl
     where
-      W : Store
-      W = store_of items
+      W : Declarations
+      W = declared_by items
 
-      here : answer s.store c ≡ answer W c
-      here = ap (λ z. answer z c) h.store ∙ answer_bare W c
+      here : answer s.declarations c ≡ answer W c
+      here = ap (λ z. answer z c) h.declarations
 
       made : (a : Assertion) → answer W c ≡ Ok a → Kept B Assertion (AnswersWith Q c) items (Ok a, s)
       made a e =
@@ -129,11 +128,11 @@ module _ (B : Stage) where
           record {
             later = items ++ (i ∷ []);
             quiet = quiet_last items i refl;
-            holds = holds_last B items i s s h (sound_last B items i h.list (answer_gives W n.0 c a n.1 e)) refl h.store h.next;
+            holds = holds_last B items i s s h (sound_last B items i h.list (answer_gives (store_of items) n.0 c a n.1 e)) refl h.declarations h.next;
             gives = ((entry_end items a n.0, answer_kind items h.list.well n.0 c n.1 a row), f a.statement (given_is W c a row).1);
           }
 
-      go : (r : Result Assertion Refusal) → answer s.store c ≡ r → Kept B Assertion (AnswersWith Q c) items (answered at r s)
+      go : (r : Result Assertion Refusal) → answer s.declarations c ≡ r → Kept B Assertion (AnswersWith Q c) items (answered at r s)
       go (Ok a) e = made a (sym here ∙ e)
       go (Err r) e = record { later = items; quiet = quiet_self items; holds = h; gives = tt }
 
@@ -153,8 +152,8 @@ module _ (B : Stage) where
   keeps_the A P items None f = keeps_halt B A P items stuck
 
   pub keeps_rule : (items : List Item) (n : Name) → Keeps B (ℕ × Rule) IsRule items (the_rule n)
-  keeps_rule items n s h = keeps_the (ℕ × Rule) IsRule items (rule_of_name s.store n)
-      (λ R e. subst (λ (z : Store). rule_at z.rules R.0 ≡ Some R.1) h.store (rule_of_name_there s.store n R e)) s h
+  keeps_rule items n s h = keeps_the (ℕ × Rule) IsRule items (rule_of_name s.declarations n)
+      (λ R e. subst (λ (z : Declarations). rule_at z.rules R.0 ≡ Some R.1) h.declarations (rule_of_name_there s.declarations n R e)) s h
 
   -- a new variable
   pub keeps_make : (items : List Item) (at : ℕ) (n : Name) (A : Assertion) → IsEntry items A → Keeps B (ℕ × Annotation) IsVariable items (make_variable at n A)
@@ -163,8 +162,8 @@ module _ (B : Stage) where
       v : ℕ
       v = s.units.used
 
-      W : Store
-      W = store_of items
+      W : Declarations
+      W = declared_by items
 
       i : Item
       i = variable v n a.0
@@ -172,22 +171,22 @@ module _ (B : Stage) where
       x : ℕ × Annotation
       x = (v, declared_variable n A)
 
-      named : add W i ≡ add_variable W v n (Some A)
+      named : (add (store_of items) i).declarations ≡ add_variable W v n (Some A)
       named = ap (add_variable W v n) a.1
 
-      fresh : is_next (add W i).variables (suc v) ≡ true
-      fresh = subst (λ (z : Store). is_next z.variables (suc v) ≡ true) (sym named) (next_last W.variables v x.1 h.next)
+      fresh : is_next (add (store_of items) i).declarations.variables (suc v) ≡ true
+      fresh = subst (λ (z : Declarations). is_next z.variables (suc v) ≡ true) (sym named) (next_last W.variables v x.1 h.next)
 
       there : IsVariable (items ++ (i ∷ [])) x
-      there = subst (λ (z : Store). look_up z.variables v ≡ Some x.1) (sym (store_last empty_store items i ∙ named)) (look_new W.variables v x.1 h.next)
+      there = subst (λ (z : Declarations). look_up z.variables v ≡ Some x.1) (sym (declared_last items i ∙ named)) (look_new W.variables v x.1 h.next)
 
-      made : (t : State) → t.store ≡ s.store → t.equality_rules ≡ s.equality_rules → t.units.used ≡ suc v → (b : Bool) → is_plain_type A.statement ≡ b
-          → Kept B (ℕ × Annotation) IsVariable items (after_declaration Refused at (outcome (refused_unless b WrongForm) t.store (add_variable t.store v n (Some A)) x).after (outcome (refused_unless b WrongForm) t.store (add_variable t.store v n (Some A)) x).answer t)
+      made : (t : State) → t.declarations ≡ s.declarations → t.equality_rules ≡ s.equality_rules → t.units.used ≡ suc v → (b : Bool) → is_plain_type A.statement ≡ b
+          → Kept B (ℕ × Annotation) IsVariable items (after_declaration Refused at (outcome (refused_unless b WrongForm) t.declarations (add_variable t.declarations v n (Some A)) x).after (outcome (refused_unless b WrongForm) t.declarations (add_variable t.declarations v n (Some A)) x).answer t)
       made t e r u true k = record {
         later = items ++ (i ∷ []);
         quiet = quiet_last items i refl;
-        holds = holds_last B items i s (record t { store = add_variable t.store v n (Some A) }) h (sound_last B items i h.list (h.next, A, a.1, k)) r
-            (ap (λ z. add_variable z v n (Some A)) (e ∙ h.store) ∙ ap bare (sym named)) (subst (λ w. is_next (add W i).variables w ≡ true) (sym u) fresh);
+        holds = holds_last B items i s (record t { declarations = add_variable t.declarations v n (Some A) }) h (sound_last B items i h.list (h.next, A, a.1, k)) r
+            (ap (λ z. add_variable z v n (Some A)) (e ∙ h.declarations) ∙ sym named) (subst (λ w. is_next (add (store_of items) i).declarations.variables w ≡ true) (sym u) fresh);
         gives = there;
       }
       made t e r u false k = record {
@@ -196,12 +195,12 @@ module _ (B : Stage) where
         holds = record {
           list = h.list;
           equality = subst (AreAccepted W.rules) (sym r) h.equality;
-          store = e ∙ h.store;
+          declarations = e ∙ h.declarations;
           next = subst (λ w. is_next W.variables w ≡ true) (sym u) (next_later W.variables v h.next);
         };
         gives = tt;
       }
 
       spends : (left : ℕ) → Kept B (ℕ × Annotation) IsVariable items (values.after (settled {A = Unit {0}} at s (spend_from v left (λ u. (Ok tt, u)))) (λ u. declare Refused at (λ Z. new_variable Z v n A)))
-      spends zero = record { later = items; quiet = quiet_self items; holds = record { list = h.list; equality = h.equality; store = h.store; next = h.next }; gives = tt }
+      spends zero = record { later = items; quiet = quiet_self items; holds = record { list = h.list; equality = h.equality; declarations = h.declarations; next = h.next }; gives = tt }
       spends (suc left) = made (record s { units = record { used = suc v; left = left } }) refl refl refl (is_plain_type A.statement) refl

@@ -19,10 +19,10 @@ use Rattle.ft_meaning_laws.proofs.Words.{keeps_fitting, keeps_abstract, keeps_su
 
 -- what stays
 pub rule_later : (xs ys : List Item) → Quiet xs ys → (r : ℕ × Rule) → IsRule xs r → IsRule ys r
-rule_later xs ys q r h = q.grows.rules r.0 r.1 h
+rule_later xs ys q r h = q.grows.declarations.rules r.0 r.1 h
 
 pub variable_later : (xs ys : List Item) → Quiet xs ys → (v : ℕ × Annotation) → IsVariable xs v → IsVariable ys v
-variable_later xs ys q v h = q.grows.variables v.0 v.1 h
+variable_later xs ys q v h = q.grows.declarations.variables v.0 v.1 h
 
 theses_last : (items : List Item) (js : List Assertion) (k : Assertion) → AllTheses items js → IsThesis items k → AllTheses items (js ++ k ∷ [])
 theses_last items [] k h l = (l, tt)

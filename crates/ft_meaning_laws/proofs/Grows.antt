@@ -2,55 +2,57 @@
 use Rattle.std.proofs.Common.{◌≡◌, ℕ, suc, ◌<◌, true, Option, Some, None, List, [], ◌∷◌, ◌++◌, refl, sym, ap, ◌∙◌, subst, append_assoc, append-nil, arith}
 use Rattle.std.specs.Prelude.{nat_lt}
 use Rattle.std.proofs.lemmas.Bool.{ltb-true, lt-ltb, and_parts, and_from}
-use Rattle.ft_common.proofs.Choices.{if_same, if_other}
-use Rattle.ft_theory.specs.Rules.{look_up, Rule, rule_at}
 use Rattle.ft_items.specs.Item.{Name, Item, variable, metavariable, rule, entry, shown}
-use Rattle.ft_items.specs.Store.{Assertion, Annotation, Declared, Store, nth, each, entry_named, metavariable_named, add_variable, add_metavariable, add_rule, add, add_all, empty_store, store_of}
+use Rattle.ft_items.specs.Store.{Assertion, Annotation, Declared, nth, each, entry_named, metavariable_named, add_variable, add_metavariable, add_rule, add, add_all, empty_store, store_of, Declarations, Store}
 use Rattle.ft_items.specs.Good.{is_next}
-use Rattle.ft_items.proofs.Lists.{Before, store_last, nth_before}
+use Rattle.ft_items.proofs.Lists.{store_last, nth_before}
 use Rattle.ft_laws.proofs.Rules.{look_before}
+use Rattle.ft_sound.proofs.Valid.{Later}
 use Rattle.ft_laws.proofs.Admissible.{rule_before}
 use Rattle.ft_meaning.specs.Events.{told_by_item, told_from}
 
 -- What is named stays.
 pub record GrowsStore (W X : Store) : Type 0 where
   pub entries : (p : ℕ) (a : Assertion) → nth W.entries p ≡ Some a → nth X.entries p ≡ Some a
-  pub variables : (v : ℕ) (d : Annotation) → look_up W.variables v ≡ Some d → look_up X.variables v ≡ Some d
-  pub metavariables : (m : ℕ) (d : Declared) → nth W.metavariables m ≡ Some d → nth X.metavariables m ≡ Some d
-  pub rules : (r : ℕ) (R : Rule) → rule_at W.rules r ≡ Some R → rule_at X.rules r ≡ Some R
+  pub declarations : Later W.declarations X.declarations
+
+later_self : (W : Declarations) → Later W W
+later_self W = record { rules = λ r R q. q; metavariables = λ m d q. q; variables = λ v d q. q }
 
 pub grows_self : (W : Store) → GrowsStore W W
-grows_self W = record { entries = λ p a q. q; variables = λ v d q. q; metavariables = λ m d q. q; rules = λ r R q. q }
+grows_self W = record { entries = λ p a q. q; declarations = later_self W.declarations }
+
+later_then : (W X Y : Declarations) → Later W X → Later X Y → Later W Y
+later_then W X Y f g = record {
+  rules = λ r R q. g.rules r R (f.rules r R q);
+  metavariables = λ m d q. g.metavariables m d (f.metavariables m d q);
+  variables = λ v d q. g.variables v d (f.variables v d q);
+}
 
 pub grows_then : (W X Y : Store) → GrowsStore W X → GrowsStore X Y → GrowsStore W Y
 grows_then W X Y f g = record {
   entries = λ p a q. g.entries p a (f.entries p a q);
-  variables = λ v d q. g.variables v d (f.variables v d q);
-  metavariables = λ m d q. g.metavariables m d (f.metavariables m d q);
-  rules = λ r R q. g.rules r R (f.rules r R q);
+  declarations = later_then W.declarations X.declarations Y.declarations f.declarations g.declarations;
 }
 
-pub as_before : (W X : Store) → GrowsStore W X → Before W X
-as_before W X g = record { entries = g.entries; metavariables = g.metavariables }
+later_variable : (W : Declarations) (v : ℕ) (n : Name) (o : Option Assertion) → Later W (add_variable W v n o)
+later_variable W v n None = later_self W
+later_variable W v n (Some a) = record { rules = λ r R q. q; metavariables = λ m d q. q; variables = λ u d q. look_before W.variables _ u d q }
 
-grows_variable : (W : Store) (v : ℕ) (n : Name) (o : Option Assertion) → GrowsStore W (add_variable W v n o)
-grows_variable W v n None = grows_self W
-grows_variable W v n (Some a) = record { entries = λ p a q. q; variables = λ u d q. look_before W.variables _ u d q; metavariables = λ m d q. q; rules = λ r R q. q }
+later_metavariable : (W : Declarations) (n : Name) (o : Option Assertion) → Later W (add_metavariable W n o)
+later_metavariable W n None = later_self W
+later_metavariable W n (Some a) = record { rules = λ r R q. q; metavariables = λ m d q. nth_before W.metavariables _ m d q; variables = λ v d q. q }
 
-grows_metavariable : (W : Store) (n : Name) (o : Option Assertion) → GrowsStore W (add_metavariable W n o)
-grows_metavariable W n None = grows_self W
-grows_metavariable W n (Some a) = record { entries = λ p a q. q; variables = λ v d q. q; metavariables = λ m d q. nth_before W.metavariables _ m d q; rules = λ r R q. q }
-
-grows_rule : (W : Store) (n : Name) (os : Option (List (ℕ × Declared))) (o : Option Assertion) → GrowsStore W (add_rule W n os o)
-grows_rule W n None o = grows_self W
-grows_rule W n (Some ds) None = grows_self W
-grows_rule W n (Some ds) (Some a) = record { entries = λ p a q. q; variables = λ v d q. q; metavariables = λ m d q. q; rules = λ r R q. rule_before W.rules _ r R q }
+later_rule : (W : Declarations) (n : Name) (os : Option (List (ℕ × Declared))) (o : Option Assertion) → Later W (add_rule W n os o)
+later_rule W n None o = later_self W
+later_rule W n (Some ds) None = later_self W
+later_rule W n (Some ds) (Some a) = record { rules = λ r R q. rule_before W.rules _ r R q; metavariables = λ m d q. q; variables = λ v d q. q }
 
 pub grows_add : (W : Store) (i : Item) → GrowsStore W (add W i)
-grows_add W (variable v n p) = grows_variable W v n (entry_named W p)
-grows_add W (metavariable n p) = grows_metavariable W n (entry_named W p)
-grows_add W (rule n ms p) = grows_rule W n (each (metavariable_named W) ms) (entry_named W p)
-grows_add W (entry e) = record { entries = λ p a q. nth_before W.entries _ p a q; variables = λ v d q. q; metavariables = λ m d q. q; rules = λ r R q. q }
+grows_add W (variable v n p) = record { entries = λ q a e. e; declarations = later_variable W.declarations v n (entry_named W p) }
+grows_add W (metavariable n p) = record { entries = λ q a e. e; declarations = later_metavariable W.declarations n (entry_named W p) }
+grows_add W (rule n ms p) = record { entries = λ q a e. e; declarations = later_rule W.declarations n (each (metavariable_named W.declarations) ms) (entry_named W p) }
+grows_add W (entry e) = record { entries = λ p a q. nth_before W.entries _ p a q; declarations = later_self W.declarations }
 grows_add W (shown p) = grows_self W
 
 -- what a list tells, and one more item
@@ -94,10 +96,3 @@ next_last (p ∷ G) v d h =
     let l : p.0 < v = ltb-true p.0 v k.0 in
     let m : p.0 < suc v = omega arith in
     and_from (nat_lt p.0 (suc v)) (is_next (G ++ ((v, d) ∷ [])) (suc v)) (lt-ltb p.0 (suc v) m) (next_last G v d k.1)
-
-pub look_new : (G : List (ℕ × Annotation)) (v : ℕ) (d : Annotation) → is_next G v ≡ true → look_up (G ++ ((v, d) ∷ [])) v ≡ Some d
-look_new [] v d h = if_same v v (Some d) None refl
-look_new (p ∷ G) v d h =
-    let k : (nat_lt p.0 v ≡ true) × (is_next G v ≡ true) = and_parts (nat_lt p.0 v) (is_next G v) h in
-    let below : p.0 < v = ltb-true p.0 v k.0 in
-    if_other v p.0 (Some p.1) (look_up (G ++ ((v, d) ∷ [])) v) (λ e. omega (arith, below, e)) ∙ look_new G v d k.1

@@ -6,7 +6,6 @@ pub mod SafeRules
 pub mod SafeRuns
 pub mod Transcripts
 pub mod Contents
-mod Bare
 mod Grows
 mod Lists
 mod Made
@@ -16,7 +15,6 @@ mod Words
 mod Built
 mod Evaluations
 mod Rules
-mod Contexts
 mod Runs
 mod Told
 mod Whole

@@ -3,13 +3,12 @@ use Rattle.std.proofs.Common.{◌≡◌, ℕ, true, false, Some, Result, Ok, Lis
 use Rattle.ft_common.proofs.Booleans.{false_true}
 use Rattle.ft_common.proofs.Results.{ok_ok}
 use Rattle.ft_laws.proofs.Finitary.{Sound}
-use Rattle.ft_theory.specs.Statements.{is_type, plain}
 use Rattle.ft_theory.specs.Rules.{Rule, rule_at}
 use Rattle.ft_items.specs.Item.{Item, entry, by_btype}
-use Rattle.ft_items.specs.Store.{Assertion, Store, nth, add, empty_store, store_of}
+use Rattle.ft_items.specs.Store.{Assertion, nth, add, empty_store, store_of, declared_by, Store}
 use Rattle.ft_items.specs.Good.{AllowedIn, Good}
 use Rattle.ft_items.proofs.Lists.{store_last, good_last}
-use Rattle.ft_sound.proofs.Valid.{Later, Valid, WellFormed, later_valid, scoped_rules}
+use Rattle.ft_sound.proofs.Valid.{Valid, WellFormedStore}
 use Rattle.ft_sound.proofs.Good.{nth_last}
 use Rattle.ft_sound.proofs.Reasons.{well_formed_add, well_formed_empty}
 use Rattle.ft_equality.specs.Shapes.{Computation, Extensionality, ShapeFault, EqualityRules, computation_of, extensionality_of, add_computation, add_extensionality}
@@ -23,7 +22,7 @@ use Rattle.ft_meaning.specs.Stages.{Stage, equality}
 -- The store of the list is well formed. Where the equality checker is not built, the list is good; else it may have entries of what
 -- the checker answered, which have no step.
 pub record IsSound (B : Stage) (items : List Item) : Type 0 where
-  pub well : WellFormed (store_of items)
+  pub well : WellFormedStore (store_of items)
   pub good : B equality ≡ false → Good items
 
 pub sound_empty : (B : Stage) → IsSound B []
@@ -31,7 +30,7 @@ sound_empty B = record { well = well_formed_empty; good = λ without. tt }
 
 pub sound_last : (B : Stage) (items : List Item) (i : Item) → IsSound B items → AllowedIn (store_of items) i → IsSound B (items ++ (i ∷ []))
 sound_last B items i l a = record {
-  well = subst WellFormed (sym (store_last empty_store items i)) (well_formed_add (store_of items) l.well i a);
+  well = subst WellFormedStore (sym (store_last empty_store items i)) (well_formed_add (store_of items) l.well i a);
   good = λ without. good_last empty_store items i (l.good without) a;
 }
 
@@ -39,27 +38,19 @@ sound_last B items i l a = record {
 abbrev pub told_entry : Assertion → Item
 told_entry a = entry (record { statement = a.statement; set = a.set; step = by_btype })
 
-with_entry : (W : Store) → WellFormed W → (a : Assertion) → Valid W a.statement a.set → WellFormed (add W (told_entry a))
+with_entry : (W : Store) → WellFormedStore W → (a : Assertion) → Valid W.declarations a.statement a.set → WellFormedStore (add W (told_entry a))
 with_entry W F a v = record {
-  finitary = F.finitary;
-  metavariables = λ m d q. ((later_valid W X d.boundary d.set (scoped_rules W F) l (F.metavariables m d q).0), (F.metavariables m d q).1, (F.metavariables m d q).2, (F.metavariables m d q).3);
-  variables = λ u d q. ((later_valid W X (plain (is_type d.annotation)) d.set (scoped_rules W F) l (F.variables u d q).0), (F.variables u d q).1);
+  declarations = F.declarations;
   entries = λ p b q. entries p b (nth_last W.entries (record { statement = a.statement; set = a.set }) p b q);
 }
   where
-    X : Store
-    X = add W (told_entry a)
+    entries : (p : ℕ) (b : Assertion) → (nth W.entries p ≡ Some b) ⊎ ((p ≡ length W.entries) × (record { statement = a.statement; set = a.set } ≡ b)) → Valid W.declarations b.statement b.set
+    entries p b (inl q) = F.entries p b q
+    entries p b (inr q) = subst (λ (z : Assertion). Valid W.declarations z.statement z.set) q.1 v
 
-    l : Later W (add W (told_entry a))
-    l = record { rules = λ r R q. q; metavariables = λ m d q. q; variables = λ v d q. q }
-
-    entries : (p : ℕ) (b : Assertion) → (nth W.entries p ≡ Some b) ⊎ ((p ≡ length W.entries) × (record { statement = a.statement; set = a.set } ≡ b)) → Valid (add W (told_entry a)) b.statement b.set
-    entries p b (inl q) = later_valid W X b.statement b.set (scoped_rules W F) l (F.entries p b q)
-    entries p b (inr q) = subst (λ (z : Assertion). Valid (add W (told_entry a)) z.statement z.set) q.1 (later_valid W X a.statement a.set (scoped_rules W F) l v)
-
-pub sound_valid : (B : Stage) (items : List Item) (a : Assertion) → B equality ≡ true → IsSound B items → Valid (store_of items) a.statement a.set → IsSound B (items ++ (told_entry a ∷ []))
+pub sound_valid : (B : Stage) (items : List Item) (a : Assertion) → B equality ≡ true → IsSound B items → Valid (declared_by items) a.statement a.set → IsSound B (items ++ (told_entry a ∷ []))
 sound_valid B items a built l v = record {
-  well = subst WellFormed (sym (store_last empty_store items (told_entry a))) (with_entry (store_of items) l.well a v);
+  well = subst WellFormedStore (sym (store_last empty_store items (told_entry a))) (with_entry (store_of items) l.well a v);
   good = λ without. false_true (sym without ∙ built);
 }
 

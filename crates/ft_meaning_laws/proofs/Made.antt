@@ -1,17 +1,16 @@
 -- Values whose judgements and boundaries are entries of a list, and evaluations that keep to such values.
-use Rattle.std.proofs.Common.{◌≡◌, ℕ, zero, suc, Bool, true, false, cond, Option, Some, None, Result, Ok, Err, List, [], ◌∷◌, ◌++◌, sym, ap, ◌∙◌, subst}
+use Rattle.std.proofs.Common.{◌≡◌, ℕ, zero, suc, Bool, true, false, cond, Option, Some, None, Result, Ok, Err, List, [], ◌∷◌, ◌++◌, sym, ◌∙◌, subst}
 use Rattle.ft_items.specs.Equal.{is_thesis}
 use Rattle.ft_items.specs.Item.{Name, Item}
-use Rattle.ft_items.specs.Store.{Assertion, Store, nth, add, empty_store, store_of}
+use Rattle.ft_items.specs.Store.{Assertion, nth, add, empty_store, store_of, declared_by, Store}
 use Rattle.ft_items.specs.Good.{is_next}
-use Rattle.ft_items.proofs.Lists.{store_last}
+use Rattle.ft_items.proofs.Lists.{store_last, declared_last}
 use Rattle.ft_equality.specs.Programs.{spend_from}
 use Rattle.ft_meaning.specs.Values.{Value, judgement, boundary, unit, truth, pair, nil, cons, none, some, Environment, State, End, performs, halts, Halt, stuck, Outcome, Run, ◌>>=◌, ◌>>◌, pure, end, halt, the, settled, spend, as_judgement, as_judgements}
 use Rattle.ft_meaning.specs.Stages.{Stage}
 use Rattle.ft_meaning.specs.Values as values
 use Rattle.ft_meaning.specs.Names.{named}
 use Rattle.ft_items.specs.Good.{equal_names}
-use Rattle.ft_meaning_laws.proofs.Bare.{bare}
 use Rattle.ft_meaning_laws.proofs.Grows.{GrowsStore, grows_last, Quiet, quiet_self, quiet_then, next_later}
 use Rattle.ft_meaning_laws.proofs.Lists.{IsSound, AreAccepted, accepted_later}
 
@@ -113,22 +112,22 @@ abbrev pub Any : List Item → Unit {0} → Type 0
 Any items u = Unit {0}
 
 module _ (B : Stage) where
-  -- The list goes along with the state: the store is the list's without entries, the equality rules were accepted, and units count past the
+  -- The list goes along with the state: the declarations are the list's, the equality rules were accepted, and units count past the
   -- numbers of its variables.
   pub record Holds (items : List Item) (s : State) : Type 0 where
     pub list : IsSound B items
-    pub equality : AreAccepted (store_of items).rules s.equality_rules
-    pub store : s.store ≡ bare (store_of items)
-    pub next : is_next (store_of items).variables s.units.used ≡ true
+    pub equality : AreAccepted (declared_by items).rules s.equality_rules
+    pub declarations : s.declarations ≡ declared_by items
+    pub next : is_next (declared_by items).variables s.units.used ≡ true
 
   -- one more item, and the state with it
-  pub holds_last : (items : List Item) (i : Item) (s t : State) → Holds items s → IsSound B (items ++ (i ∷ [])) → t.equality_rules ≡ s.equality_rules → t.store ≡ bare (add (store_of items) i)
-      → is_next (add (store_of items) i).variables t.units.used ≡ true → Holds (items ++ (i ∷ [])) t
+  pub holds_last : (items : List Item) (i : Item) (s t : State) → Holds items s → IsSound B (items ++ (i ∷ [])) → t.equality_rules ≡ s.equality_rules → t.declarations ≡ (add (store_of items) i).declarations
+      → is_next (add (store_of items) i).declarations.variables t.units.used ≡ true → Holds (items ++ (i ∷ [])) t
   holds_last items i s t h l r e n = record {
     list = l;
-    equality = subst (AreAccepted (store_of (items ++ (i ∷ []))).rules) (sym r) (accepted_later (store_of items).rules (store_of (items ++ (i ∷ []))).rules s.equality_rules (grows_last items i).rules h.equality);
-    store = e ∙ ap bare (sym (store_last empty_store items i));
-    next = subst (λ (z : Store). is_next z.variables t.units.used ≡ true) (sym (store_last empty_store items i)) n;
+    equality = subst (AreAccepted (declared_by (items ++ (i ∷ []))).rules) (sym r) (accepted_later (declared_by items).rules (declared_by (items ++ (i ∷ []))).rules s.equality_rules (grows_last items i).declarations.rules h.equality);
+    declarations = e ∙ sym (declared_last items i);
+    next = subst (λ (z : Store). is_next z.declarations.variables t.units.used ≡ true) (sym (store_last empty_store items i)) n;
   }
 
   pub record Kept (A : Type 0) (P : List Item → A → Type 0) (items : List Item) (o : Outcome A) : Type 0 where
@@ -180,11 +179,11 @@ module _ (B : Stage) where
   keeps_spend items at s h = go s.units.left
     where
       go : (left : ℕ) → Kept (Unit {0}) Any items (settled at s (spend_from s.units.used left (λ u. (Ok tt, u))))
-      go zero = record { later = items; quiet = quiet_self items; holds = record { list = h.list; equality = h.equality; store = h.store; next = h.next }; gives = tt }
+      go zero = record { later = items; quiet = quiet_self items; holds = record { list = h.list; equality = h.equality; declarations = h.declarations; next = h.next }; gives = tt }
       go (suc left) = record {
         later = items;
         quiet = quiet_self items;
-        holds = record { list = h.list; equality = h.equality; store = h.store; next = next_later (store_of items).variables s.units.used h.next };
+        holds = record { list = h.list; equality = h.equality; declarations = h.declarations; next = next_later (declared_by items).variables s.units.used h.next };
         gives = tt;
       }
 

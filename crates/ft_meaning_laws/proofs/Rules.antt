@@ -6,14 +6,14 @@ use Rattle.ft_theory.specs.Statements.{Statement, is_type, has_type, plain}
 use Rattle.ft_items.specs.Sets.{Atom, met, var, has, metavariables_only}
 use Rattle.ft_items.specs.Equal.{is_plain}
 use Rattle.ft_items.specs.Item.{Name, Item, metavariable, by_var, by_generic, by_abs, by_btype, by_bterm, by_beqty, by_beqtm}
-use Rattle.ft_items.specs.Store.{Assertion, Annotation, Declared, Store, with_one, with_two, with_three, nth, entry_named, add_metavariable, add, empty_store, store_of, Resolved}
+use Rattle.ft_items.specs.Store.{Assertion, Annotation, Declared, with_one, with_two, with_three, nth, entry_named, add_metavariable, add, store_of, Resolved, Declarations, declared_metavariable, declared_by}
 use Rattle.ft_items.specs.Rows.{term_boundary, type_equation_boundary, term_equation_boundary, atoms, conclusion, concludes_thesis}
 use Rattle.ft_items.specs.Good.{is_next}
-use Rattle.ft_items.proofs.Lists.{nth_end, store_last, each_before}
+use Rattle.ft_items.proofs.Lists.{nth_end, each_before, declared_last}
 use Rattle.ft_common.proofs.Options.{none_some, some_none}
 use Rattle.ft_sound.proofs.Structural.{from_when}
 use Rattle.ft_reference.specs.Calls.{answer}
-use Rattle.ft_reference.specs.Declare.{Outcome as Declaration, outcome, declared_metavariable, next_metavariable, RuleFault, OpenPremise, Draft, name_fault, first_outside, begin, premise}
+use Rattle.ft_reference.specs.Declare.{Outcome as Declaration, outcome, next_metavariable, RuleFault, OpenPremise, Draft, name_fault, first_outside, begin, premise}
 use Rattle.ft_nucleus_laws.specs.Laws.{numbers, IsDraft}
 use Rattle.ft_nucleus_laws.proofs.Declaring.{map_none, drafts_grow}
 use Rattle.ft_meaning.specs.Trees.{Form, Binder, Body, type_body, term_body, types_body, terms_body, Premise}
@@ -21,8 +21,7 @@ use Rattle.ft_meaning.specs.Stages.{Stage, applications, programs, parts, binder
 use Rattle.ft_meaning.specs.Values.{Value, judgement, Environment, OfRule, nucleus, after_declaration, declare, as_judgement}
 use Rattle.ft_meaning.specs.Forms.{meaning, judgement_of, make_variable}
 use Rattle.ft_meaning.specs.Commands.{Bound, bind_all, boundary_by, abstract_all, after_premise, add_premise, declare_premises}
-use Rattle.ft_meaning_laws.proofs.Bare.{bare}
-use Rattle.ft_meaning_laws.proofs.Grows.{as_before, Quiet, quiet_self, quiet_then, quiet_last}
+use Rattle.ft_meaning_laws.proofs.Grows.{Quiet, quiet_self, quiet_then, quiet_last}
 use Rattle.ft_meaning_laws.proofs.Lists.{sound_last}
 use Rattle.ft_meaning_laws.proofs.Made.{IsThesis, IsBoundary, IsMade, AreMade, thesis_later, are_made_later, holds_last, Kept, Keeps, keeps_bind, keeps_weaken, keeps_pure, keeps_judgement}
 use Rattle.ft_meaning_laws.proofs.Calls.{Named, Answers, AnswersWith, keeps_nucleus_with, keeps_nucleus, named_one, named_two, IsVariable, variable_resolved, IsMetavariable, metavariable_resolved, keeps_make}
@@ -59,12 +58,12 @@ AreBound items p = AreMade items p.0 × AllBound items p.1
 
 -- drafts of a rule of a name
 abbrev pub HasDraft : Name → List Item → Draft → Type 0
-HasDraft n items d = IsDraft (store_of items) d × (d.name ≡ n)
+HasDraft n items d = IsDraft (declared_by items) d × (d.name ≡ n)
 
 pub draft_later : (n : Name) (xs ys : List Item) → Quiet xs ys → (d : Draft) → HasDraft n xs d → HasDraft n ys d
 draft_later n xs ys q d i = (
   record {
-    named = each_before (store_of xs) (store_of ys) (as_before (store_of xs) (store_of ys) q.grows) (numbers d.premises) d.premises i.0.named;
+    named = each_before (declared_by xs) (declared_by ys) q.grows.declarations.metavariables (numbers d.premises) d.premises i.0.named;
     different = i.0.different;
     ordered = i.0.ordered;
   },
@@ -94,52 +93,52 @@ DraftMade n items p = HasDraft n items p.0 × AreMade items p.1
 
 module _ (B : Stage) where
   -- the four formers
-  keeps_former : (items : List Item) (at : ℕ) (c : Resolved) → Named items c → concludes_thesis c ≡ false → ((x : Statement) → conclusion (store_of items) c ≡ Some x → is_plain x ≡ true) → Keeps B Assertion IsPlainBoundary items (nucleus at (λ W. answer W c))
+  keeps_former : (items : List Item) (at : ℕ) (c : Resolved) → Named items c → concludes_thesis c ≡ false → ((x : Statement) → conclusion (declared_by items) c ≡ Some x → is_plain x ≡ true) → Keeps B Assertion IsPlainBoundary items (nucleus at (λ W. answer W c))
   keeps_former items at c n k f = keeps_weaken B Assertion (AnswersWith (λ x. is_plain x ≡ true) c) IsPlainBoundary items (nucleus at (λ W. answer W c)) (λ later a p. ((p.0.0, p.0.1 ∙ k), p.1)) (keeps_nucleus_with B (λ x. is_plain x ≡ true) items at c n f)
 
   keeps_premise : (name : Name) (items : List Item) (at : ℕ) (d : Draft) (n : Name) (b : Assertion) → HasDraft name items d → IsBoundary items b → Keeps B ((ℕ × Declared) × Draft) (PremiseAdded name) items (add_premise at d n b)
   keeps_premise name items at d n b i k s h = go (option_map (OpenPremise (suc (length d.premises))) (first_outside (atoms d.premises) b.set)) refl
     where
-      W : Store
-      W = store_of items
+      W : Declarations
+      W = declared_by items
 
-      with_more : Store → Draft
+      with_more : Declarations → Draft
       with_more Z = record d { premises = d.premises ++ (next_metavariable Z n b ∷ []) }
 
-      done : Option RuleFault → Store → Declaration (Store × Draft) (ℕ × Declared) RuleFault
+      done : Option RuleFault → Declarations → Declaration (Declarations × Draft) (ℕ × Declared) RuleFault
       done o Z = outcome o (Z, d) (add_metavariable Z n (Some b), with_more Z) (next_metavariable Z n b)
 
       item : Item
       item = metavariable n k.0.0
 
-      named : add W item ≡ add_metavariable W n (Some b)
+      named : (add (store_of items) item).declarations ≡ add_metavariable W n (Some b)
       named = ap (add_metavariable W n) k.0.1
 
-      Added : Store → Store → Type 0
+      Added : Declarations → Declarations → Type 0
       Added X Z = (nth X.metavariables (length Z.metavariables) ≡ Some (declared_metavariable n b)) × IsDraft X (with_more Z)
 
       go : (o : Option RuleFault) → option_map (OpenPremise (suc (length d.premises))) (first_outside (atoms d.premises) b.set) ≡ o
-          → Kept B ((ℕ × Declared) × Draft) (PremiseAdded name) items (after_premise at (done o s.store) s)
+          → Kept B ((ℕ × Declared) × Draft) (PremiseAdded name) items (after_premise at (done o s.declarations) s)
       go None e =
           let grown : IsDraft (premise W d n b).after.0 (premise W d n b).after.1 = drafts_grow.1 W d n b (next_metavariable W n b) i.0 (ap (λ z. (done z W).answer) e) in
           let here : Added (add_metavariable W n (Some b)) W = (nth_end W.metavariables (declared_metavariable n b), subst (λ z. IsDraft (done z W).after.0 (done z W).after.1) e grown) in
-          let there : Added (add_metavariable W n (Some b)) s.store = subst (Added (add_metavariable W n (Some b))) (sym h.store) here in
-          let last : Added (store_of (items ++ (item ∷ []))) s.store = subst (λ z. Added z s.store) (sym (store_last empty_store items item ∙ named)) there in
+          let there : Added (add_metavariable W n (Some b)) s.declarations = subst (Added (add_metavariable W n (Some b))) (sym h.declarations) here in
+          let last : Added (declared_by (items ++ (item ∷ []))) s.declarations = subst (λ z. Added z s.declarations) (sym (declared_last items item ∙ named)) there in
           record {
             later = items ++ (item ∷ []);
             quiet = quiet_last items item refl;
-            holds = holds_last B items item s (record s { store = add_metavariable s.store n (Some b) }) h
+            holds = holds_last B items item s (record s { declarations = add_metavariable s.declarations n (Some b) }) h
                 (sound_last B items item h.list (b, k.0.1, k.1, no_variables d.premises b.set (map_none (OpenPremise (suc (length d.premises))) (first_outside (atoms d.premises) b.set) e)))
-                refl (ap (λ z. add_metavariable z n (Some b)) h.store ∙ ap bare (sym named)) (subst (λ (z : Store). is_next z.variables s.units.used ≡ true) (sym named) h.next);
+                refl (ap (λ z. add_metavariable z n (Some b)) h.declarations ∙ sym named) (subst (λ (z : Declarations). is_next z.variables s.units.used ≡ true) (sym named) h.next);
             gives = (last.0, (last.1, i.1));
           }
       go (Some f) e = record { later = items; quiet = quiet_self items; holds = h; gives = tt }
 
   pub keeps_begin : (items : List Item) (at : ℕ) (n : Name) → Keeps B Draft (HasDraft n) items (declare OfRule at (λ W. begin W n))
-  keeps_begin items at n s h = go (name_fault s.store n)
+  keeps_begin items at n s h = go (name_fault s.declarations n)
     where
-      go : (o : Option RuleFault) → Kept B Draft (HasDraft n) items (after_declaration OfRule at (outcome {A = Draft} o s.store s.store (record { name = n; premises = [] })).after (outcome {A = Draft} o s.store s.store (record { name = n; premises = [] })).answer s)
-      go None = record { later = items; quiet = quiet_self items; holds = record { list = h.list; equality = h.equality; store = h.store; next = h.next }; gives = (record { named = refl; different = refl; ordered = refl }, refl) }
+      go : (o : Option RuleFault) → Kept B Draft (HasDraft n) items (after_declaration OfRule at (outcome {A = Draft} o s.declarations s.declarations (record { name = n; premises = [] })).after (outcome {A = Draft} o s.declarations s.declarations (record { name = n; premises = [] })).answer s)
+      go None = record { later = items; quiet = quiet_self items; holds = record { list = h.list; equality = h.equality; declarations = h.declarations; next = h.next }; gives = (record { named = refl; different = refl; ordered = refl }, refl) }
       go (Some e) = record { later = items; quiet = quiet_self items; holds = h; gives = tt }
 
   pub keeps_judgement_of : (ns : List Name) (e : Form) → AllBuilt B (parts ns e) → (items : List Item) (G : Environment) → AreMade items G → Keeps B Assertion IsThesis items (judgement_of e G)

@@ -3,12 +3,12 @@ use Rattle.std.proofs.Common.{◌≡◌, ℕ, true, Option, Some, None, Result, 
 use Rattle.std.specs.Prelude.{map, option_map}
 use Rattle.ft_theory.specs.Rules.{Rule, rule_at}
 use Rattle.ft_items.specs.Item.{Name, Item, shown}
-use Rattle.ft_items.specs.Store.{Assertion, Store, sequent_in, Derivable, add_rule, add, empty_store, store_of}
+use Rattle.ft_items.specs.Store.{Assertion, sequent_in, add_rule, add, empty_store, declared_rule, Declarations, declared_by, store_of}
 use Rattle.ft_items.specs.Rows.{atoms}
 use Rattle.ft_items.specs.Good.{is_next}
-use Rattle.ft_sound.specs.Soundness.{MembersHold}
 use Rattle.ft_sound.proofs.Valid.{Valid}
-use Rattle.ft_reference.specs.Declare.{Outcome as Declaration, outcome, first_of, RuleFault, OpenConclusion, Draft, name_fault, first_outside, begin, declared_rule, next_rule, finish}
+use Rattle.ft_sound.proofs.Theorems.{members_hold}
+use Rattle.ft_reference.specs.Declare.{Outcome as Declaration, outcome, first_of, RuleFault, OpenConclusion, Draft, name_fault, first_outside, begin, next_rule, finish}
 use Rattle.ft_nucleus_laws.specs.Laws.{drafted}
 use Rattle.ft_nucleus_laws.proofs.Declaring.{finishes_allowed}
 use Rattle.ft_meaning.specs.Trees.{Body, Premise, Command, rule_command, let_command, operation_command, computation_command, extensionality_command, show_command}
@@ -20,13 +20,10 @@ use Rattle.ft_meaning.specs.Commands as commands
 use Rattle.ft_grammar.specs.declared.syntax.Named.{Named}
 use Rattle.ft_equality.specs.Shapes.{ShapeFault, EqualityRules, add_computation, add_extensionality}
 use Rattle.ft_meaning.specs.Commands.{shaped, declare_equality, boundary_by, declare_premises, declare_rule, Done, Accepted, ShownNone, Quiet, done, ended, run_command}
-use Rattle.ft_meaning.specs.Events.{Event, shows, EachShown, events_of, shown_in, IsDerivable, Shown, Told, declares, states, told_by_event, told_rule, told_shown, told_from}
-use Rattle.ft_meaning_laws.specs.Derivability.{HasContext}
-use Rattle.ft_meaning_laws.proofs.Bare.{bare, sequent_bare, derivable_bare, members_bare}
+use Rattle.ft_meaning.specs.Events.{Event, shows, EachShown, events_of, shown_in, IsDerivable, Told, declares, states, told_by_event, told_rule, told_shown, told_from}
 use Rattle.ft_meaning_laws.proofs.Grows as grows
 use Rattle.ft_meaning_laws.proofs.Grows.{GrowsStore, grows_self, grows_then, grows_last, told_last, quiet_self}
 use Rattle.ft_meaning_laws.proofs.Lists.{sound_last, AreAccepted, computation_added, extensionality_added}
-use Rattle.ft_meaning_laws.proofs.Contexts.{members_hold}
 use Rattle.ft_meaning_laws.proofs.Made.{IsThesis, AllTheses, IsMade, AreMade, theses_grown, are_made_later, are_made_grown, Holds, holds_last, Kept, Keeps, keeps_bind, keeps_then, keeps_pure, keeps_halt, Any, keeps_judgement, keeps_judgements}
 use Rattle.ft_meaning_laws.proofs.Calls.{IsRule, keeps_rule}
 use Rattle.ft_meaning_laws.proofs.Built.{AllBuilt, rest_built, right_built}
@@ -42,13 +39,9 @@ abbrev rule_told : Name → Result Rule End → List Told
 rule_told n (Ok R) = declares n R ∷ []
 rule_told n (Err e) = []
 
--- what is shown is derivable, and its context is well formed
-abbrev pub IsWell : Shown → Type 0
-IsWell s = IsDerivable s × HasContext s
-
 -- What a command does, and what is then told and shown.
 abbrev events_by : {E : Type 0} → Result (Done × Environment) E × State → List Event
-events_by (Ok d, s) = events_of s.store d.0
+events_by (Ok d, s) = events_of s.declarations d.0
 events_by (Err e, s) = []
 
 abbrev NamesMade : {E : Type 0} → List Item → Result (Done × Environment) E → Type 0
@@ -99,36 +92,36 @@ module _ (B : Stage) where
 
   finishing : (n : Name) (items : List Item) (at : ℕ) (d : Draft) (b : Assertion) → HasDraft n items d → IsPlainBoundary items b → (s : State) → Holds B items s
       → RuleRan n items ((declare OfRule at (λ W. finish W d b) >>= λ R. pure R.1) s)
-  finishing n items at d b i k s h = go (fault s.store) refl
+  finishing n items at d b i k s h = go (fault s.declarations) refl
     where
-      W : Store
-      W = store_of items
+      W : Declarations
+      W = declared_by items
 
-      fault : Store → Option RuleFault
+      fault : Declarations → Option RuleFault
       fault Z = first_of (name_fault Z d.name) (option_map OpenConclusion (first_outside (atoms d.premises) b.set))
 
-      made : Store → Store
+      made : Declarations → Declarations
       made Z = add_rule Z d.name (Some d.premises) (Some b)
 
-      result : Option RuleFault → Store → Declaration Store (ℕ × Rule) RuleFault
+      result : Option RuleFault → Declarations → Declaration Declarations (ℕ × Rule) RuleFault
       result o Z = outcome o Z (made Z) (next_rule Z d.premises b)
 
       item : Item
       item = drafted d k.0.0.0
 
-      named : add W item ≡ made W
+      named : (add (store_of items) item).declarations ≡ made W
       named = ap₂ (add_rule W d.name) i.0.named k.0.0.1
 
-      go : (o : Option RuleFault) → fault s.store ≡ o → RuleRan n items (values.after (after_declaration OfRule at (result o s.store).after (result o s.store).answer s) (λ S. pure S.1))
+      go : (o : Option RuleFault) → fault s.declarations ≡ o → RuleRan n items (values.after (after_declaration OfRule at (result o s.declarations).after (result o s.declarations).answer s) (λ S. pure S.1))
       go None e =
-          let none : fault W ≡ None = subst (λ z. fault z ≡ None) h.store e in
+          let none : fault W ≡ None = subst (λ z. fault z ≡ None) h.declarations e in
           let okay : (finish W d b).answer ≡ Ok (next_rule W d.premises b) = ap (λ z. (result z W).answer) none in
           record {
             later = items ++ (item ∷ []);
             grows = grows_last items item;
-            holds = holds_last B items item s (record s { store = made s.store }) h
+            holds = holds_last B items item s (record s { declarations = made s.declarations }) h
                 (sound_last B items item h.list ((finishes_allowed items d k.0.0.0 b i.0 k.0.0.1 k.0.1 k.1).0 okay).0)
-                refl (ap made h.store ∙ ap bare (sym named)) (subst (λ (z : Store). is_next z.variables s.units.used ≡ true) (sym named) h.next);
+                refl (ap made h.declarations ∙ sym named) (subst (λ (z : Declarations). is_next z.variables s.units.used ≡ true) (sym named) h.next);
             tells = told_last empty_store items item ∙ ap (λ z. told items ++ z) (ap₂ (told_rule d.name) i.0.named k.0.0.1 ∙ ap (λ z. declares z (declared_rule d.premises b) ∷ []) i.1);
           }
       go (Some f) e = longer_self items s h
@@ -136,7 +129,7 @@ module _ (B : Stage) where
   pub record CommandRan (E : Type 0) (items : List Item) (o : Result (Done × Environment) E × State) : Type 0 where
     pub longer : Longer items o.1 (map told_by_event (events_by o))
     pub names : NamesMade longer.later o.0
-    pub derivable : EachShown IsWell (shown_in (events_by o))
+    pub derivable : EachShown IsDerivable (shown_in (events_by o))
 
   -- a rule
   rule_ran : (n : Name) (items : List Item) (G : Environment) → AreMade items G → (o : Outcome Rule) → RuleRan n items o → CommandRan End items (values.after o (λ R. pure (Accepted n R, G)))
@@ -144,43 +137,41 @@ module _ (B : Stage) where
   rule_ran n items G g (Err e, s) r = record { longer = r; names = tt; derivable = tt }
 
   -- judgements are shown
-  well_here : (items : List Item) (s : State) → Holds B items s → (j : Assertion) → IsThesis items j → IsWell (record { store = s.store; judgement = j })
+  well_here : (items : List Item) (s : State) → Holds B items s → (j : Assertion) → IsThesis items j → IsDerivable (record { declarations = s.declarations; judgement = j })
   well_here items s h j k =
-      let v : Valid (store_of items) j.statement j.set = h.list.well.entries k.0.0 j k.0.1 in (
-        subst (λ z. Derivable z j.statement j.set) (sym h.store) (derivable_bare (store_of items) j.statement j.set v.derivable),
-        subst (λ z. MembersHold z [] j.set) (sym h.store) (members_bare (store_of items) [] j.set (members_hold (store_of items) h.list.well [] j.set v.proper)),
-      )
+      let v : Valid (declared_by items) j.statement j.set = h.list.well.entries k.0.0 j k.0.1 in
+      subst (λ z. IsDerivable (record { declarations = z; judgement = j })) (sym h.declarations)
+      (record { context = members_hold (declared_by items) h.list.well.declarations [] j.set v.proper; derivable = v.derivable })
 
-  mark_one : (items : List Item) (s : State) → Holds B items s → (j : Assertion) → IsThesis items j → Longer items s (told_by_event (shows s.store j) ∷ [])
+  mark_one : (items : List Item) (s : State) → Holds B items s → (j : Assertion) → IsThesis items j → Longer items s (told_by_event (shows s.declarations j) ∷ [])
   mark_one items s h j k = record {
     later = items ++ (item ∷ []);
     grows = grows_last items item;
-    holds = holds_last B items item s s h (sound_last B items item h.list (j, k.0.1, k.1)) refl h.store h.next;
+    holds = holds_last B items item s s h (sound_last B items item h.list (j, k.0.1, k.1)) refl h.declarations h.next;
     tells = told_last empty_store items item ∙ ap (λ z. told items ++ z)
         (ap (told_shown W) k.0.1
-        ∙ ap (λ z. states W.rules z ∷ []) (sym (sequent_bare W j.statement j.set))
-        ∙ ap (λ (z : Store). states z.rules (sequent_in z j.statement j.set) ∷ []) (sym h.store));
+        ∙ ap (λ (z : Declarations). states z.rules (sequent_in z j.statement j.set) ∷ []) (sym h.declarations));
   }
     where
-      W : Store
-      W = store_of items
+      W : Declarations
+      W = declared_by items
 
       item : Item
       item = shown k.0.0
 
   mark : (js : List Assertion) (items : List Item) (s : State) → Holds B items s → AllTheses items js
-      → Longer items s (map told_by_event (map (shows s.store) js)) × EachShown IsWell (shown_in (map (shows s.store) js))
+      → Longer items s (map told_by_event (map (shows s.declarations) js)) × EachShown IsDerivable (shown_in (map (shows s.declarations) js))
   mark [] items s h k = (longer_self items s h, tt)
   mark (j ∷ js) items s h k =
-      let m : Longer items s (told_by_event (shows s.store j) ∷ []) = mark_one items s h j k.0 in
-      let more : Longer m.later s (map told_by_event (map (shows s.store) js)) × EachShown IsWell (shown_in (map (shows s.store) js)) = mark js m.later s m.holds (theses_grown items m.later m.grows js k.1) in
-      (longer_then items s s (told_by_event (shows s.store j) ∷ []) (map told_by_event (map (shows s.store) js)) m more.0, (well_here items s h j k.0, more.1))
+      let m : Longer items s (told_by_event (shows s.declarations j) ∷ []) = mark_one items s h j k.0 in
+      let more : Longer m.later s (map told_by_event (map (shows s.declarations) js)) × EachShown IsDerivable (shown_in (map (shows s.declarations) js)) = mark js m.later s m.holds (theses_grown items m.later m.grows js k.1) in
+      (longer_then items s s (told_by_event (shows s.declarations j) ∷ []) (map told_by_event (map (shows s.declarations) js)) m more.0, (well_here items s h j k.0, more.1))
 
   quiet_ran : (items : List Item) (o : Outcome (Done × Environment)) → Kept B (Done × Environment) CommandMade items o → CommandRan End items o
   quiet_ran items (Ok (Accepted n R, G), s) k = absurd k.gives.0
   quiet_ran items (Ok (commands.Shown js, G), s) k =
-      let m : Longer k.later s (map told_by_event (map (shows s.store) js)) × EachShown IsWell (shown_in (map (shows s.store) js)) = mark js k.later s k.holds k.gives.0 in
-      record { longer = longer_then items s s [] (map told_by_event (map (shows s.store) js)) (longer_quiet _ CommandMade items _ k) m.0; names = are_made_grown k.later m.0.later m.0.grows G k.gives.1; derivable = m.1 }
+      let m : Longer k.later s (map told_by_event (map (shows s.declarations) js)) × EachShown IsDerivable (shown_in (map (shows s.declarations) js)) = mark js k.later s k.holds k.gives.0 in
+      record { longer = longer_then items s s [] (map told_by_event (map (shows s.declarations) js)) (longer_quiet _ CommandMade items _ k) m.0; names = are_made_grown k.later m.0.later m.0.grows G k.gives.1; derivable = m.1 }
   quiet_ran items (Ok (ShownNone, G), s) k = record { longer = longer_quiet _ CommandMade items _ k; names = k.gives.1; derivable = tt }
   quiet_ran items (Ok (Quiet, G), s) k = record { longer = longer_quiet _ CommandMade items _ k; names = k.gives.1; derivable = tt }
   quiet_ran items (Err e, s) k = record { longer = longer_quiet _ CommandMade items _ k; names = tt; derivable = tt }
@@ -201,7 +192,7 @@ module _ (B : Stage) where
       (λ xs q r k s h. go xs r k s h (add s.equality_rules r.0 r.1) refl)
     where
       go : (xs : List Item) (r : ℕ × Rule) → IsRule xs r → (s : State) → Holds B xs s → (o : Result EqualityRules ShapeFault) → add s.equality_rules r.0 r.1 ≡ o → Kept B (Unit {0}) Any xs (shaped n.at o s)
-      go xs r k s h (Ok D) e = record { later = xs; quiet = quiet_self xs; holds = record { list = h.list; equality = f (store_of xs).rules s.equality_rules D r.0 r.1 k e h.equality; store = h.store; next = h.next }; gives = tt }
+      go xs r k s h (Ok D) e = record { later = xs; quiet = quiet_self xs; holds = record { list = h.list; equality = f (declared_by xs).rules s.equality_rules D r.0 r.1 k e h.equality; declarations = h.declarations; next = h.next }; gives = tt }
       go xs r k s h (Err x) e = record { later = xs; quiet = quiet_self xs; holds = h; gives = tt }
 
   -- an operation that no case took

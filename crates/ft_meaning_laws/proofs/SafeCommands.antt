@@ -6,7 +6,7 @@ use Rattle.ft_common.proofs.Options.{none_some}
 use Rattle.ft_common.proofs.Results.{ok_ok, err_ok}
 use Rattle.ft_theory.specs.Statements.{is_type, has_type, type_goal, term_goal, type_equation_goal, term_equation_goal, Statement, plain}
 use Rattle.ft_items.specs.Item.{Name, by_btype, by_bterm, by_beqty, by_beqtm}
-use Rattle.ft_items.specs.Store.{Assertion, Annotation, Declared, Store, Resolved, claim_in, add_metavariable}
+use Rattle.ft_items.specs.Store.{Assertion, Annotation, Declared, Resolved, claim_in, add_metavariable, Declarations}
 use Rattle.ft_items.specs.Rows.{atoms, when, term_boundary, type_equation_boundary, term_equation_boundary, conclusion, result_set}
 use Rattle.ft_items.specs.Equal.{is_object_goal}
 use Rattle.ft_items.specs.Good.{of_kind, given}
@@ -19,8 +19,8 @@ use Rattle.ft_equality.specs.Results as results
 use Rattle.ft_grammar.specs.declared.syntax.Named.{Named}
 use Rattle.ft_meaning.specs.Trees.{ValueType, Form, place, Binder, Body, type_body, term_body, types_body, terms_body, Premise}
 use Rattle.ft_meaning.specs.Trees as type
-use Rattle.ft_meaning.specs.Typing.{Scope, with_value, wanted, ensure_new, type_of}
-use Rattle.ft_meaning.specs.CommandTyping.{is_judgement, binders_scope, body_typed, premise_typed, premises_scope, makes_symbol}
+use Rattle.ft_meaning.specs.Typing.{Scope, with_value, ensure_type, ensure_new, type_of}
+use Rattle.ft_meaning.specs.CommandTyping.{ensure_judgement, binders_scope, body_typed, premise_typed, premises_scope, makes_symbol}
 use Rattle.ft_meaning.specs.Values.{Value, judgement, Environment, OfRule, fails, halts, nucleus, as_judgement}
 use Rattle.ft_meaning.specs.Forms.{meaning, judgement_of, make_variable}
 use Rattle.ft_meaning.specs.Commands.{Bound, bind_all, boundary_by, abstract_all, after_premise, add_premise, declare_premises}
@@ -30,15 +30,15 @@ use Rattle.ft_meaning_laws.proofs.SafeWords.{Of}
 use Rattle.ft_meaning_laws.proofs.SafeForms.{safe_meaning}
 
 -- a form that is a judgement
-pub safe_judgement_of : (e : Form) (sc : Scope) (x : Unit {0}) → is_judgement e sc ≡ Ok x → (G : Environment) → HaveTypes G sc.values → CanCoerce (ground sc) → IsSafe Assertion (ground sc) Any (judgement_of e G)
+pub safe_judgement_of : (e : Form) (sc : Scope) (x : Unit {0}) → ensure_judgement e sc ≡ Ok x → (G : Environment) → HaveTypes G sc.values → CanCoerce (ground sc) → IsSafe Assertion (ground sc) Any (judgement_of e G)
 safe_judgement_of e sc x u G g c =
-    let k : (A : ValueType) × ((type_of e sc ≡ Ok A) × (wanted (place e) type.judgement A ≡ Ok x)) = ok_then (type_of e sc) (wanted (place e) type.judgement) x u in
+    let k : (A : ValueType) × ((type_of e sc ≡ Ok A) × (ensure_type (place e) type.judgement A ≡ Ok x)) = ok_then (type_of e sc) (ensure_type (place e) type.judgement) x u in
     safe_bind Value Assertion (ground sc) (Of k.0) Any (meaning e G) as_judgement (safe_meaning e sc G k.0 k.1.0 g c) (λ v h. safe_judgement (ground sc) v (subst (HasType v) (wanted_is (place e) type.judgement k.0 x k.1.1) h))
 
 -- binders
 pub inner_ground : (bs : List Binder) (sc inner : Scope) → binders_scope bs sc ≡ Ok inner → ground inner ≡ ground sc
 inner_ground [] sc inner u = ap ground (sym (ok_ok sc inner u))
-inner_ground (b ∷ bs) sc inner u = inner_ground bs (with_value b.name.name type.judgement sc) inner (ok_both (is_judgement b.domain sc) (binders_scope bs (with_value b.name.name type.judgement sc)) inner u).1
+inner_ground (b ∷ bs) sc inner u = inner_ground bs (with_value b.name.name type.judgement sc) inner (ok_both (ensure_judgement b.domain sc) (binders_scope bs (with_value b.name.name type.judgement sc)) inner u).1
 
 abbrev BindersTyped : Scope → Environment × List Bound → Type 0
 BindersTyped inner p = HaveTypes p.0 inner.values
@@ -46,7 +46,7 @@ BindersTyped inner p = HaveTypes p.0 inner.values
 safe_binders : (bs : List Binder) (sc inner : Scope) → binders_scope bs sc ≡ Ok inner → (G : Environment) (xs : List Bound) → HaveTypes G sc.values → CanCoerce (ground sc) → IsSafe (Environment × List Bound) (ground sc) (BindersTyped inner) (bind_all bs G xs)
 safe_binders [] sc inner u G xs g c = safe_pure (Environment × List Bound) (ground sc) (BindersTyped inner) (G, xs) (subst (λ (z : Scope). HaveTypes G z.values) (ok_ok sc inner u) g)
 safe_binders (b ∷ bs) sc inner u G xs g c =
-    let k : ((x : Unit {0}) × (is_judgement b.domain sc ≡ Ok x)) × (binders_scope bs (with_value b.name.name type.judgement sc) ≡ Ok inner) = ok_both (is_judgement b.domain sc) (binders_scope bs (with_value b.name.name type.judgement sc)) inner u in
+    let k : ((x : Unit {0}) × (ensure_judgement b.domain sc ≡ Ok x)) × (binders_scope bs (with_value b.name.name type.judgement sc) ≡ Ok inner) = ok_both (ensure_judgement b.domain sc) (binders_scope bs (with_value b.name.name type.judgement sc)) inner u in
     safe_bind Assertion (Environment × List Bound) (ground sc) Any (BindersTyped inner) (judgement_of b.domain G) _ (safe_judgement_of b.domain sc k.0.0 k.0.1 G g c) (λ A p.
     safe_bind (ℕ × Annotation) (Environment × List Bound) (ground sc) Any (BindersTyped inner) (make_variable b.name.at b.name.name A) _ (safe_make (ground sc) b.name.at b.name.name A) (λ x q.
     safe_bind Assertion (Environment × List Bound) (ground sc) Any (BindersTyped inner) (nucleus b.name.at (λ W. reference.variable W x)) _ (safe_nucleus (ground sc) b.name.at (λ W. reference.variable W x)) (λ j r.
@@ -58,7 +58,7 @@ answered_is (Some r) p a e = absurd (err_ok r a e)
 answered_is None (Some b) a e = ap Some (ok_ok b a e)
 answered_is None None a e = absurd (err_ok WrongForm a e)
 
-concludes : (W : Store) (s : Resolved) (a : Assertion) → answer W s ≡ Ok a → conclusion W s ≡ Some a.statement
+concludes : (W : Declarations) (s : Resolved) (a : Assertion) → answer W s ≡ Ok a → conclusion W s ≡ Some a.statement
 concludes W s a e = go (of_kind s) (conclusion W s) (answered_is (first_refusal (checks W s)) (given W s) a e)
   where
     go : (b : Bool) (o : Option Statement) → cond b (option_map (λ x. record { statement = x; set = result_set s }) o) None ≡ Some a → o ≡ Some a.statement
@@ -98,14 +98,14 @@ safe_body (term_body e) sc x u at G g c =
     safe_asked (ground sc) P at (λ W. reference.boundary_term W A) (λ W a q. term_kind A.statement a.statement (concludes W (by_bterm A) a q)))
 safe_body (types_body e f) sc x u at G g c =
     let P : Assertion → Type 0 = HasKind (types_body e f) in
-    let k : ((y : Unit {0}) × (is_judgement e sc ≡ Ok y)) × (is_judgement f sc ≡ Ok x) = ok_both (is_judgement e sc) (is_judgement f sc) x u in
+    let k : ((y : Unit {0}) × (ensure_judgement e sc ≡ Ok y)) × (ensure_judgement f sc ≡ Ok x) = ok_both (ensure_judgement e sc) (ensure_judgement f sc) x u in
     safe_bind Assertion Assertion (ground sc) Any P (judgement_of e G) _ (safe_judgement_of e sc k.0.0 k.0.1 G g c) (λ A p.
     safe_bind Assertion Assertion (ground sc) Any P (judgement_of f G) _ (safe_judgement_of f sc x k.1 G g c) (λ B q.
     safe_asked (ground sc) P at (λ W. reference.boundary_eq_type W A B) (λ W a q. types_kind A.statement B.statement a.statement (concludes W (by_beqty A B) a q))))
 safe_body (terms_body e f h) sc x u at G g c =
     let P : Assertion → Type 0 = HasKind (terms_body e f h) in
-    let k : ((y : Unit {0}) × (results.◌>>◌ (is_judgement e sc) (is_judgement f sc) ≡ Ok y)) × (is_judgement h sc ≡ Ok x) = ok_both (results.◌>>◌ (is_judgement e sc) (is_judgement f sc)) (is_judgement h sc) x u in
-    let l : ((y : Unit {0}) × (is_judgement e sc ≡ Ok y)) × (is_judgement f sc ≡ Ok k.0.0) = ok_both (is_judgement e sc) (is_judgement f sc) k.0.0 k.0.1 in
+    let k : ((y : Unit {0}) × (results.◌>>◌ (ensure_judgement e sc) (ensure_judgement f sc) ≡ Ok y)) × (ensure_judgement h sc ≡ Ok x) = ok_both (results.◌>>◌ (ensure_judgement e sc) (ensure_judgement f sc)) (ensure_judgement h sc) x u in
+    let l : ((y : Unit {0}) × (ensure_judgement e sc ≡ Ok y)) × (ensure_judgement f sc ≡ Ok k.0.0) = ok_both (ensure_judgement e sc) (ensure_judgement f sc) k.0.0 k.0.1 in
     safe_bind Assertion Assertion (ground sc) Any P (judgement_of e G) _ (safe_judgement_of e sc l.0.0 l.0.1 G g c) (λ s p.
     safe_bind Assertion Assertion (ground sc) Any P (judgement_of f G) _ (safe_judgement_of f sc k.0.0 l.1 G g c) (λ t q.
     safe_bind Assertion Assertion (ground sc) Any P (judgement_of h G) _ (safe_judgement_of h sc x k.1 G g c) (λ A r.
@@ -113,7 +113,7 @@ safe_body (terms_body e f h) sc x u at G g c =
 
 premise_body : (n : Named) (before : List Name) (b : Body) (sc : Scope) (x : Unit {0}) → premise_typed n before b sc ≡ Ok x → (y : Unit {0}) × (body_typed b sc ≡ Ok y)
 premise_body n before type_body sc x u = (tt, refl)
-premise_body n before (term_body e) sc x u = (x, (ok_both (ensure_new n before) (is_judgement e sc) x u).1)
+premise_body n before (term_body e) sc x u = (x, (ok_both (ensure_new n before) (ensure_judgement e sc) x u).1)
 premise_body n before (types_body e f) sc x u = (ok_both (body_typed (types_body e f) sc) (ensure_new n before) x u).0
 premise_body n before (terms_body e f h) sc x u = (ok_both (body_typed (terms_body e f h) sc) (ensure_new n before) x u).0
 
@@ -129,10 +129,10 @@ safe_premise : (sc : Scope) (at : ℕ) (d : Draft) (n : Name) (b : Assertion) �
 safe_premise sc at d n b s f = go (option_map (OpenPremise (suc (length d.premises))) (first_outside (atoms d.premises) b.set))
   where
     M : ℕ × Declared
-    M = next_metavariable s.store n b
+    M = next_metavariable s.declarations n b
 
-    result : Option RuleFault → Declaration (Store × Draft) (ℕ × Declared) RuleFault
-    result o = outcome o (s.store, d) (add_metavariable s.store n (Some b), record d { premises = d.premises ++ (M ∷ []) }) M
+    result : Option RuleFault → Declaration (Declarations × Draft) (ℕ × Declared) RuleFault
+    result o = outcome o (s.declarations, d) (add_metavariable s.declarations n (Some b), record d { premises = d.premises ++ (M ∷ []) }) M
 
     more : length (d.premises ++ (M ∷ [])) ≡ suc (length d.premises)
     more = length-append d.premises (M ∷ []) ∙ omega arith

@@ -7,10 +7,11 @@ use Rattle.ft_common.proofs.Booleans.{true_false}
 use Rattle.ft_common.proofs.Options.{none_some}
 use Rattle.ft_theory.specs.Rules.{Rule, rule_at}
 use Rattle.ft_items.specs.Item.{Name}
-use Rattle.ft_items.specs.Store.{Assertion, Declared, Store, premises_of, claim_in, add_rule}
+use Rattle.ft_items.specs.Store.{Assertion, Declared, premises_of, claim_in, add_rule, Declarations}
 use Rattle.ft_items.specs.Good.{equal_names, is_new}
 use Rattle.ft_items.specs.Equal.{is_object_goal}
 use Rattle.ft_items.specs.Rows.{atoms}
+use Rattle.ft_items.proofs.Lists.{rule_end}
 use Rattle.ft_items.proofs.Names.{same_name}
 use Rattle.ft_reference.specs.Declare.{Outcome as Declaration, outcome, first_of, refused_unless, RuleFault, Duplicate, OpenConclusion, Draft, name_fault, first_outside, begin, next_rule, finish}
 use Rattle.ft_nucleus_laws.proofs.Declaring.{unless_true, both_none}
@@ -50,10 +51,6 @@ number_within (k ∷ ns) m i e = go (equal_names k m) e (number_of ns m) refl (n
     go false e None q ih = none_some (sym (ap (option_map suc) q) ∙ e)
 
 -- the rules of a list with one more
-rule_end : (T : List Rule) (R : Rule) (i : ℕ) → i ≡ length T → rule_at (T ++ (R ∷ [])) i ≡ Some R
-rule_end [] R i e = ap (rule_at (R ∷ [])) e
-rule_end (S ∷ T) R i e = ap (rule_at (S ∷ T ++ (R ∷ []))) e ∙ rule_end T R (length T) refl
-
 rule_within : (T : List Rule) (R : Rule) (i : ℕ) → i < length T → rule_at (T ++ (R ∷ [])) i ≡ rule_at T i
 rule_within [] R i h = absurd (omega (arith, h))
 rule_within (S ∷ T) R zero h = refl
@@ -67,11 +64,11 @@ rule_last : (ns : List Name) (T : List Rule) (n m : Name) (R : Rule) → length 
 rule_last ns T n m R l h = ap (rule_in (T ++ (R ∷ []))) (number_last ns n m h) ∙ go (equal_names n m) (number_of ns m) refl
   where
     go : (b : Bool) (o : Option ℕ) → number_of ns m ≡ o → rule_in (T ++ (R ∷ [])) (cond b (Some (length ns)) o) ≡ cond b (Some (length ns, R)) (rule_in T o)
-    go true o q = ap (option_map (λ S. (length ns, S))) (rule_end T R (length ns) l)
+    go true o q = ap (option_map (λ S. (length ns, S))) (ap (rule_at (T ++ (R ∷ []))) l ∙ rule_end T R)
     go false (Some i) q = let w : i < length ns = number_within ns m i q in ap (option_map (λ S. (i, S))) (rule_within T R i (omega arith))
     go false None q = refl
 
-pub rules_fit_last : (sc : Scope) (W X : Store) (n : Name) (t : RuleType) (R : Rule) → length W.names ≡ length W.rules → is_new W.names n ≡ true → RuleHasType R t → RulesFit sc W
+pub rules_fit_last : (sc : Scope) (W X : Declarations) (n : Name) (t : RuleType) (R : Rule) → length W.names ≡ length W.rules → is_new W.names n ≡ true → RuleHasType R t → RulesFit sc W
     → X.names ≡ W.names ++ (n ∷ []) → X.rules ≡ W.rules ++ (R ∷ []) → RulesFit (record sc { rules = (n, t) ∷ sc.rules }) X
 rules_fit_last sc W X n t R l h k f p q m =
     subst (SameRule (cond (equal_names n m) (Some t) (named sc.rules m))) (sym (ap (λ ns. rule_in X.rules (number_of ns m)) p ∙ ap (λ T. rule_in T (number_of (W.names ++ (n ∷ [])) m)) q ∙ rule_last W.names W.rules n m R l h)) (go (equal_names n m))
@@ -82,10 +79,10 @@ rules_fit_last sc W X n t R l h k f p q m =
 
 -- What the declaration of a rule leaves: one more name and one more rule, of the type; or the old ones.
 abbrev pub RuleLeft : Scope → Name → RuleType → State → Outcome Rule → Type 0
-RuleLeft gr n t s (Ok R, u) = (is_new s.store.names n ≡ true) × (u.store.names ≡ s.store.names ++ (n ∷ [])) × (u.store.rules ≡ s.store.rules ++ (R ∷ [])) × RuleHasType R t × CountsPast u
-RuleLeft gr n t s (Err e, u) = EndIsTyped gr e × (u.store.names ≡ s.store.names) × (u.store.rules ≡ s.store.rules) × CountsPast u
+RuleLeft gr n t s (Ok R, u) = (is_new s.declarations.names n ≡ true) × (u.declarations.names ≡ s.declarations.names ++ (n ∷ [])) × (u.declarations.rules ≡ s.declarations.rules ++ (R ∷ [])) × RuleHasType R t × CountsPast u
+RuleLeft gr n t s (Err e, u) = EndIsTyped gr e × (u.declarations.names ≡ s.declarations.names) × (u.declarations.rules ≡ s.declarations.rules) × CountsPast u
 
-left_later : (gr : Scope) (n : Name) (t : RuleType) (s u : State) → u.store.names ≡ s.store.names → u.store.rules ≡ s.store.rules → (o : Outcome Rule) → RuleLeft gr n t u o → RuleLeft gr n t s o
+left_later : (gr : Scope) (n : Name) (t : RuleType) (s u : State) → u.declarations.names ≡ s.declarations.names → u.declarations.rules ≡ s.declarations.rules → (o : Outcome Rule) → RuleLeft gr n t u o → RuleLeft gr n t s o
 left_later gr n t s u e f (Ok R, w) r = (subst (λ z. is_new z n ≡ true) e r.0, r.1 ∙ ap (λ z. z ++ (n ∷ [])) e, r.2 ∙ ap (λ z. z ++ (R ∷ [])) f, r.3, r.4)
 left_later gr n t s u e f (Err x, w) r = (r.0, r.1 ∙ e, r.2 ∙ f, r.3)
 
@@ -100,21 +97,21 @@ premises_count (d ∷ ds) = ap suc (premises_count ds)
 
 finishing : (gr : Scope) (n : Name) (t : RuleType) (at : ℕ) (d : Draft) (b : Assertion) → d.name ≡ n → length d.premises ≡ t.premises → t.is_symbol ≡ is_object_goal (claim_in b.statement) → (s : State) → Ready gr s
     → RuleLeft gr n t s ((declare OfRule at (λ W. finish W d b) >>= λ r. pure r.1) s)
-finishing gr n t at d b i l k s f = go (first_of (name_fault s.store d.name) outside) refl
+finishing gr n t at d b i l k s f = go (first_of (name_fault s.declarations d.name) outside) refl
   where
     outside : Option RuleFault
     outside = option_map OpenConclusion (first_outside (atoms d.premises) b.set)
 
-    result : Option RuleFault → Declaration Store (ℕ × Rule) RuleFault
-    result o = outcome o s.store (add_rule s.store d.name (Some d.premises) (Some b)) (next_rule s.store d.premises b)
+    result : Option RuleFault → Declaration Declarations (ℕ × Rule) RuleFault
+    result o = outcome o s.declarations (add_rule s.declarations d.name (Some d.premises) (Some b)) (next_rule s.declarations d.premises b)
 
-    new : name_fault s.store d.name ≡ None → is_new s.store.names n ≡ true
-    new e = subst (λ z. is_new s.store.names z ≡ true) i (unless_true (is_new s.store.names d.name) Duplicate (both_none (refused_unless (is_new s.store.names d.name) Duplicate) _ e).0)
+    new : name_fault s.declarations d.name ≡ None → is_new s.declarations.names n ≡ true
+    new e = subst (λ z. is_new s.declarations.names z ≡ true) i (unless_true (is_new s.declarations.names d.name) Duplicate (both_none (refused_unless (is_new s.declarations.names d.name) Duplicate) _ e).0)
 
-    go : (o : Option RuleFault) → first_of (name_fault s.store d.name) outside ≡ o → RuleLeft gr n t s (values.after (after_declaration OfRule at (result o).after (result o).answer s) (λ r. pure r.1))
+    go : (o : Option RuleFault) → first_of (name_fault s.declarations d.name) outside ≡ o → RuleLeft gr n t s (values.after (after_declaration OfRule at (result o).after (result o).answer s) (λ r. pure r.1))
     go None e = (
-      new (both_none (name_fault s.store d.name) outside e).0,
-      ap (λ z. s.store.names ++ (z ∷ [])) i,
+      new (both_none (name_fault s.declarations d.name) outside e).0,
+      ap (λ z. s.declarations.names ++ (z ∷ [])) i,
       refl,
       record { premises = sym (premises_count d.premises ∙ l); kind = k },
       f.units,
@@ -125,10 +122,10 @@ abbrev Begun : Name → Draft → Type 0
 Begun n d = (d.name ≡ n) × (length d.premises ≡ zero)
 
 safe_begin : (gr : Scope) (at : ℕ) (n : Name) → IsSafe Draft gr (Begun n) (declare OfRule at (λ W. begin W n))
-safe_begin gr at n s f = go (name_fault s.store n)
+safe_begin gr at n s f = go (name_fault s.declarations n)
   where
-    result : Option RuleFault → Declaration Store Draft RuleFault
-    result o = outcome o s.store s.store (record { name = n; premises = [] })
+    result : Option RuleFault → Declaration Declarations Draft RuleFault
+    result o = outcome o s.declarations s.declarations (record { name = n; premises = [] })
 
     go : (o : Option RuleFault) → Safe Draft gr (Begun n) s (after_declaration OfRule at (result o).after (result o).answer s)
     go None = record { names = refl; rules = refl; units = f.units; allows = (refl, refl) }

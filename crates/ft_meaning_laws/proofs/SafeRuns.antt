@@ -5,7 +5,7 @@ use Rattle.ft_common.proofs.Booleans.{false_true}
 use Rattle.ft_common.proofs.Results.{ok_ok}
 use Rattle.ft_theory.specs.Rules.{Rule}
 use Rattle.ft_items.specs.Item.{Name}
-use Rattle.ft_items.specs.Store.{Assertion, Store}
+use Rattle.ft_items.specs.Store.{Assertion, Declarations}
 use Rattle.ft_items.specs.Good.{equal_names}
 use Rattle.ft_items.proofs.Names.{same_name}
 use Rattle.ft_equality.specs.Results as results
@@ -36,10 +36,10 @@ ready : (sc : Scope) (G : Environment) (s : State) → Fits sc G s → Ready (gr
 ready sc G s f = record { rules = f.rules; units = f.units }
 
 -- fitting again
-fits_again : (sc : Scope) (G : Environment) (s t : State) → Fits sc G s → t.store.names ≡ s.store.names → t.store.rules ≡ s.store.rules → CountsPast t → Fits sc G t
+fits_again : (sc : Scope) (G : Environment) (s t : State) → Fits sc G s → t.declarations.names ≡ s.declarations.names → t.declarations.rules ≡ s.declarations.rules → CountsPast t → Fits sc G t
 fits_again sc G s t f p q u = record {
   values = f.values;
-  rules = rules_fit sc s.store t.store p q f.rules;
+  rules = rules_fit sc s.declarations t.declarations p q f.rules;
   coerce = f.coerce;
   names = ap length p ∙ f.names ∙ sym (ap length q);
   units = u;
@@ -47,8 +47,8 @@ fits_again sc G s t f p q u = record {
 
 -- a command that leaves the rules as they are
 leaves_safe : (sc further : Scope) (G : Environment) (s : State) → Fits sc G s → (o : Outcome (Done × Environment)) → Safe (Done × Environment) (ground sc) (λ d. HaveTypes d.1 further.values) s o
-    → ((W : Store) → RulesFit sc W → RulesFit further W) → CanCoerce further → Leaves sc further G (ended o)
-leaves_safe sc further G s f (Ok d, t) k g c = record { values = k.allows; rules = g t.store (rules_fit sc s.store t.store k.names k.rules f.rules); coerce = c; names = ap length k.names ∙ f.names ∙ sym (ap length k.rules); units = k.units }
+    → ((W : Declarations) → RulesFit sc W → RulesFit further W) → CanCoerce further → Leaves sc further G (ended o)
+leaves_safe sc further G s f (Ok d, t) k g c = record { values = k.allows; rules = g t.declarations (rules_fit sc s.declarations t.declarations k.names k.rules f.rules); coerce = c; names = ap length k.names ∙ f.names ∙ sym (ap length k.rules); units = k.units }
 leaves_safe sc further G s f (Err (performs op v at), t) k g c = fits_again sc G s t f k.names k.rules k.units
 leaves_safe sc further G s f (Err (halts (fails why at)), t) k g c = fits_again sc G s t f k.names k.rules k.units
 leaves_safe sc further G s f (Err (halts (spent at)), t) k g c = fits_again sc G s t f k.names k.rules k.units
@@ -58,9 +58,9 @@ leaves_safe sc further G s f (Err (halts stuck), t) k g c = absurd k.allows
 leaves_rule : (sc : Scope) (G : Environment) (s : State) → Fits sc G s → (n : Name) (r : RuleType) (o : Outcome Rule) → RuleLeft (ground sc) n r s o → Leaves sc (record sc { rules = (n, r) ∷ sc.rules }) G (ended (values.after o (λ R. pure (Accepted n R, G))))
 leaves_rule sc G s f n r (Ok R, t) k = record {
   values = f.values;
-  rules = rules_fit_last sc s.store t.store n r R f.names k.0 k.3 f.rules k.1 k.2;
+  rules = rules_fit_last sc s.declarations t.declarations n r R f.names k.0 k.3 f.rules k.1 k.2;
   coerce = f.coerce;
-  names = ap length k.1 ∙ length-append s.store.names (n ∷ []) ∙ ap (λ i. i + 1) f.names ∙ sym (length-append s.store.rules (R ∷ [])) ∙ sym (ap length k.2);
+  names = ap length k.1 ∙ length-append s.declarations.names (n ∷ []) ∙ ap (λ i. i + 1) f.names ∙ sym (length-append s.declarations.rules (R ∷ [])) ∙ sym (ap length k.2);
   units = k.4;
 }
 leaves_rule sc G s f n r (Err (performs op v at), t) k = fits_again sc G s t f k.1 k.2 k.3

@@ -5,7 +5,8 @@ use Rattle.ft_theory.specs.Rules.{Rule}
 use Rattle.ft_theory.specs.Statements.{Statement, is_type, has_type, equal_types, equal_terms, plain}
 use Rattle.ft_items.specs.Rows.{when}
 use Rattle.ft_items.specs.Item.{Name}
-use Rattle.ft_items.specs.Store.{Assertion, Annotation, Store}
+use Rattle.ft_items.specs.Store.{Assertion, Annotation, Declarations}
+use Rattle.ft_items.specs.Good.{same_truth}
 use Rattle.ft_reference.specs.Refusals.{Refusal, WrongForm}
 use Rattle.ft_reference.specs.Nucleus.{fits_boundary}
 use Rattle.ft_reference.specs.Nucleus as reference
@@ -22,13 +23,13 @@ use Rattle.ft_grammar.specs.declared.syntax.Named.{Named}
 use Rattle.ft_meaning.specs.Names.{named}
 use Rattle.ft_meaning.specs.Trees.{ValueType, Pattern, cons_pattern, some_pattern, symbol_pattern, name_pattern, wildcard, truth_pattern, unit_pattern, none_pattern, nil_pattern, pair_pattern, Patterns, no_patterns, and_pattern, Form, let_in, if_then, match_with, handle_with, abstraction, cons_of, one, two, argument, congruence, perform, call, substitution, truth_of, unit_of, pair_of, none_of, nil_of, Forms, no_forms, and_form, Cases, no_cases, and_case, ValueCase, no_value_case, value_case, Handlers, no_handlers, and_handler, place}
 use Rattle.ft_meaning.specs.Trees as type
-use Rattle.ft_meaning.specs.Typing.{same_type, RuleType, Scope, meant_by, wanted, either_wanted, ensure_arity, pattern_count, fault_at, Unbound, Twice, Bindings, bindings, all_bindings, word_type, first_wanted, word_type_of_two}
+use Rattle.ft_meaning.specs.Typing.{same_type, RuleType, Scope, meant_by, ensure_type, ensure_statement, ensure_arity, pattern_count, fault_at, Unbound, Twice, Bindings, bindings, all_bindings, word_type, first_wanted, word_type_of_two}
 use Rattle.ft_meaning.specs.Values.{Value, judgement, boundary, unit, truth, pair, nil, cons, none, some, Environment, Refused, fails, performs, Run, pure, end, settled, checker, nucleus, the_rule}
-use Rattle.ft_meaning.specs.Matching.{is_applied, if_found, ◌and_also◌, same_truth, matches, match_arguments}
+use Rattle.ft_meaning.specs.Matching.{is_applied, if_found, ◌and_also◌, matches, match_arguments}
 use Rattle.ft_meaning.specs.Forms.{judged, bounded, fitting, abstract_value, substitute_value, equation_if, compare, normalise, conversion, word_at, word_at_two}
 use Rattle.ft_equality_laws.specs.Laws.{UsesUnits}
 use Rattle.ft_equality_laws.proofs.Counts.{units_are_kept}
-use Rattle.ft_equality_laws.proofs.Stores.{next_more}
+use Rattle.ft_equality_laws.proofs.GoodLists.{next_more}
 use Rattle.ft_common.proofs.Results.{ok_ok}
 use Rattle.ft_meaning_laws.specs.Fits.{HasType, HaveTypes, CanCoerce}
 use Rattle.ft_meaning_laws.proofs.Typed.{ground, Safe, IsSafe, Any, safe_bind, safe_pure, safe_end, safe_halt, safe_cond, safe_nucleus, safe_rule, okay, ok_then, ok_both, not_ok, same_type_true, wanted_is, meant_is, ensured}
@@ -42,10 +43,10 @@ pub as_type : (sc : Scope) (A B : ValueType) (m : Run Value) → okay A ≡ okay
 as_type sc A B m e k = subst (λ z. IsSafe Value sc (Of z) m) (ok_ok A B e) k
 
 -- calls
-pub safe_judged : (sc : Scope) (at : ℕ) (ask : Store → Result Assertion Refusal) → IsSafe Value sc (Of type.judgement) (judged at ask)
+pub safe_judged : (sc : Scope) (at : ℕ) (ask : Declarations → Result Assertion Refusal) → IsSafe Value sc (Of type.judgement) (judged at ask)
 safe_judged sc at ask = safe_bind Assertion Value sc Any (Of type.judgement) (nucleus at ask) (λ j. pure (judgement j)) (safe_nucleus sc at ask) (λ j p. safe_pure Value sc (Of type.judgement) (judgement j) tt)
 
-safe_bounded : (sc : Scope) (at : ℕ) (ask : Store → Result Assertion Refusal) → IsSafe Value sc (Of type.boundary) (bounded at ask)
+safe_bounded : (sc : Scope) (at : ℕ) (ask : Declarations → Result Assertion Refusal) → IsSafe Value sc (Of type.boundary) (bounded at ask)
 safe_bounded sc at ask = safe_bind Assertion Value sc Any (Of type.boundary) (nucleus at ask) (λ b. pure (boundary b)) (safe_nucleus sc at ask) (λ b p. safe_pure Value sc (Of type.boundary) (boundary b) tt)
 
 pub safe_fitting : (sc : Scope) → CanCoerce sc → (at : ℕ) (j b : Assertion) → IsSafe Assertion sc Any (fitting at j b)
@@ -66,7 +67,7 @@ pub either_or : (a b : Bool) → (a || b) ≡ true → (a ≡ true) ⊎ (b ≡ t
 either_or true b e = inl refl
 either_or false b e = inr e
 
-pub either_is : (at : ℕ) (A : ValueType) (u : Unit {0}) → either_wanted at A ≡ Ok u → (A ≡ type.judgement) ⊎ (A ≡ type.boundary)
+pub either_is : (at : ℕ) (A : ValueType) (u : Unit {0}) → ensure_statement at A ≡ Ok u → (A ≡ type.judgement) ⊎ (A ≡ type.boundary)
 either_is at A u e = go (either_or (same_type A type.judgement) (same_type A type.boundary) (ensured (same_type A type.judgement || same_type A type.boundary) _ u e))
   where
     go : (same_type A type.judgement ≡ true) ⊎ (same_type A type.boundary ≡ true) → (A ≡ type.judgement) ⊎ (A ≡ type.boundary)
@@ -86,13 +87,13 @@ safe_substitute sc at v t A h (inl e) = of_judgement sc (Of A) (λ v. substitute
 safe_substitute sc at v t A h (inr e) = of_boundary sc (Of A) (λ v. substitute_value at v t) v (subst (HasType v) e h) (λ b. subst (λ z. IsSafe Value sc (Of z) (substitute_value at (boundary b) t)) (sym e) (safe_bounded sc at (λ W. reference.substitute W b t)))
 
 -- equality
-safe_checker : (A : Type 0) (sc : Scope) (at : ℕ) (ask : Store → EqualityRules → Units → Answer A) → ((W : Store) (E : EqualityRules) (u : Units) → UsesUnits u (ask W E u)) → IsSafe A sc Any (checker at ask)
-safe_checker A sc at ask uses s r = go (ask s.store s.equality_rules s.units) (uses s.store s.equality_rules s.units).1
+safe_checker : (A : Type 0) (sc : Scope) (at : ℕ) (ask : Declarations → EqualityRules → Units → Answer A) → ((W : Declarations) (E : EqualityRules) (u : Units) → UsesUnits u (ask W E u)) → IsSafe A sc Any (checker at ask)
+safe_checker A sc at ask uses s r = go (ask s.declarations s.equality_rules s.units) (uses s.declarations s.equality_rules s.units).1
   where
     go : (a : Answer A) → s.units.used ≤ a.1.used → Safe A sc Any s (settled at s a)
-    go (Ok a, u) h = record { names = refl; rules = refl; units = next_more s.store.variables s.units.used u.used h r.units; allows = tt }
-    go (Err Spent, u) h = record { names = refl; rules = refl; units = next_more s.store.variables s.units.used u.used h r.units; allows = tt }
-    go (Err NotSmall, u) h = record { names = refl; rules = refl; units = next_more s.store.variables s.units.used u.used h r.units; allows = tt }
+    go (Ok a, u) h = record { names = refl; rules = refl; units = next_more s.declarations.variables s.units.used u.used h r.units; allows = tt }
+    go (Err Spent, u) h = record { names = refl; rules = refl; units = next_more s.declarations.variables s.units.used u.used h r.units; allows = tt }
+    go (Err NotSmall, u) h = record { names = refl; rules = refl; units = next_more s.declarations.variables s.units.used u.used h r.units; allows = tt }
 
 equation_has_type : (b : Bool) (x : Statement) (j k : Assertion) → HasType (equation_if b x j k) (type.option type.judgement)
 equation_has_type true x j k = tt
@@ -115,16 +116,16 @@ safe_normalise sc at j (plain (has_type t A)) =
 safe_normalise sc at j x = safe_halt Value sc (Of type.judgement) (fails (Refused WrongForm) at) tt
 
 -- words
-of_wanted_judgement : (sc : Scope) (at p : ℕ) (w : OneForm) (v : Value) (A C : ValueType) → results.◌>>◌ (wanted p type.judgement A) (okay type.judgement) ≡ okay C → HasType v A
+of_wanted_judgement : (sc : Scope) (at p : ℕ) (w : OneForm) (v : Value) (A C : ValueType) → results.◌>>◌ (ensure_type p type.judgement A) (okay type.judgement) ≡ okay C → HasType v A
     → ((j : Assertion) → IsSafe Value sc (Of type.judgement) (word_at at w (judgement j))) → IsSafe Value sc (Of C) (word_at at w v)
 of_wanted_judgement sc at p w v A C u h k =
-    let e : ((x : Unit {0}) × (wanted p type.judgement A ≡ Ok x)) × (okay type.judgement ≡ okay C) = ok_both (wanted p type.judgement A) (okay type.judgement) C u in
+    let e : ((x : Unit {0}) × (ensure_type p type.judgement A ≡ Ok x)) × (okay type.judgement ≡ okay C) = ok_both (ensure_type p type.judgement A) (okay type.judgement) C u in
     as_type sc type.judgement C (word_at at w v) e.1 (of_judgement sc (Of type.judgement) (word_at at w) v (subst (HasType v) (wanted_is p type.judgement A e.0.0 e.0.1) h) k)
 
-of_wanted_either : (sc : Scope) (at p : ℕ) (w : OneForm) (v : Value) (A C : ValueType) → results.◌>>◌ (either_wanted p A) (okay type.judgement) ≡ okay C → HasType v A
+of_wanted_either : (sc : Scope) (at p : ℕ) (w : OneForm) (v : Value) (A C : ValueType) → results.◌>>◌ (ensure_statement p A) (okay type.judgement) ≡ okay C → HasType v A
     → ((j : Assertion) → IsSafe Value sc (Of type.judgement) (word_at at w (judgement j))) → ((b : Assertion) → IsSafe Value sc (Of type.judgement) (word_at at w (boundary b))) → IsSafe Value sc (Of C) (word_at at w v)
 of_wanted_either sc at p w v A C u h k l =
-    let e : ((x : Unit {0}) × (either_wanted p A ≡ Ok x)) × (okay type.judgement ≡ okay C) = ok_both (either_wanted p A) (okay type.judgement) C u in
+    let e : ((x : Unit {0}) × (ensure_statement p A ≡ Ok x)) × (okay type.judgement ≡ okay C) = ok_both (ensure_statement p A) (okay type.judgement) C u in
     as_type sc type.judgement C (word_at at w v) e.1 (of_either sc (Of type.judgement) (word_at at w) v A h (either_is p A e.0.0 e.0.1) k l)
 
 pub safe_word : (sc : Scope) (at p : ℕ) (w : OneForm) (v : Value) (A C : ValueType) → word_type p w A ≡ Ok C → HasType v A → IsSafe Value sc (Of C) (word_at at w v)
@@ -137,7 +138,7 @@ safe_word sc at p Domain v A C u h = of_wanted_either sc at p Domain v A C u h (
 safe_word sc at p Natural v A C u h = of_wanted_judgement sc at p Natural v A C u h (λ j. safe_judged sc at (λ W. reference.natural W j))
 safe_word sc at p Normal v A C u h = of_wanted_judgement sc at p Normal v A C u h (λ j. safe_normalise sc at j j.statement)
 safe_word sc at p Boundaryof v A C u h =
-    let e : ((x : Unit {0}) × (wanted p type.judgement A ≡ Ok x)) × (okay type.boundary ≡ okay C) = ok_both (wanted p type.judgement A) (okay type.boundary) C u in
+    let e : ((x : Unit {0}) × (ensure_type p type.judgement A ≡ Ok x)) × (okay type.boundary ≡ okay C) = ok_both (ensure_type p type.judgement A) (okay type.boundary) C u in
     as_type sc type.boundary C (word_at at Boundaryof v) e.1 (of_judgement sc (Of type.boundary) (word_at at Boundaryof) v (subst (HasType v) (wanted_is p type.judgement A e.0.0 e.0.1) h) (λ j. safe_bounded sc at (λ W. reference.boundary W j)))
 safe_word sc at p SomeWord v A C u h = as_type sc (type.option A) C (pure (some v)) u (safe_pure Value sc (Of (type.option A)) (some v) h)
 

@@ -82,7 +82,7 @@ lines_go_on source (c ∷ cs) ds scope G s = typed (scope_after c scope) (lines_
     Further = (further : Scope) (H : Environment) (t : State) → Begins (transcript_from source cs further H t) (transcript_from source (cs ++ ds) further H t)
 
     ran : (further : Scope) (o : Left) → Further → Begins (after_command source c o (transcript_from source cs further)) (after_command source c o (transcript_from source (cs ++ ds) further))
-    ran further (Ok d, t) ih = both_preceded (done_lines t.store d.0) (events_of t.store d.0) (transcript_from source cs further d.1 t) (transcript_from source (cs ++ ds) further d.1 t) (ih further d.1 t)
+    ran further (Ok d, t) ih = both_preceded (done_lines t.declarations d.0) (events_of t.declarations d.0) (transcript_from source cs further d.1 t) (transcript_from source (cs ++ ds) further d.1 t) (ih further d.1 t)
     ran further (Err h, t) ih = same (after_command source c (Err h, t) (transcript_from source cs further))
 
     typed : (r : Result Scope TypeFault) → Further
@@ -100,7 +100,7 @@ runs_end source (c ∷ cs) ds scope G s h = typed (scope_after c scope) h (runs_
     Further = (further : Scope) (H : Environment) (t : State) → (transcript_from source cs further H t).status ≢ 0 → transcript_from source (cs ++ ds) further H t ≡ transcript_from source cs further H t
 
     ran : (further : Scope) (o : Left) → (after_command source c o (transcript_from source cs further)).status ≢ 0 → Further → after_command source c o (transcript_from source (cs ++ ds) further) ≡ after_command source c o (transcript_from source cs further)
-    ran further (Ok d, t) h ih = ap (preceded (done_lines t.store d.0) (events_of t.store d.0)) (ih further d.1 t h)
+    ran further (Ok d, t) h ih = ap (preceded (done_lines t.declarations d.0) (events_of t.declarations d.0)) (ih further d.1 t h)
     ran further (Err x, t) h ih = refl
 
     typed : (r : Result Scope TypeFault) → (after_typing source r s.units.used (λ further. after_command source c (run_command c G s) (transcript_from source cs further))).status ≢ 0 → Further

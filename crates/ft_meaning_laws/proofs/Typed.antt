@@ -8,18 +8,18 @@ use Rattle.ft_common.proofs.Options.{one_value}
 use Rattle.ft_common.proofs.Results.{ok_ok, err_ok}
 use Rattle.ft_theory.specs.Rules.{Rule}
 use Rattle.ft_items.specs.Item.{Name}
-use Rattle.ft_items.specs.Store.{Assertion, Annotation, Store, add_variable}
+use Rattle.ft_items.specs.Store.{Assertion, Annotation, add_variable, declared_variable, Declarations}
 use Rattle.ft_items.specs.Good.{equal_names, is_next, is_plain_type}
 use Rattle.ft_items.proofs.Names.{same_name}
 use Rattle.ft_reference.specs.Refusals.{Refusal, WrongForm}
-use Rattle.ft_reference.specs.Declare.{Outcome as Declaration, outcome, refused_unless, declared_variable, new_variable}
+use Rattle.ft_reference.specs.Declare.{Outcome as Declaration, outcome, refused_unless, new_variable}
 use Rattle.ft_equality.specs.Results as results
 use Rattle.ft_equality.specs.Programs.{spend_from}
-use Rattle.ft_equality_laws.proofs.Stores.{next_more}
+use Rattle.ft_equality_laws.proofs.GoodLists.{next_more}
 use Rattle.ft_meaning.specs.Names.{named, rule_of_name}
 use Rattle.ft_meaning.specs.Trees.{ValueType}
 use Rattle.ft_meaning.specs.Trees as type
-use Rattle.ft_meaning.specs.Typing.{same_type, TypeFault, RuleType, Scope, fault_at, Unbound, meant_by, wanted}
+use Rattle.ft_meaning.specs.Typing.{same_type, TypeFault, RuleType, Scope, fault_at, Unbound, meant_by, ensure_type}
 use Rattle.ft_meaning.specs.Values.{Value, judgement, boundary, unit, truth, pair, nil, cons, none, some, Environment, State, Refused, Halt, fails, spent, stuck, End, performs, halts, Outcome, Run, ◌>>=◌, ◌>>◌, pure, end, halt, the, declare, settled, spend, answered, nucleus, after_declaration, the_rule, as_judgement, as_judgements}
 use Rattle.ft_meaning.specs.Values as values
 use Rattle.ft_meaning.specs.Forms.{make_variable}
@@ -48,13 +48,13 @@ Allows scope P (Err e) = EndIsTyped scope e
 
 -- An evaluation may begin here.
 pub record Ready (scope : Scope) (s : State) : Type 0 where
-  pub rules : RulesFit scope s.store
+  pub rules : RulesFit scope s.declarations
   pub units : CountsPast s
 
 -- The outcome is one that typing allows; rules and their names stay, and units count past the variables.
 pub record Safe (A : Type 0) (scope : Scope) (P : A → Type 0) (s : State) (o : Outcome A) : Type 0 where
-  pub names : o.1.store.names ≡ s.store.names
-  pub rules : o.1.store.rules ≡ s.store.rules
+  pub names : o.1.declarations.names ≡ s.declarations.names
+  pub rules : o.1.declarations.rules ≡ s.declarations.rules
   pub units : CountsPast o.1
   pub allows : Allows scope P o.0
 
@@ -63,13 +63,13 @@ IsSafe A scope P m = (s : State) → Ready scope s → Safe A scope P s (m s)
 
 -- the rules of names, by names and rules
 abbrev rule_in : Name → List Name → List Rule → Option (ℕ × Rule)
-rule_in n ns T = rule_of_name (record { rules = T; names = ns; metavariables = []; variables = []; entries = [] }) n
+rule_in n ns T = rule_of_name (record { rules = T; names = ns; metavariables = []; variables = [] }) n
 
-pub rules_fit : (scope : Scope) (W X : Store) → X.names ≡ W.names → X.rules ≡ W.rules → RulesFit scope W → RulesFit scope X
+pub rules_fit : (scope : Scope) (W X : Declarations) → X.names ≡ W.names → X.rules ≡ W.rules → RulesFit scope W → RulesFit scope X
 rules_fit scope W X n r f name = subst (SameRule (named scope.rules name)) (sym (ap₂ (rule_in name) n r)) (f name)
 
-pub ready_later : (scope : Scope) (s t : State) → t.store.names ≡ s.store.names → t.store.rules ≡ s.store.rules → CountsPast t → Ready scope s → Ready scope t
-ready_later scope s t n r u f = record { rules = rules_fit scope s.store t.store n r f.rules; units = u }
+pub ready_later : (scope : Scope) (s t : State) → t.declarations.names ≡ s.declarations.names → t.declarations.rules ≡ s.declarations.rules → CountsPast t → Ready scope s → Ready scope t
+ready_later scope s t n r u f = record { rules = rules_fit scope s.declarations t.declarations n r f.rules; units = u }
 
 -- what stays as it is
 pub safe_here : (A : Type 0) (scope : Scope) (P : A → Type 0) (s : State) → Ready scope s → (r : Result A End) → Allows scope P r → Safe A scope P s (r, s)
@@ -109,8 +109,8 @@ abbrev pub Any : {A : Type 0} → A → Type 0
 Any a = Unit {0}
 
 -- units
-next_suc : (s : State) → CountsPast s → is_next s.store.variables (suc s.units.used) ≡ true
-next_suc s h = next_more s.store.variables s.units.used (suc s.units.used) (omega arith) h
+next_suc : (s : State) → CountsPast s → is_next s.declarations.variables (suc s.units.used) ≡ true
+next_suc s h = next_more s.declarations.variables s.units.used (suc s.units.used) (omega arith) h
 
 pub safe_spend : (scope : Scope) (at : ℕ) → IsSafe (Unit {0}) scope Any (spend at)
 safe_spend scope at s f = go s.units.left
@@ -123,18 +123,18 @@ pub safe_spending : (A : Type 0) (scope : Scope) (P : A → Type 0) (at : ℕ) (
 safe_spending A scope P at n k = safe_then (Unit {0}) A scope Any P (spend at) n (safe_spend scope at) k
 
 -- the nucleus
-pub safe_asked : (scope : Scope) (P : Assertion → Type 0) (at : ℕ) (ask : Store → Result Assertion Refusal) → ((W : Store) (a : Assertion) → ask W ≡ Ok a → P a) → IsSafe Assertion scope P (nucleus at ask)
-safe_asked scope P at ask h s f = go (ask s.store) refl
+pub safe_asked : (scope : Scope) (P : Assertion → Type 0) (at : ℕ) (ask : Declarations → Result Assertion Refusal) → ((W : Declarations) (a : Assertion) → ask W ≡ Ok a → P a) → IsSafe Assertion scope P (nucleus at ask)
+safe_asked scope P at ask h s f = go (ask s.declarations) refl
   where
-    go : (r : Result Assertion Refusal) → ask s.store ≡ r → Safe Assertion scope P s (answered at r s)
-    go (Ok a) e = safe_here Assertion scope P s f (Ok a) (h s.store a e)
+    go : (r : Result Assertion Refusal) → ask s.declarations ≡ r → Safe Assertion scope P s (answered at r s)
+    go (Ok a) e = safe_here Assertion scope P s f (Ok a) (h s.declarations a e)
     go (Err r) e = safe_here Assertion scope P s f (Err (halts (fails (Refused r) at))) tt
 
-pub safe_nucleus : (scope : Scope) (at : ℕ) (ask : Store → Result Assertion Refusal) → IsSafe Assertion scope Any (nucleus at ask)
+pub safe_nucleus : (scope : Scope) (at : ℕ) (ask : Declarations → Result Assertion Refusal) → IsSafe Assertion scope Any (nucleus at ask)
 safe_nucleus scope at ask = safe_asked scope Any at ask (λ W a e. tt)
 
 pub safe_rule : (scope : Scope) (n : Name) (r : RuleType) → named scope.rules n ≡ Some r → IsSafe (ℕ × Rule) scope Any (the_rule n)
-safe_rule scope n r e s f = go (rule_of_name s.store n) (subst (λ o. SameRule o (rule_of_name s.store n)) e (f.rules n))
+safe_rule scope n r e s f = go (rule_of_name s.declarations n) (subst (λ o. SameRule o (rule_of_name s.declarations n)) e (f.rules n))
   where
     go : (o : Option (ℕ × Rule)) → SameRule (Some r) o → Safe (ℕ × Rule) scope Any s (the o s)
     go (Some R) k = safe_here (ℕ × Rule) scope Any s f (Ok R) tt
@@ -154,11 +154,11 @@ safe_make scope at n A s f = spends s.units.left
     v : ℕ
     v = s.units.used
 
-    made : Bool → Declaration Store (ℕ × Annotation) Refusal
-    made b = outcome (refused_unless b WrongForm) s.store (add_variable s.store v n (Some A)) (v, declared_variable n A)
+    made : Bool → Declaration Declarations (ℕ × Annotation) Refusal
+    made b = outcome (refused_unless b WrongForm) s.declarations (add_variable s.declarations v n (Some A)) (v, declared_variable n A)
 
     declares : (left : ℕ) (b : Bool) → Safe (ℕ × Annotation) scope Any s (after_declaration Refused at (made b).after (made b).answer (record s { units = record { used = suc v; left = left } }))
-    declares left true = record { names = refl; rules = refl; units = next_last s.store.variables v (declared_variable n A) f.units; allows = tt }
+    declares left true = record { names = refl; rules = refl; units = next_last s.declarations.variables v (declared_variable n A) f.units; allows = tt }
     declares left false = record { names = refl; rules = refl; units = next_suc s f.units; allows = tt }
 
     spends : (left : ℕ) → Safe (ℕ × Annotation) scope Any s (values.after (settled {A = Unit {0}} at s (spend_from v left (λ u. (Ok tt, u)))) (λ u. declare Refused at (λ W. new_variable W v n A)))
@@ -225,7 +225,7 @@ pub ensured : {E : Type 0} (b : Bool) (x : E) (u : Unit {0}) → results.ensure 
 ensured true x u e = refl
 ensured false x u e = absurd (err_ok x u e)
 
-pub wanted_is : (at : ℕ) (A B : ValueType) (u : Unit {0}) → wanted at A B ≡ Ok u → B ≡ A
+pub wanted_is : (at : ℕ) (A B : ValueType) (u : Unit {0}) → ensure_type at A B ≡ Ok u → B ≡ A
 wanted_is at A B u e = same_type_true B A (ensured (same_type B A) _ u e)
 
 pub meant_is : {A : Type 0} (ns : List (Name × A)) (n : Named) (a : A) → meant_by ns n ≡ Ok a → named ns n.name ≡ Some a

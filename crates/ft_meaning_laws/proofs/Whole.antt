@@ -12,24 +12,20 @@ use Rattle.ft_meaning.specs.Commands.{Done, run_command}
 use Rattle.ft_meaning.specs.Typing.{TypeFault, Scope, first_scope}
 use Rattle.ft_meaning.specs.CommandTyping.{scope_after}
 use Rattle.ft_meaning.specs.Texts.{Text}
-use Rattle.ft_meaning.specs.Events.{Shown, Event, accepts, shows, events_of, shown_in, EachShown, IsDerivable, told_by_event, told_from}
+use Rattle.ft_meaning.specs.Events.{Event, accepts, shows, events_of, shown_in, EachShown, IsDerivable, told_by_event, told_from}
 use Rattle.ft_meaning.specs.Sources.{Content, too_long, no_text, unexpected, too_nested, commands}
 use Rattle.ft_meaning.specs.Transcript.{Transcript, after_command, after_typing, transcript_from, start, unless_unbuilt, transcript_of, IsTranscriptAt}
-use Rattle.ft_meaning_laws.specs.Derivability.{ShownDerivable, ShownOverAccepted, HasContext, ContextsHold, AcceptedIsFinitary, HasDerivation, StageHasDerivation, IsWithoutEquality, SourceHasDerivation}
+use Rattle.ft_meaning_laws.specs.Derivability.{ShownDerivable, ShownOverAccepted, AcceptedIsFinitary, HasDerivation, StageHasDerivation, IsWithoutEquality, SourceHasDerivation}
 use Rattle.ft_meaning_laws.proofs.Lists.{IsSound, sound_empty}
 use Rattle.ft_meaning_laws.proofs.Told.{rules_told, rules_are_told, accepted_are_told, AreStatedOver, told_over, events_over}
 use Rattle.ft_meaning_laws.proofs.Made.{AreMade, Holds}
 use Rattle.ft_meaning_laws.proofs.Built.{AllBuilt, left_built, right_built}
-use Rattle.ft_meaning_laws.proofs.Runs.{IsWell, CommandRan, command_ran}
+use Rattle.ft_meaning_laws.proofs.Runs.{CommandRan, command_ran}
 
-shown_append : (xs ys : List Event) → EachShown IsWell (shown_in xs) → EachShown IsWell (shown_in ys) → EachShown IsWell (shown_in (xs ++ ys))
+shown_append : (xs ys : List Event) → EachShown IsDerivable (shown_in xs) → EachShown IsDerivable (shown_in ys) → EachShown IsDerivable (shown_in (xs ++ ys))
 shown_append [] ys h k = k
 shown_append (accepts n R ∷ xs) ys h k = shown_append xs ys h k
 shown_append (shows W j ∷ xs) ys h k = (h.0, shown_append xs ys h.1 k)
-
-each_map : (P Q : Shown → Type 0) → ((s : Shown) → P s → Q s) → (ss : List Shown) → EachShown P ss → EachShown Q ss
-each_map P Q f [] h = tt
-each_map P Q f (s ∷ ss) h = (f s h.0, each_map P Q f ss h.1)
 
 module _ (B : Stage) where
   -- a longer list tells the events, after what the list told before
@@ -37,7 +33,7 @@ module _ (B : Stage) where
     later : List Item
     list : IsSound B later
     tells : told_from empty_store later ≡ told_from empty_store items ++ map told_by_event es
-    derivable : EachShown IsWell (shown_in es)
+    derivable : EachShown IsDerivable (shown_in es)
 
   no_event : (items : List Item) → IsSound B items → Tells items []
   no_event items l = record { later = items; list = l; tells = sym (append-nil (told_from empty_store items)); derivable = tt }
@@ -52,9 +48,9 @@ module _ (B : Stage) where
           list = t.list;
           tells = t.tells
               ∙ ap (λ z. z ++ map told_by_event (next d.1 s).events) r.longer.tells
-              ∙ append_assoc (told_from empty_store items) (map told_by_event (events_of s.store d.0)) (map told_by_event (next d.1 s).events)
-              ∙ ap (λ z. told_from empty_store items ++ z) (sym (map-append told_by_event (events_of s.store d.0) (next d.1 s).events));
-          derivable = shown_append (events_of s.store d.0) (next d.1 s).events r.derivable t.derivable;
+              ∙ append_assoc (told_from empty_store items) (map told_by_event (events_of s.declarations d.0)) (map told_by_event (next d.1 s).events)
+              ∙ ap (λ z. told_from empty_store items ++ z) (sym (map-append told_by_event (events_of s.declarations d.0) (next d.1 s).events));
+          derivable = shown_append (events_of s.declarations d.0) (next d.1 s).events r.derivable t.derivable;
         }
     then_tells items c (Err (fails why at), s) next r f = record { later = r.longer.later; list = r.longer.holds.list; tells = r.longer.tells; derivable = tt }
     then_tells items c (Err (spent at), s) next r f = record { later = r.longer.later; list = r.longer.holds.list; tells = r.longer.tells; derivable = tt }
@@ -72,7 +68,7 @@ module _ (B : Stage) where
         commands_tell cs (right_built B _ _ u) later further H t m k))
 
     unbuilt_tells : (budget : ℕ) (cs : List Command) (o : Option ℕ) → first_not_built B (source_parts cs) ≡ o → Tells [] (unless_unbuilt source budget cs o).events
-    unbuilt_tells budget cs None e = commands_tell cs (record { none = e }) [] first_scope [] (start budget) tt (record { list = sound_empty B; equality = (tt, tt); store = refl; next = refl })
+    unbuilt_tells budget cs None e = commands_tell cs (record { none = e }) [] first_scope [] (start budget) tt (record { list = sound_empty B; equality = (tt, tt); declarations = refl; next = refl })
     unbuilt_tells budget cs (Some at) e = no_event [] (sound_empty B)
 
     content_tells : (budget : ℕ) (content : Content) → Tells [] (transcript_of B source budget content).events
@@ -87,18 +83,15 @@ module _ (B : Stage) where
 
 -- The laws.
 pub shown_derivable : ShownDerivable
-shown_derivable B source budget t h = each_map IsWell IsDerivable (λ s w. w.0) (shown_in t.events) (transcript_tells B source budget t h).derivable
+shown_derivable B source budget t h = (transcript_tells B source budget t h).derivable
 
 pub shown_over_accepted : ShownOverAccepted
 shown_over_accepted B source budget t h = let r : Tells B [] t.events = transcript_tells B source budget t h in events_over [] t.events (subst (AreStatedOver []) r.tells (told_over empty_store r.later))
 
-pub contexts_hold : ContextsHold
-contexts_hold B source budget t h = each_map IsWell HasContext (λ s w. w.1) (shown_in t.events) (transcript_tells B source budget t h).derivable
-
 pub accepted_is_finitary : AcceptedIsFinitary
 accepted_is_finitary B source budget t h k =
     let r : Tells B [] t.events = transcript_tells B source budget t h in
-    subst (FinitaryUpTo k) (rules_are_told empty_store r.later ∙ ap rules_told r.tells ∙ accepted_are_told t.events) (r.list.well.finitary k)
+    subst (FinitaryUpTo k) (rules_are_told empty_store r.later ∙ ap rules_told r.tells ∙ accepted_are_told t.events) (r.list.well.declarations.finitary k)
 
 -- derivations
 derivation : (B : Stage) (es : List Event) → B equality ≡ false → Tells B [] es → HasDerivation es

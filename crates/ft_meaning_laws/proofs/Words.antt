@@ -5,6 +5,7 @@ use Rattle.ft_theory.specs.Statements.{equal_terms, Statement, plain}
 use Rattle.ft_items.specs.Item.{Item, by_abs, by_subst, by_substeq, by_refl, by_sym, by_trans, by_conv, by_conveq, by_left, by_right, by_typeof, by_domain, by_boundary, by_widen, by_arg, by_natural}
 use Rattle.ft_items.specs.Store.{Assertion, Annotation, with_two}
 use Rattle.ft_items.specs.Rows.{when}
+use Rattle.ft_items.specs.Good.{same_truth}
 use Rattle.ft_theory.specs.Rules.{Rule}
 use Rattle.ft_reference.specs.Calls.{answer}
 use Rattle.ft_reference.specs.Nucleus.{fits_boundary}
@@ -15,7 +16,7 @@ use Rattle.ft_grammar.specs.declared.form.TwoForm.TheVariants.{Trans, Convert, E
 use Rattle.ft_meaning.specs.Trees.{Pattern, cons_pattern, some_pattern, symbol_pattern, name_pattern, wildcard, truth_pattern, unit_pattern, none_pattern, nil_pattern, pair_pattern, Patterns, no_patterns, and_pattern}
 use Rattle.ft_meaning.specs.Stages.{Stage, word_feature, word_feature_of_two}
 use Rattle.ft_meaning.specs.Values.{Value, judgement, boundary, unit, truth, pair, nil, cons, none, some, Environment, performs, stuck, Run, ◌>>=◌, pure, end, nucleus, the_rule, as_statement}
-use Rattle.ft_meaning.specs.Matching.{is_applied, if_found, ◌and_also◌, same_truth, matches, match_arguments}
+use Rattle.ft_meaning.specs.Matching.{is_applied, if_found, ◌and_also◌, matches, match_arguments}
 use Rattle.ft_meaning.specs.Forms.{fitting, abstract_value, substitute_value, conversion, judged, word_at, word_at_two}
 use Rattle.ft_meaning_laws.proofs.Grows.{Quiet}
 use Rattle.ft_meaning_laws.proofs.Made.{IsEntry, IsThesis, IsBoundary, IsMade, AreMade, IfMade, thesis_later, made_later, are_made_later, Keeps, keeps_bind, keeps_pure, keeps_end, keeps_halt, keeps_cond}

@@ -4,19 +4,18 @@ use Rattle.std.specs.Prelude.{ℕ, ◌≡◌, false, None, List, [], ◌∷◌, 
 use Rattle.ft_theory.specs.Rules.{Rule}
 use Rattle.ft_theory.specs.Derivability.{FinitaryUpTo}
 use Rattle.ft_items.specs.Item.{Item}
-use Rattle.ft_sound.specs.Soundness.{MembersHold}
 use Rattle.ft_meaning.specs.Texts.{Text}
 use Rattle.ft_meaning.specs.Stages.{Stage, equality, no_equality, first_unbuilt}
 use Rattle.ft_meaning.specs.Sources.{Content, commands}
-use Rattle.ft_meaning.specs.Events.{Event, accepts, shows, Shown, shown_in, EachShown, AllDerivable, IsDerivationOf}
+use Rattle.ft_meaning.specs.Events.{Event, accepts, shows, shown_in, AllDerivable, IsDerivationOf}
 use Rattle.ft_meaning.specs.Transcript.{Transcript, IsTranscriptAt}
 
 -- P holds of the events of each transcript, at each stage
 abbrev pub OfEachTranscript : (List Event → Type 0) → Type 0
 OfEachTranscript P = (B : Stage) (source : Text) (budget : ℕ) (t : Transcript) → IsTranscriptAt B source budget t → P t.events
 
--- Each judgement that a transcript shows is derivable by primitive steps, in the context of its set, over the rules accepted
--- before its line.
+-- Each judgement that a transcript shows is derivable by primitive steps, in the context of its set, which is well formed, over the
+-- rules accepted before its line.
 abbrev pub ShownDerivable : Type 0
 ShownDerivable = OfEachTranscript (λ es. AllDerivable (shown_in es))
 
@@ -29,15 +28,6 @@ AreOver T (shows W j ∷ es) = (W.rules ≡ T) × AreOver T es
 -- Each judgement is shown over the rules accepted before it.
 abbrev pub ShownOverAccepted : Type 0
 ShownOverAccepted = OfEachTranscript (AreOver [])
-
--- the context of a judgement is well formed: its metavariables first and then its variables, by number, each holds over those
--- before it
-abbrev pub HasContext : Shown → Type 0
-HasContext s = MembersHold s.store [] s.judgement.set
-
--- The context of each judgement that a transcript shows is well formed.
-abbrev pub ContextsHold : Type 0
-ContextsHold = OfEachTranscript (λ es. EachShown HasContext (shown_in es))
 
 -- the rules accepted, in their order
 abbrev pub accepted_in : List Event → List Rule

@@ -2,7 +2,7 @@
 use Rattle.std.specs.Prelude.{ℕ, ◌≡◌, true, Option, Some, None, Result, Ok, Err, List, [], ◌∷◌, length, codes}
 use Rattle.ft_theory.specs.Rules.{Rule}
 use Rattle.ft_items.specs.Item.{Name}
-use Rattle.ft_items.specs.Store.{Store}
+use Rattle.ft_items.specs.Store.{Declarations}
 use Rattle.ft_items.specs.Good.{is_next}
 use Rattle.ft_items.specs.Equal.{is_object_goal}
 use Rattle.ft_meaning.specs.Names.{named, rule_of_name}
@@ -38,14 +38,14 @@ pub record RuleHasType (R : Rule) (t : RuleType) : Type 0 where
   pub premises : t.premises ≡ length R.premises
   pub kind : t.is_symbol ≡ is_object_goal R.conclusion
 
--- What a name means to a scope and to a store: no rule to either, or a rule with its type.
+-- What a name means to a scope and among declarations: no rule to either, or a rule with its type.
 abbrev pub SameRule : Option RuleType → Option (ℕ × Rule) → Type 0
 SameRule None None = Unit {0}
 SameRule (Some t) (Some R) = RuleHasType R.1 t
 SameRule t R = ⊥
 
--- each name means the same rule, or none, to the scope and to the store
-abbrev pub RulesFit : Scope → Store → Type 0
+-- each name means the same rule, or none, to the scope and among the declarations
+abbrev pub RulesFit : Scope → Declarations → Type 0
 RulesFit scope W = (n : Name) → SameRule (named scope.rules n) (rule_of_name W n)
 
 -- the operation `coerce` is declared
@@ -54,13 +54,13 @@ CanCoerce scope = named scope.operations (codes "coerce") ≡ Some (type.pair ty
 
 -- Units count past the variables: the number of the units used is greater than that of each variable.
 abbrev pub CountsPast : State → Type 0
-CountsPast s = is_next s.store.variables s.units.used ≡ true
+CountsPast s = is_next s.declarations.variables s.units.used ≡ true
 
--- The state, with its named values, fits a scope. Each rule of its store has a name.
+-- The state, with its named values, fits a scope. Each rule that is declared has a name.
 pub record Fits (scope : Scope) (G : Environment) (s : State) : Type 0 where
   pub values : HaveTypes G scope.values
-  pub rules : RulesFit scope s.store
-  pub names : length s.store.names ≡ length s.store.rules
+  pub rules : RulesFit scope s.declarations
+  pub names : length s.declarations.names ≡ length s.declarations.rules
   pub coerce : CanCoerce scope
   pub units : CountsPast s
 

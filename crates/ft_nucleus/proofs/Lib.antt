@@ -3,3 +3,5 @@ pub mod Plain
 pub mod Equations
 pub mod Asking
 pub mod Parted
+pub mod Seeking
+pub mod Abstracting

@@ -7,7 +7,7 @@ use Rattle.ft_common.proofs.Booleans.{false_true}
 use Rattle.ft_theory.specs.Statements.{Statement}
 use Rattle.ft_items.specs.Sets.{is_within}
 use Rattle.ft_items.specs.Item.{Stated, entry, by_var, by_generic, by_meta, by_metacong, by_abs, by_subst, by_substeq, by_refl, by_sym, by_trans, by_conv, by_conveq, by_left, by_right, by_typeof, by_domain, by_boundary, by_widen, by_btype, by_bterm, by_beqty, by_beqtm, by_rule, by_rulewith, by_inst, by_cong, by_convprem, by_convback, by_arg, by_natural, by_metainst}
-use Rattle.ft_items.specs.Store.{Assertion, Store, Resolved, resolve, store_of, premises_of, empty_store}
+use Rattle.ft_items.specs.Store.{Assertion, Resolved, resolve, store_of, premises_of, empty_store, Declarations, Store}
 use Rattle.ft_items.specs.Rows.{when, statements, atoms, differ, on_earlier, are_arguments, conclusion, result_set}
 use Rattle.ft_items.specs.Good.{of_kind, given, AllowedIn}
 use Rattle.ft_items.proofs.Lists.{good_last}
@@ -31,7 +31,7 @@ ok_path : (a b : Assertion) → answers a ≡ answers b → a ≡ b
 ok_path a b e = cc
 
 -- what is given has a conclusion
-given_concludes : (W : Store) (s : Resolved) (a : Assertion) → given W s ≡ Some a → (of_kind s ≡ true) × (is_some (conclusion W s) ≡ true)
+given_concludes : (W : Declarations) (s : Resolved) (a : Assertion) → given W s ≡ Some a → (of_kind s ≡ true) × (is_some (conclusion W s) ≡ true)
 given_concludes W s a h = go (of_kind s) (conclusion W s) h
   where
     go : (b : Bool) (o : Option Statement) → cond b (option_map (λ x. record { statement = x; set = result_set s }) o) None ≡ Some a → (b ≡ true) × (is_some o ≡ true)
@@ -39,7 +39,7 @@ given_concludes W s a h = go (of_kind s) (conclusion W s) h
     go true (Some x) h = (refl, refl)
     go false o h = none_some h
 
-concludes_given : (W : Store) (s : Resolved) → of_kind s ≡ true → is_some (conclusion W s) ≡ true → (a : Assertion) × (given W s ≡ Some a)
+concludes_given : (W : Declarations) (s : Resolved) → of_kind s ≡ true → is_some (conclusion W s) ≡ true → (a : Assertion) × (given W s ≡ Some a)
 concludes_given W s k h = go (of_kind s) (conclusion W s) k h
   where
     go : (b : Bool) (o : Option Statement) → b ≡ true → is_some o ≡ true → (a : Assertion) × (cond b (option_map (λ x. record { statement = x; set = result_set s }) o) None ≡ Some a)
@@ -52,7 +52,7 @@ when_true : (b : Bool) (x : Statement) → is_some (when b x) ≡ true → b ≡
 when_true true x h = refl
 when_true false x h = false_true h
 
-concludes_allowed : (W : Store) (s : Resolved) → is_some (conclusion W s) ≡ true → instance_allowed s ≡ true
+concludes_allowed : (W : Declarations) (s : Resolved) → is_some (conclusion W s) ≡ true → instance_allowed s ≡ true
 concludes_allowed W (by_metainst p ms qs) h =
     (and_parts (differ (atoms ms) && on_earlier [] ms && is_within p.set (atoms ms)) (are_arguments (premises_of ms) (statements qs))
     (when_true (differ (atoms ms) && on_earlier [] ms && is_within p.set (atoms ms) && are_arguments (premises_of ms) (statements qs)) _ h)).0
@@ -137,8 +137,8 @@ refuses_first W s r m = (there, back)
     back f = ap (λ o. answered o (given W s)) (ap first_refusal f.3 ∙ first_fails f.0 f.1 f.2 f.4 f.5 ∙ ap Some f.6)
 
 -- what is answered may be added, and is derivable
-pub answer_gives : (W : Store) (n : Stated) (s : Resolved) (a : Assertion) → resolve W n ≡ Some s → answer W s ≡ Ok a → AllowedIn W (entry (record { statement = a.statement; set = a.set; step = n }))
-answer_gives W n s a e h = ap (option_and_then (given W)) e ∙ (answered_ok (first_refusal (checks W s)) (given W s) a h).1
+pub answer_gives : (W : Store) (n : Stated) (s : Resolved) (a : Assertion) → resolve W n ≡ Some s → answer W.declarations s ≡ Ok a → AllowedIn W (entry (record { statement = a.statement; set = a.set; step = n }))
+answer_gives W n s a e h = ap (option_and_then (given W.declarations)) e ∙ (answered_ok (first_refusal (checks W.declarations s)) (given W.declarations s) a h).1
 
 pub answers_derivable : AnswersDerivable
 answers_derivable items g n s a e h =

@@ -78,9 +78,11 @@ mutual
 
 pub closing_keeps_small : ClosingKeepsSmall
 closing_keeps_small e k v room h = record {
-  low = subst (λ n. n ≤ 1000) (sym (close_depth e k v)) h.low;
-  short = subst (λ n. n ≤ 65536) (sym (close_size e k v)) h.short;
-  numbers = close_fits e k v 1000 h.low room h.numbers;
+  kept = (
+    subst (λ n. n ≤ 1000) (sym (close_depth e k v)) h.kept.0,
+    subst (λ n. n ≤ 65536) (sym (close_size e k v)) h.kept.1,
+    close_fits e k v 1000 h.kept.0 room h.kept.2,
+  );
 }
 
 -- statements

@@ -1,25 +1,24 @@
 -- Declaring variables, metavariables and rules: allowed items, and what stays after a refusal.
-use Rattle.std.proofs.Common.{◌≡◌, ◌≢◌, ℕ, suc, ◌<◌, Bool, true, false, cond, nat_lt, ◌&&◌, not, Option, Some, None, List, [], ◌∷◌, ◌++◌, ◌⊎◌, length, inl, inr, refl, sym, ap, ap₂, ◌∙◌, subst, append_assoc, append-nil, arith}
+use Rattle.std.proofs.Common.{◌≡◌, ◌≢◌, ℕ, suc, Bool, true, false, cond, nat_lt, ◌&&◌, not, Option, Some, None, List, [], ◌∷◌, ◌++◌, ◌⊎◌, length, inl, inr, refl, sym, ap, ap₂, ◌∙◌, subst, append_assoc, append-nil, arith}
 use Rattle.std.specs.Prelude.{option_map, option_and_then, Result, Ok, Err}
 use Rattle.std.proofs.lemmas.Bool.{ltb-true, lt-ltb, and_parts, and_from, not-true}
 use Rattle.std.proofs.lemmas.Option.{same_Some}
 use Rattle.ft_common.proofs.Options.{none_some, some_none}
 use Rattle.ft_common.proofs.Booleans.{false_true}
-use Rattle.ft_common.proofs.Choices.{if_same, if_other}
-use Rattle.ft_theory.specs.Rules.{look_up, Rule, rule_at}
+use Rattle.ft_theory.specs.Rules.{Rule}
 use Rattle.ft_theory.specs.Derivability.{FinitaryUpTo}
 use Rattle.ft_items.specs.Sets.{Atom, met, var, has, is_within, metavariables_only, Has}
 use Rattle.ft_items.specs.Item.{Name, variable, metavariable}
-use Rattle.ft_items.specs.Store.{Assertion, Annotation, Declared, Store, nth, each, entry_named, variable_named, metavariable_named, rule_named, add_variable, add_metavariable, add_rule, empty_store, store_of}
+use Rattle.ft_items.specs.Store.{Assertion, Annotation, Declared, nth, each, entry_named, variable_named, metavariable_named, rule_named, add_variable, add_metavariable, add_rule, empty_store, declared_variable, declared_metavariable, declared_rule, Declarations, declared_by, Store, store_of}
 use Rattle.ft_items.specs.Rows.{atoms, differ, on_earlier}
-use Rattle.ft_items.specs.Good.{is_plain_type, is_next, is_new, Allowed}
+use Rattle.ft_items.specs.Good.{is_plain_type, is_new, Allowed}
 use Rattle.ft_items.proofs.SetLemmas.{by_bool, has_true, has_false}
-use Rattle.ft_items.proofs.Lists.{store_last, good_last, Before, nth_before, each_before, nth_end, nth_past, store_append, before_all}
+use Rattle.ft_items.proofs.Lists.{declared_last, good_last, Kept, nth_before, each_before, nth_end, nth_past, rule_end, look_new, store_append, before_all}
 use Rattle.ft_sound.proofs.Theorems.{rules_finitary}
 use Rattle.ft_reference.specs.Refusals.{Refusal, WrongForm, OpenBoundary}
-use Rattle.ft_reference.specs.Declare.{outcome, refused_unless, first_of, declared_variable, new_variable, first_variable, declared_metavariable, next_metavariable, new_metavariable, RuleFault, Duplicate, TooMany, OpenPremise, OpenConclusion, Draft, name_fault, first_outside, begin, premise, declared_rule, next_rule, finish}
+use Rattle.ft_reference.specs.Declare.{outcome, refused_unless, first_of, new_variable, first_variable, next_metavariable, new_metavariable, RuleFault, Duplicate, TooMany, OpenPremise, OpenConclusion, Draft, name_fault, first_outside, begin, premise, next_rule, finish}
 use Rattle.ft_nucleus_laws.specs.Laws.{LeavesOld, RefusalsChangeNothing, VariablesAllowed, MetavariablesAllowed, numbers, IsDraft, DraftsGrow, DraftsStay, drafted, FinishesAllowed, FinishedIsFinitary, VariableIsThere, MetavariableIsThere, PremiseIsThere, RuleIsThere}
-use Rattle.ft_sound.proofs.Good.{atoms_last}
+use Rattle.ft_sound.proofs.Good.{atoms_last, has_last}
 
 -- outcomes
 ok_path : {A E : Type 0} (a b : A) (x y : Result A E) → x ≡ Ok a → y ≡ Ok b → x ≡ y → a ≡ b
@@ -74,25 +73,25 @@ same_entry W p a b h k = same_Some b a (sym k ∙ h)
 pub variables_allowed : VariablesAllowed
 variables_allowed items v p n a next named = (there, back)
   where
-    W : Store
-    W = store_of items
+    W : Declarations
+    W = declared_by items
 
     x : ℕ × Annotation
     x = (v, declared_variable n a)
 
-    there : (new_variable W v n a).answer ≡ Ok x → Allowed items (variable v n p) × ((new_variable W v n a).after ≡ store_of (items ++ (variable v n p ∷ [])))
+    there : (new_variable W v n a).answer ≡ Ok x → Allowed items (variable v n p) × ((new_variable W v n a).after ≡ declared_by (items ++ (variable v n p ∷ [])))
     there h =
         let k : (refused_unless (is_plain_type a.statement) WrongForm ≡ None) × (x ≡ x) = answers_none (refused_unless (is_plain_type a.statement) WrongForm) W (add_variable W v n (Some a)) x x h in (
           (next, a, named, unless_true (is_plain_type a.statement) WrongForm k.0),
           (none_answers (refused_unless (is_plain_type a.statement) WrongForm) W (add_variable W v n (Some a)) x k.0).1
               ∙ ap (add_variable W v n) (sym named)
-              ∙ sym (store_last empty_store items (variable v n p)),
+              ∙ sym (declared_last items (variable v n p)),
         )
 
-    back : Allowed items (variable v n p) × ((new_variable W v n a).after ≡ store_of (items ++ (variable v n p ∷ []))) → (new_variable W v n a).answer ≡ Ok x
+    back : Allowed items (variable v n p) × ((new_variable W v n a).after ≡ declared_by (items ++ (variable v n p ∷ []))) → (new_variable W v n a).answer ≡ Ok x
     back h =
         (none_answers (refused_unless (is_plain_type a.statement) WrongForm) W (add_variable W v n (Some a)) x
-        (true_unless (is_plain_type a.statement) WrongForm (subst (λ (z : Assertion). is_plain_type z.statement ≡ true) (same_entry W p a h.0.1 named h.0.2) h.0.3))).0
+        (true_unless (is_plain_type a.statement) WrongForm (subst (λ (z : Assertion). is_plain_type z.statement ≡ true) (same_entry (store_of items) p a h.0.1 named h.0.2) h.0.3))).0
 
 -- metavariables
 no_first : (S : List Atom) → first_variable S ≡ None → metavariables_only S ≡ true
@@ -108,8 +107,8 @@ first_none (var v ∷ S) h = false_true h
 pub metavariables_allowed : MetavariablesAllowed
 metavariables_allowed items p n a kind named = (there, back)
   where
-    W : Store
-    W = store_of items
+    W : Declarations
+    W = declared_by items
 
     o : Option Refusal
     o = option_map OpenBoundary (first_variable a.set)
@@ -117,19 +116,19 @@ metavariables_allowed items p n a kind named = (there, back)
     x : ℕ × Declared
     x = next_metavariable W n a
 
-    there : (new_metavariable W n a).answer ≡ Ok x → Allowed items (metavariable n p) × ((new_metavariable W n a).after ≡ store_of (items ++ (metavariable n p ∷ [])))
+    there : (new_metavariable W n a).answer ≡ Ok x → Allowed items (metavariable n p) × ((new_metavariable W n a).after ≡ declared_by (items ++ (metavariable n p ∷ [])))
     there h =
         let k : (o ≡ None) × (x ≡ x) = answers_none o W (add_metavariable W n (Some a)) x x h in (
           (a, named, kind, no_first a.set (map_none OpenBoundary (first_variable a.set) k.0)),
           (none_answers o W (add_metavariable W n (Some a)) x k.0).1
               ∙ ap (add_metavariable W n) (sym named)
-              ∙ sym (store_last empty_store items (metavariable n p)),
+              ∙ sym (declared_last items (metavariable n p)),
         )
 
-    back : Allowed items (metavariable n p) × ((new_metavariable W n a).after ≡ store_of (items ++ (metavariable n p ∷ []))) → (new_metavariable W n a).answer ≡ Ok x
+    back : Allowed items (metavariable n p) × ((new_metavariable W n a).after ≡ declared_by (items ++ (metavariable n p ∷ []))) → (new_metavariable W n a).answer ≡ Ok x
     back h =
         (none_answers o W (add_metavariable W n (Some a)) x
-        (ap (option_map OpenBoundary) (first_none a.set (subst (λ (z : Assertion). metavariables_only z.set ≡ true) (same_entry W p a h.0.0 named h.0.1) h.0.3)))).0
+        (ap (option_map OpenBoundary) (first_none a.set (subst (λ (z : Assertion). metavariables_only z.set ≡ true) (same_entry (store_of items) p a h.0.0 named h.0.1) h.0.3)))).0
 
 -- sets within others
 pub no_outside : (R S : List Atom) → first_outside R S ≡ None → is_within S R ≡ true
@@ -155,10 +154,10 @@ numbers_last [] x = refl
 numbers_last (d ∷ ds) x = ap (λ z. d.0 ∷ z) (numbers_last ds x)
 
 -- the parts of a list that each names
-abbrev Parts : Store → ℕ → List ℕ → List (ℕ × Declared) → Type 0
+abbrev Parts : Declarations → ℕ → List ℕ → List (ℕ × Declared) → Type 0
 Parts W m ms ds = (d : ℕ × Declared) × (es : List (ℕ × Declared)) × (metavariable_named W m ≡ Some d) × (each (metavariable_named W) ms ≡ Some es) × (ds ≡ d ∷ es)
 
-parts : (W : Store) (m : ℕ) (ms : List ℕ) (ds : List (ℕ × Declared)) → each (metavariable_named W) (m ∷ ms) ≡ Some ds → Parts W m ms ds
+parts : (W : Declarations) (m : ℕ) (ms : List ℕ) (ds : List (ℕ × Declared)) → each (metavariable_named W) (m ∷ ms) ≡ Some ds → Parts W m ms ds
 parts W m ms ds h = go (metavariable_named W m) refl (each (metavariable_named W) ms) refl h
   where
     go : (o : Option (ℕ × Declared)) → metavariable_named W m ≡ o → (os : Option (List (ℕ × Declared))) → each (metavariable_named W) ms ≡ os → option_and_then (λ d. option_map (λ ds. d ∷ ds) os) o ≡ Some ds → Parts W m ms ds
@@ -166,7 +165,7 @@ parts W m ms ds h = go (metavariable_named W m) refl (each (metavariable_named W
     go (Some d) q None r h = none_some h
     go (Some d) q (Some es) r h = (d, es, q, r, sym (same_Some (d ∷ es) ds h))
 
-each_last : (W : Store) (ms : List ℕ) (ds : List (ℕ × Declared)) (m : ℕ) (x : ℕ × Declared) → each (metavariable_named W) ms ≡ Some ds → metavariable_named W m ≡ Some x → each (metavariable_named W) (ms ++ (m ∷ [])) ≡ Some (ds ++ (x ∷ []))
+each_last : (W : Declarations) (ms : List ℕ) (ds : List (ℕ × Declared)) (m : ℕ) (x : ℕ × Declared) → each (metavariable_named W) ms ≡ Some ds → metavariable_named W m ≡ Some x → each (metavariable_named W) (ms ++ (m ∷ [])) ≡ Some (ds ++ (x ∷ []))
 each_last W [] ds m x h k = ap (option_and_then (λ d. Some (d ∷ []))) k ∙ ap (λ z. Some (z ++ (x ∷ []))) (same_Some [] ds h)
 each_last W (l ∷ ms) ds m x h k =
     let p : Parts W l ms ds = parts W l ms ds h in
@@ -178,7 +177,7 @@ each_last W (l ∷ ms) ds m x h k =
 met_path : (m n : ℕ) → met m ≡ met n → m ≡ n
 met_path m n e = cc
 
-not_there : (W : Store) (ds es : List (ℕ × Declared)) (m : ℕ) → each (metavariable_named W) (numbers ds) ≡ Some es → nth W.metavariables m ≡ None → Has (met m) (atoms ds) → ⊥
+not_there : (W : Declarations) (ds es : List (ℕ × Declared)) (m : ℕ) → each (metavariable_named W) (numbers ds) ≡ Some es → nth W.metavariables m ≡ None → Has (met m) (atoms ds) → ⊥
 not_there W [] es m h k i = i
 not_there W (d ∷ ds) es m h k i = go (parts W d.0 (numbers ds) es h) i (λ es h i. not_there W ds es m h k i)
   where
@@ -186,18 +185,8 @@ not_there W (d ∷ ds) es m h k i = go (parts W d.0 (numbers ds) es h) i (λ es 
     go p (inl e) ih = none_some (sym (ap (λ z. option_map (λ d. (z, d)) (nth W.metavariables z)) (sym (met_path m d.0 e)) ∙ ap (option_map (λ d. (m, d))) k) ∙ p.2)
     go p (inr i) ih = ih p.1 p.3 i
 
-has_last : (b a : Atom) (S : List Atom) → Has b (S ++ (a ∷ [])) → Has b S ⊎ (b ≡ a)
-has_last b a [] (inl e) = inr e
-has_last b a [] (inr k) = inl k
-has_last b a (c ∷ S) (inl e) = inl (inl e)
-has_last b a (c ∷ S) (inr k) = go (has_last b a S k)
-  where
-    go : Has b S ⊎ (b ≡ a) → Has b (c ∷ S) ⊎ (b ≡ a)
-    go (inl k) = inl (inr k)
-    go (inr e) = inr e
-
 not_has : (b a : Atom) (S : List Atom) → has b S ≡ false → b ≢ a → not (has b (S ++ (a ∷ []))) ≡ true
-not_has b a S h n = by_bool (not (has b (S ++ (a ∷ []))) ≡ true) (has b (S ++ (a ∷ []))) (λ k. absurd (go (has_last b a S (has_true b (S ++ (a ∷ [])) k)))) (λ k. ap not k)
+not_has b a S h n = by_bool (not (has b (S ++ (a ∷ []))) ≡ true) (has b (S ++ (a ∷ []))) (λ k. absurd (go (has_last S a b (has_true b (S ++ (a ∷ [])) k)))) (λ k. ap not k)
   where
     go : Has b S ⊎ (b ≡ a) → ⊥
     go (inl k) = has_false b S h k
@@ -217,7 +206,7 @@ earlier_last before (d ∷ ds) x h k =
     (earlier_last (before ++ (met d.0 ∷ [])) ds x i.1 (subst (λ z. is_within x.1.set z ≡ true) (sym (append_assoc before (met d.0 ∷ []) (atoms ds))) k))
 
 -- the draft with the premise
-more : (W : Store) (d : Draft) (n : Name) (b : Assertion) → IsDraft W d → is_within b.set (atoms d.premises) ≡ true
+more : (W : Declarations) (d : Draft) (n : Name) (b : Assertion) → IsDraft W d → is_within b.set (atoms d.premises) ≡ true
     → IsDraft (add_metavariable W n (Some b)) (record d { premises = d.premises ++ (next_metavariable W n b ∷ []) })
 more W d n b i h = record {
   named = ap (each (metavariable_named X)) (numbers_last d.premises x)
@@ -232,48 +221,48 @@ more W d n b i h = record {
     x : ℕ × Declared
     x = next_metavariable W n b
 
-    X : Store
+    X : Declarations
     X = add_metavariable W n (Some b)
 
-    stays_there : Before W X
-    stays_there = record { entries = λ p a q. q; metavariables = λ k e q. nth_before W.metavariables (x.1 ∷ []) k e q }
+    stays_there : Kept W X
+    stays_there k e q = nth_before W.metavariables (x.1 ∷ []) k e q
 
 pub drafts_stay : DraftsStay
 drafts_stay items more d i =
-    let W = store_of items in
-    let X = store_of (items ++ more) in
-    let later : Before W X = subst (λ Y. Before W Y) (sym (store_append empty_store items more)) (before_all W more) in
+    let W = declared_by items in
+    let X = declared_by (items ++ more) in
+    let later : Kept W X = subst (λ (Y : Store). Kept W Y.declarations) (sym (store_append empty_store items more)) (before_all (store_of items) more).metavariables in
     record { named = each_before W X later (numbers d.premises) d.premises i.named; different = i.different; ordered = i.ordered }
 
 pub drafts_grow : DraftsGrow
 drafts_grow = (begun, grown)
   where
-    begun : (W : Store) (n : Name) (d : Draft) → (begin W n).answer ≡ Ok d → IsDraft W d
+    begun : (W : Declarations) (n : Name) (d : Draft) → (begin W n).answer ≡ Ok d → IsDraft W d
     begun W n d h = subst (IsDraft W) (answers_none (name_fault W n) W W (record { name = n; premises = [] }) d h).1 (record { named = refl; different = refl; ordered = refl })
 
-    grown : (W : Store) (d : Draft) (n : Name) (b : Assertion) (m : ℕ × Declared) → IsDraft W d → (premise W d n b).answer ≡ Ok m → IsDraft (premise W d n b).after.0 (premise W d n b).after.1
+    grown : (W : Declarations) (d : Draft) (n : Name) (b : Assertion) (m : ℕ × Declared) → IsDraft W d → (premise W d n b).answer ≡ Ok m → IsDraft (premise W d n b).after.0 (premise W d n b).after.1
     grown W d n b m i h =
         let e : (option_map (OpenPremise (suc (length d.premises))) (first_outside (atoms d.premises) b.set) ≡ None) × (next_metavariable W n b ≡ m) = answers_none _ _ _ _ m h in
-        subst (λ (z : Store × Draft). IsDraft z.0 z.1) (sym (none_answers (option_map (OpenPremise (suc (length d.premises))) (first_outside (atoms d.premises) b.set)) _ _ (next_metavariable W n b) e.0).1)
+        subst (λ (z : Declarations × Draft). IsDraft z.0 z.1) (sym (none_answers (option_map (OpenPremise (suc (length d.premises))) (first_outside (atoms d.premises) b.set)) _ _ (next_metavariable W n b) e.0).1)
         (more W d n b i (no_outside (atoms d.premises) b.set (map_none _ _ e.0)))
 
 -- rules
 pub finishes_allowed : FinishesAllowed
 finishes_allowed items d p c i named kind flat = (there, back)
   where
-    W : Store
-    W = store_of items
+    W : Declarations
+    W = declared_by items
 
     o : Option RuleFault
     o = first_of (name_fault W d.name) (option_map OpenConclusion (first_outside (atoms d.premises) c.set))
 
-    made : Store
+    made : Declarations
     made = add_rule W d.name (Some d.premises) (Some c)
 
     x : ℕ × Rule
     x = next_rule W d.premises c
 
-    there : (finish W d c).answer ≡ Ok x → Allowed items (drafted d p) × ((finish W d c).after ≡ store_of (items ++ (drafted d p ∷ [])))
+    there : (finish W d c).answer ≡ Ok x → Allowed items (drafted d p) × ((finish W d c).after ≡ declared_by (items ++ (drafted d p ∷ [])))
     there h =
         let k : o ≡ None = (answers_none o W made x x h).0 in
         let f : (name_fault W d.name ≡ None) × (option_map OpenConclusion (first_outside (atoms d.premises) c.set) ≡ None) = both_none (name_fault W d.name) (option_map OpenConclusion (first_outside (atoms d.premises) c.set)) k in
@@ -293,10 +282,10 @@ finishes_allowed items d p c i named kind flat = (there, back)
           ),
           (none_answers o W made x k).1
               ∙ ap₂ (add_rule W d.name) (sym i.named) (sym named)
-              ∙ sym (store_last empty_store items (drafted d p)),
+              ∙ sym (declared_last items (drafted d p)),
         )
 
-    back : Allowed items (drafted d p) × ((finish W d c).after ≡ store_of (items ++ (drafted d p ∷ []))) → (finish W d c).answer ≡ Ok x
+    back : Allowed items (drafted d p) × ((finish W d c).after ≡ declared_by (items ++ (drafted d p ∷ []))) → (finish W d c).answer ≡ Ok x
     back h = (none_answers o W made x (none_both (name_fault W d.name) (option_map OpenConclusion (first_outside (atoms d.premises) c.set)) free closed)).0
       where
         free : name_fault W d.name ≡ None
@@ -305,7 +294,7 @@ finishes_allowed items d p c i named kind flat = (there, back)
             (true_unless (nat_lt (length W.rules) 65536) TooMany (lt-ltb (length W.rules) 65536 h.0.1))
 
         same : (h.0.2 ≡ d.premises) × (h.0.4 ≡ c)
-        same = (same_Some h.0.2 d.premises (sym h.0.3 ∙ i.named), same_entry W p c h.0.4 named h.0.5)
+        same = (same_Some h.0.2 d.premises (sym h.0.3 ∙ i.named), same_entry (store_of items) p c h.0.4 named h.0.5)
 
         closed : option_map OpenConclusion (first_outside (atoms d.premises) c.set) ≡ None
         closed = ap (option_map OpenConclusion) (outside_none (atoms d.premises) c.set (subst (λ z. is_within c.set (atoms z) ≡ true) same.0 (subst (λ (z : Assertion). is_within z.set (atoms h.0.2) ≡ true) same.1 h.0.10)))
@@ -313,8 +302,8 @@ finishes_allowed items d p c i named kind flat = (there, back)
 pub finished_is_finitary : FinishedIsFinitary
 finished_is_finitary items d p c k g i named kind flat = go o refl
   where
-    W : Store
-    W = store_of items
+    W : Declarations
+    W = declared_by items
 
     o : Option RuleFault
     o = first_of (name_fault W d.name) (option_map OpenConclusion (first_outside (atoms d.premises) c.set))
@@ -324,75 +313,64 @@ finished_is_finitary items d p c k g i named kind flat = go o refl
 
     longer : (finish W d c).answer ≡ Ok x → FinitaryUpTo k (finish W d c).after.rules
     longer h =
-        let a : Allowed items (drafted d p) × ((finish W d c).after ≡ store_of (items ++ (drafted d p ∷ []))) = (finishes_allowed items d p c i named kind flat).0 h in
-        subst (λ (z : Store). FinitaryUpTo k z.rules) (sym a.1) (rules_finitary (items ++ (drafted d p ∷ [])) (good_last empty_store items (drafted d p) g a.0) k)
+        let a : Allowed items (drafted d p) × ((finish W d c).after ≡ declared_by (items ++ (drafted d p ∷ []))) = (finishes_allowed items d p c i named kind flat).0 h in
+        subst (λ (z : Declarations). FinitaryUpTo k z.rules) (sym a.1) (rules_finitary (items ++ (drafted d p ∷ [])) (good_last empty_store items (drafted d p) g a.0) k)
 
     go : (z : Option RuleFault) → o ≡ z → FinitaryUpTo k (finish W d c).after.rules
     go None e = longer (none_answers o W (add_rule W d.name (Some d.premises) (Some c)) x e).0
-    go (Some f) e = subst (λ (z : Store). FinitaryUpTo k z.rules) (sym (stays o W (add_rule W d.name (Some d.premises) (Some c)) x f (ap (λ z. (outcome z W (add_rule W d.name (Some d.premises) (Some c)) x).answer) e))) (rules_finitary items g k)
+    go (Some f) e = subst (λ (z : Declarations). FinitaryUpTo k z.rules) (sym (stays o W (add_rule W d.name (Some d.premises) (Some c)) x f (ap (λ z. (outcome z W (add_rule W d.name (Some d.premises) (Some c)) x).answer) e))) (rules_finitary items g k)
 
 -- what is answered is there
-look_up_next : (G : List (ℕ × Annotation)) (v : ℕ) (a : Annotation) → is_next G v ≡ true → look_up (G ++ ((v, a) ∷ [])) v ≡ Some a
-look_up_next [] v a h = if_same v v (Some a) None refl
-look_up_next (p ∷ G) v a h =
-    let k : (nat_lt p.0 v ≡ true) × (is_next G v ≡ true) = and_parts (nat_lt p.0 v) (is_next G v) h in
-    let below : p.0 < v = ltb-true p.0 v k.0 in
-    if_other v p.0 (Some p.1) (look_up (G ++ ((v, a) ∷ [])) v) (λ e. omega (arith, below, e)) ∙ look_up_next G v a k.1
-
 pub variable_is_there : VariableIsThere
 variable_is_there W v n p x next h =
     let k : (o ≡ None) × ((v, declared_variable n p) ≡ x) = answers_none o W made (v, declared_variable n p) x h in
-    ap (λ (z : Store). variable_named z v) (none_answers o W made (v, declared_variable n p) k.0).1
-    ∙ ap (option_map (λ d. (v, d))) (look_up_next W.variables v (declared_variable n p) next)
+    ap (λ (z : Declarations). variable_named z v) (none_answers o W made (v, declared_variable n p) k.0).1
+    ∙ ap (option_map (λ d. (v, d))) (look_new W.variables v (declared_variable n p) next)
     ∙ ap Some k.1
   where
     o : Option Refusal
     o = refused_unless (is_plain_type p.statement) WrongForm
 
-    made : Store
+    made : Declarations
     made = add_variable W v n (Some p)
 
-metavariable_end : (W : Store) (n : Name) (b : Assertion) → metavariable_named (add_metavariable W n (Some b)) (length W.metavariables) ≡ Some (next_metavariable W n b)
+metavariable_end : (W : Declarations) (n : Name) (b : Assertion) → metavariable_named (add_metavariable W n (Some b)) (length W.metavariables) ≡ Some (next_metavariable W n b)
 metavariable_end W n b = ap (option_map (λ d. (length W.metavariables, d))) (nth_end W.metavariables (declared_metavariable n b))
 
 pub metavariable_is_there : MetavariableIsThere
 metavariable_is_there W n b m h =
     let k : (o ≡ None) × (next_metavariable W n b ≡ m) = answers_none o W made (next_metavariable W n b) m h in
-    ap (λ (z : Store). metavariable_named z (length W.metavariables)) (none_answers o W made (next_metavariable W n b) k.0).1 ∙ metavariable_end W n b ∙ ap Some k.1
+    ap (λ (z : Declarations). metavariable_named z (length W.metavariables)) (none_answers o W made (next_metavariable W n b) k.0).1 ∙ metavariable_end W n b ∙ ap Some k.1
   where
     o : Option Refusal
     o = option_map OpenBoundary (first_variable b.set)
 
-    made : Store
+    made : Declarations
     made = add_metavariable W n (Some b)
 
 pub premise_is_there : PremiseIsThere
 premise_is_there W d n b m h =
     let k : (o ≡ None) × (next_metavariable W n b ≡ m) = answers_none o (W, d) made (next_metavariable W n b) m h in
     let e : (premise W d n b).after ≡ made = (none_answers o (W, d) made (next_metavariable W n b) k.0).1 in (
-      ap (λ (z : Store × Draft). metavariable_named z.0 (length W.metavariables)) e ∙ metavariable_end W n b ∙ ap Some k.1,
-      ap (λ (z : Store × Draft). z.1.premises) e ∙ ap (λ x. d.premises ++ (x ∷ [])) k.1,
+      ap (λ (z : Declarations × Draft). metavariable_named z.0 (length W.metavariables)) e ∙ metavariable_end W n b ∙ ap Some k.1,
+      ap (λ (z : Declarations × Draft). z.1.premises) e ∙ ap (λ x. d.premises ++ (x ∷ [])) k.1,
     )
   where
     o : Option RuleFault
     o = option_map (OpenPremise (suc (length d.premises))) (first_outside (atoms d.premises) b.set)
 
-    made : Store × Draft
+    made : Declarations × Draft
     made = (add_metavariable W n (Some b), record d { premises = d.premises ++ (next_metavariable W n b ∷ []) })
-
-rule_end : (T : List Rule) (R : Rule) → rule_at (T ++ (R ∷ [])) (length T) ≡ Some R
-rule_end [] R = refl
-rule_end (S ∷ T) R = rule_end T R
 
 pub rule_is_there : RuleIsThere
 rule_is_there W d c r h =
     let k : (o ≡ None) × (next_rule W d.premises c ≡ r) = answers_none o W made (next_rule W d.premises c) r h in
-    ap (λ (z : Store). rule_named z (length W.rules)) (none_answers o W made (next_rule W d.premises c) k.0).1
+    ap (λ (z : Declarations). rule_named z (length W.rules)) (none_answers o W made (next_rule W d.premises c) k.0).1
     ∙ ap (option_map (λ R. (length W.rules, R))) (rule_end W.rules (declared_rule d.premises c))
     ∙ ap Some k.1
   where
     o : Option RuleFault
     o = first_of (name_fault W d.name) (option_map OpenConclusion (first_outside (atoms d.premises) c.set))
 
-    made : Store
+    made : Declarations
     made = add_rule W d.name (Some d.premises) (Some c)

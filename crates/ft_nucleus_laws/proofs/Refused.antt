@@ -7,7 +7,7 @@ use Rattle.ft_common.proofs.Options.{none_some}
 use Rattle.ft_common.proofs.Booleans.{false_true, true_false}
 use Rattle.ft_theory.specs.Expressions.{meta}
 use Rattle.ft_theory.specs.Statements.{domain_count}
-use Rattle.ft_theory.specs.Small.{depth, size, size_of_terms, numbers_fit, is_small}
+use Rattle.ft_theory.specs.Small.{depth, size, size_of_terms, number_limits, is_kept, is_small}
 use Rattle.ft_items.specs.Sets.{Atom}
 use Rattle.ft_items.specs.Item.{by_generic}
 use Rattle.ft_items.specs.Rows.{bounds, atoms}
@@ -137,7 +137,7 @@ wide zero = refl
 wide (suc n) = omega (arith, wide n)
 
 not_small : (m n : ℕ) → 65536 ≤ n → is_small (meta m (bounds n)) ≡ false
-not_small m n h = ap (λ z. (nat_le (depth (meta m (bounds n))) 1000 && z) && numbers_fit (meta m (bounds n))) too_wide ∙ neither (nat_le (depth (meta m (bounds n))) 1000) (numbers_fit (meta m (bounds n)))
+not_small m n h = ap (λ z. (nat_le (depth (meta m (bounds n))) 1000 && z) && is_kept (number_limits (meta m (bounds n)))) too_wide ∙ neither (nat_le (depth (meta m (bounds n))) 1000) (is_kept (number_limits (meta m (bounds n))))
   where
     too_wide : nat_le (size (meta m (bounds n))) 65536 ≡ false
     too_wide = lt-leb (size (meta m (bounds n))) 65536 (omega (arith, h, wide n))

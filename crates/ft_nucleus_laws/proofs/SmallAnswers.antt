@@ -6,16 +6,16 @@ use Rattle.ft_common.proofs.Options.{none_some}
 use Rattle.ft_common.proofs.Booleans.{true_false}
 use Rattle.ft_theory.specs.Expressions.{Expression, bound, free, meta, Arguments}
 use Rattle.ft_theory.specs.Statements.{Claim, is_type, has_type, equal_types, equal_terms, type_goal, term_goal, type_equation_goal, term_equation_goal, Statement, plain, abstracted, domain_count, fill_goal, fill, equate_goal, equate, boundary_of_claim, boundary_of}
-use Rattle.ft_theory.specs.Rules.{conclusion_at}
+use Rattle.ft_theory.specs.Rules.{Rule, conclusion_at}
 use Rattle.ft_theory.specs.Small.{IsSmall}
-use Rattle.ft_items.specs.Equal.{is_object_goal, is_object, head_of_claim, head, heads, fits, right_heads}
+use Rattle.ft_items.specs.Equal.{is_object_goal, is_object, head_of_claim, head, heads, right_heads}
 use Rattle.ft_items.specs.Item.{by_var, by_generic, by_meta, by_metacong, by_abs, by_subst, by_substeq, by_refl, by_sym, by_trans, by_conv, by_conveq, by_left, by_right, by_typeof, by_domain, by_boundary, by_widen, by_btype, by_bterm, by_beqty, by_beqtm, by_rule, by_rulewith, by_inst, by_cong, by_convprem, by_convback, by_arg, by_natural, by_metainst}
-use Rattle.ft_items.specs.Store.{Assertion, Store, Resolved, premises_of}
-use Rattle.ft_items.specs.Rows.{when, statements, bounds, applied_meta, meta_congruence, substitution, equal_substitution, symmetry, transitivity, conversion, equation_conversion, left_side, right_side, type_part, under_domains, first_domain, term_boundary, type_equation_boundary, term_equation_boundary, at_arguments, rule_instance, rule_instance_with, first_premises, later_premises, boundary_instance, congruence_of, moved_argument, argument, natural_type, natural, instantiated, conclusion, result_set}
+use Rattle.ft_items.specs.Store.{Assertion, Declarations, Resolved, premises_of}
+use Rattle.ft_items.specs.Rows.{when, statements, bounds, applied_meta, meta_congruence, substitution, equal_substitution, symmetry, transitivity, conversion, equation_conversion, left_side, right_side, type_part, under_domains, first_domain, term_boundary, type_equation_boundary, term_equation_boundary, rule_instance, rule_instance_with, boundary_after, boundary_instance, congruence_of, moved, argument, natural_type, natural, instantiated, conclusion, result_set}
 use Rattle.ft_items.specs.Good.{of_kind, given}
 use Rattle.ft_reference.specs.Refusals.{Check, asks, forms, formed, AllSmall, claim_expressions, expressions, forms_all, forms_statement, forms_result}
 use Rattle.ft_reference.specs.Compare.{fit_checks, boundary_checks, term_checks, pair_checks}
-use Rattle.ft_reference.specs.Checks.{substitution_checks, equal_substitution_checks, forms_application, all_argument_checks, first_argument_checks, all_equation_checks, rule_checks, moved_checks, before_premise_checks, application_checks, forms_natural, natural_checks, checks}
+use Rattle.ft_reference.specs.Checks.{substitution_checks, equal_substitution_checks, forms_application, all_argument_checks, first_argument_checks, all_equation_checks, rule_checks, moved_checks, equal_argument_checks, application_checks, forms_natural, natural_checks, checks}
 use Rattle.ft_nucleus_laws.specs.SmallAnswers.{all_expressions, given_expressions, is_abstraction, AnswersSmall}
 use Rattle.ft_nucleus_laws.proofs.Calls.{answers_its_row}
 use Rattle.ft_items.proofs.Smallness.{true_small}
@@ -206,27 +206,23 @@ term_equation_small (plain (is_type A)) (plain (has_type s B)) (plain (has_type 
 term_equation_small w x y z h k l e = none_some e
 
 -- arguments moved along equations
-moved_small : (ps : List (ℕ × Statement)) (a c : Arguments) (qs : List (ℕ × Statement)) (y z : Statement) → AllSmall (expressions y) → AllSmall (formed (moved_checks ps a c qs y)) → moved_argument ps a c qs y ≡ Some z → AllSmall (expressions z)
-moved_small ps a c [] y z h k e = none_some e
-moved_small ps a c (q ∷ qs) y z h k e =
-    at_when (fits y (at_arguments ps a q.1)) (fill (at_arguments ps c q.1) (head y)) z
-    (fill_small (at_arguments ps c q.1) (head y)
-    (subst AllSmall (formed_forms (expressions (at_arguments ps c q.1)))
-    (later (fit_checks y (at_arguments ps a q.1)) (forms_statement (at_arguments ps c q.1)) (later (forms_statement (at_arguments ps a q.1)) (fit_checks y (at_arguments ps a q.1) ++ forms_statement (at_arguments ps c q.1)) k)))
+moved_small : (R : Rule) (xs es : List Statement) (a c : Arguments) (y z : Statement) → AllSmall (expressions y) → AllSmall (formed (moved_checks R xs a c y)) → moved R xs es a c y ≡ Some z → AllSmall (expressions z)
+moved_small R xs es a c y z h k e =
+    let w : Statement = boundary_after R xs a in
+    let x : Statement = boundary_after R xs c in
+    at_when _ (fill x (head y)) z
+    (fill_small x (head y)
+    (subst AllSmall (formed_forms (expressions x)) (later (fit_checks y w) (forms_statement x) (later (forms_statement w) (fit_checks y w ++ forms_statement x) k)))
     (λ o. head_small y h))
     e
 
-guarded_small : (b : Bool) (o : Option Statement) (z : Statement) → (o ≡ Some z → AllSmall (expressions z)) → cond b o None ≡ Some z → AllSmall (expressions z)
-guarded_small true o z h e = h e
-guarded_small false o z h e = none_some e
-
 -- what an application tells
-argument_small : (W : Store) (i : ℕ) (x z : Statement) → AllSmall (formed (application_checks W i x)) → argument W i x ≡ Some z → AllSmall (expressions z)
+argument_small : (W : Declarations) (i : ℕ) (x z : Statement) → AllSmall (formed (application_checks W i x)) → argument W i x ≡ Some z → AllSmall (expressions z)
 argument_small W i (plain (is_type e)) z h p = result (argument W i (plain (is_type e))) z h p
 argument_small W i (plain (has_type e A)) z h p = result (argument W i (plain (has_type e A))) z h p
 argument_small W i x z h p = none_some p
 
-natural_small : (W : Store) (x z : Statement) → AllSmall (expressions x) → AllSmall (formed (natural_checks W x)) → natural W x ≡ Some z → AllSmall (expressions z)
+natural_small : (W : Declarations) (x z : Statement) → AllSmall (expressions x) → AllSmall (formed (natural_checks W x)) → natural W x ≡ Some z → AllSmall (expressions z)
 natural_small W (plain (has_type e A)) z h k p = go (natural_type W e) k p
   where
     go : (o : Option Expression) → AllSmall (formed (forms_natural o)) → option_map (λ N. plain (equal_types N A)) o ≡ Some z → AllSmall (expressions z)
@@ -241,7 +237,7 @@ one p ps h = (small_split (expressions p.statement) (all_expressions ps) h).0
 rest : (p : Assertion) (ps : List Assertion) → AllSmall (all_expressions (p ∷ ps)) → AllSmall (all_expressions ps)
 rest p ps h = (small_split (expressions p.statement) (all_expressions ps) h).1
 
-row : (W : Store) (s : Resolved) (z : Statement) → is_abstraction s ≡ false → AllSmall (given_expressions s) → AllSmall (formed (checks W s)) → conclusion W s ≡ Some z → AllSmall (expressions z)
+row : (W : Declarations) (s : Resolved) (z : Statement) → is_abstraction s ≡ false → AllSmall (given_expressions s) → AllSmall (formed (checks W s)) → conclusion W s ≡ Some z → AllSmall (expressions z)
 row W (by_var v) z n g f e = at_some (plain (has_type (free v.0) v.1.annotation)) z (true_small (free v.0) refl, g) e
 row W (by_generic m) z n g f e =
     at_some (fill m.1.boundary (meta m.0 (bounds (domain_count m.1.boundary)))) z
@@ -281,17 +277,15 @@ row W (by_cong r ps es) z n g f e =
     let o : Option Statement = congruence_of r.0 r.1 (statements ps) (statements es) in
     ends (all_equation_checks (statements ps) (statements es)) o z (later (rule_checks r.0 r.1 (statements ps)) (all_equation_checks (statements ps) (statements es) ++ forms_result o) f) e
 row W (by_convprem r ps es q) z n g f e =
-    guarded_small _ (moved_argument (first_premises r.1 (statements ps)) (heads (statements ps)) (right_heads (statements ps) (statements es)) (later_premises r.1 (statements ps)) q.statement) z
-    (moved_small (first_premises r.1 (statements ps)) (heads (statements ps)) (right_heads (statements ps) (statements es)) (later_premises r.1 (statements ps)) q.statement z (one q (ps ++ es) g) (later (before_premise_checks r.1 (statements ps) (statements es)) _ f)) e
+    moved_small r.1 (statements ps) (statements es) (heads (statements ps)) (right_heads (statements ps) (statements es)) q.statement z (one q (ps ++ es) g) (later (equal_argument_checks r.1 (statements ps) (statements es)) _ f) e
 row W (by_convback r ps es q) z n g f e =
-    guarded_small _ (moved_argument (first_premises r.1 (statements ps)) (right_heads (statements ps) (statements es)) (heads (statements ps)) (later_premises r.1 (statements ps)) q.statement) z
-    (moved_small (first_premises r.1 (statements ps)) (right_heads (statements ps) (statements es)) (heads (statements ps)) (later_premises r.1 (statements ps)) q.statement z (one q (ps ++ es) g) (later (before_premise_checks r.1 (statements ps) (statements es)) _ f)) e
+    moved_small r.1 (statements ps) (statements es) (right_heads (statements ps) (statements es)) (heads (statements ps)) q.statement z (one q (ps ++ es) g) (later (equal_argument_checks r.1 (statements ps) (statements es)) _ f) e
 row W (by_arg i p) z n g f e = argument_small W i p.statement z f e
 row W (by_natural p) z n g f e = natural_small W p.statement z g f e
 row W (by_metainst p ms qs) z n g f e = ends (all_argument_checks (premises_of ms) (statements qs)) (instantiated ms p (statements qs)) z f e
 
 -- the statement that is given is the conclusion
-pub given_conclusion : (W : Store) (s : Resolved) (a : Assertion) → given W s ≡ Some a → conclusion W s ≡ Some a.statement
+pub given_conclusion : (W : Declarations) (s : Resolved) (a : Assertion) → given W s ≡ Some a → conclusion W s ≡ Some a.statement
 given_conclusion W s a h = go (of_kind s) (conclusion W s) h
   where
     go : (b : Bool) (o : Option Statement) → cond b (option_map (λ x. record { statement = x; set = result_set s }) o) None ≡ Some a → o ≡ Some a.statement

@@ -1,7 +1,7 @@
 -- What the checks of a call ask is what its row asks: they hold exactly where the step has a conclusion.
 use Rattle.std.proofs.Common.{◌≡◌, ℕ, zero, suc, Bool, true, false, cond, nat_eq, nat_lt, nat_le, ◌&&◌, not, Option, Some, None, List, [], ◌∷◌, ◌++◌, length, refl, sym, ap, ap₂, ◌∙◌, arith}
 use Rattle.std.proofs.lemmas.Bool.{ltb-true, le-leb, and_parts, not-true}
-use Rattle.std.specs.Prelude.{is_some, take, drop}
+use Rattle.std.specs.Prelude.{is_some, take}
 use Rattle.std.proofs.Math.Dec.{eqb-suc-zero, eqb-suc-suc, leb-zero, leb-suc-zero, leb-suc-suc}
 use Rattle.std.proofs.Math.Bool.{and-true}
 use Rattle.ft_common.proofs.Options.{is_some-option_map}
@@ -11,12 +11,12 @@ use Rattle.ft_theory.specs.Rules.{look_up, Rule, conclusion_at}
 use Rattle.ft_items.specs.Sets.{Atom, met, var, is_within}
 use Rattle.ft_items.specs.Equal.{equal_expressions, equal_statements, is_thesis, is_object_goal, is_object, has_head, fits, heads, start_all, right_heads, typed, paired}
 use Rattle.ft_items.specs.Item.{by_var, by_generic, by_meta, by_metacong, by_abs, by_subst, by_substeq, by_refl, by_sym, by_trans, by_conv, by_conveq, by_left, by_right, by_typeof, by_domain, by_boundary, by_widen, by_btype, by_bterm, by_beqty, by_beqtm, by_rule, by_rulewith, by_inst, by_cong, by_convprem, by_convback, by_arg, by_natural, by_metainst}
-use Rattle.ft_items.specs.Store.{Assertion, Annotation, Declared, Store, Resolved, premises_of}
-use Rattle.ft_items.specs.Rows.{when, statements, bounds, applied_meta, meta_congruence, rests_on, depends, substitution, equal_substitution, symmetry, transitivity, conversion, equation_conversion, left_side, right_side, type_part, under_domains, first_domain, term_boundary, type_equation_boundary, term_equation_boundary, at_arguments, are_arguments, rule_instance, rule_instance_with, first_premises, later_premises, boundary_instance, congruence_of, moved_argument, arguments_of, from_one, argument, natural_type, natural, atoms, differ, on_earlier, instantiated, conclusion, theses, boundaries}
+use Rattle.ft_items.specs.Store.{Assertion, Annotation, Declared, Declarations, Resolved, premises_of}
+use Rattle.ft_items.specs.Rows.{when, statements, bounds, applied_meta, meta_congruence, rests_on, depends, substitution, equal_substitution, symmetry, transitivity, conversion, equation_conversion, left_side, right_side, type_part, under_domains, first_domain, term_boundary, type_equation_boundary, term_equation_boundary, at_arguments, are_arguments, rule_instance, rule_instance_with, first_premises, boundary_after, boundary_instance, congruence_of, moved, arguments_of, from_one, argument, natural_type, natural, atoms, differ, on_earlier, instantiated, conclusion, theses, boundaries}
 use Rattle.ft_items.specs.Good.{all_theses, all_boundaries, of_kind}
 use Rattle.ft_reference.specs.Refusals.{DependentVariable, forms_statement, forms_result, none_check, expressions}
 use Rattle.ft_reference.specs.Compare.{fit_checks, boundary_checks, term_checks, pair_checks}
-use Rattle.ft_reference.specs.Checks.{first_dependent, substitution_checks, equal_substitution_checks, transitivity_checks, conversion_checks, equation_conversion_checks, term_equation_checks, all_argument_checks, first_argument_checks, all_equation_checks, rule_checks, rule_with_checks, instance_checks, congruence_checks, moved_checks, before_premise_checks, forms_application, meta_checks, meta_congruence_checks, place_checks, application_checks, forms_natural, natural_checks, checks}
+use Rattle.ft_reference.specs.Checks.{first_dependent, substitution_checks, equal_substitution_checks, transitivity_checks, conversion_checks, equation_conversion_checks, term_equation_checks, all_argument_checks, first_argument_checks, all_equation_checks, rule_checks, rule_with_checks, instance_checks, congruence_checks, moved_checks, equal_argument_checks, forms_application, meta_checks, meta_congruence_checks, place_checks, application_checks, forms_natural, natural_checks, checks}
 use Rattle.ft_reference.specs.Calls.{instance_allowed, may_be_made}
 use Rattle.ft_nucleus_laws.proofs.Lists.{and_assoc, asked, asked_append, asked_forms, asked_result, before_result, after_forms}
 use Rattle.ft_nucleus_laws.proofs.Tests.{boundary_asked, fit_asked, Theses, arguments_asked, equations_asked, terms_asked, pairs_asked}
@@ -144,65 +144,37 @@ congruence_asked r R xs es h =
     ∙ and_assoc (is_object_goal R.conclusion) (are_arguments R.premises xs) (start_all xs es)
     ∙ sym (when_some (is_object_goal R.conclusion && are_arguments R.premises xs && start_all xs es) _)
 
--- the next premise
-abbrev is_cons : List (ℕ × Statement) → Bool
-is_cons [] = false
-is_cons (q ∷ qs) = true
-
-next_there : (xs : List Statement) (ps : List (ℕ × Statement)) → nat_lt (length xs) (length ps) ≡ is_cons (drop (length xs) ps)
-next_there [] [] = refl
-next_there [] (p ∷ ps) = leb-suc-suc zero (length ps) ∙ leb-zero (length ps)
-next_there (x ∷ xs) [] = leb-suc-zero (suc (length xs))
-next_there (x ∷ xs) (p ∷ ps) = leb-suc-suc (suc (length xs)) (length ps) ∙ next_there xs ps
-
+-- arguments with equations, and an argument for the premise after them
 enough : (xs : List Statement) (ps : List (ℕ × Statement)) → nat_lt (length xs) (length ps) ≡ true → nat_le (length xs) (length ps) ≡ true
 enough xs ps h = le-leb (length xs) (length ps) (omega (arith, ltb-true (length xs) (length ps) h))
 
-abbrev no_statement : Option Statement
-no_statement = None
+where_true : (b x y : Bool) → (b ≡ true → x ≡ y) → (b && x) ≡ (b && y)
+where_true true x y h = h refl
+where_true false x y h = refl
 
-neither : (b : Bool) → is_some (cond b no_statement no_statement) ≡ false
-neither true = refl
-neither false = refl
+equal_arguments_asked : (R : Rule) (xs es : List Statement) → Theses xs
+    → asked (equal_argument_checks R xs es) ≡ (nat_lt (length xs) (length R.premises) && (are_arguments (first_premises R xs) xs && start_all xs es))
+equal_arguments_asked R xs es h =
+    ap (λ z. nat_lt (length xs) (length R.premises) && z) (asked_append (first_argument_checks R xs) (all_equation_checks xs es))
+    ∙ where_true (nat_lt (length xs) (length R.premises)) (asked (first_argument_checks R xs) && asked (all_equation_checks xs es)) (are_arguments (first_premises R xs) xs && start_all xs es)
+    (λ e. ap₂ (λ u v. u && v) (ap (λ z. z && asked (first_argument_checks R xs)) (sym (enough xs R.premises e)) ∙ first_asked R xs h) (equations_asked xs es))
 
-guarded : (b c : Bool) (x : Statement) → is_some (cond b (when c x) None) ≡ (b && c)
-guarded true c x = when_some c x
-guarded false c x = refl
+moved_fits : (R : Rule) (xs : List Statement) (a c : Arguments) (y : Statement) → is_thesis y ≡ true → asked (moved_checks R xs a c y) ≡ fits y (boundary_after R xs a)
+moved_fits R xs a c y k =
+    let x : Statement = boundary_after R xs a in
+    let z : Statement = boundary_after R xs c in
+    after_forms (expressions x) (fit_checks y x ++ forms_statement z)
+    ∙ asked_append (fit_checks y x) (forms_statement z)
+    ∙ ap₂ (λ u v. u && v) (fit_asked y x k) (asked_forms (expressions z))
+    ∙ and-true (fits y x)
 
 moved_asked : (R : Rule) (xs es : List Statement) (a c : Arguments) (y : Statement) → Theses xs → is_thesis y ≡ true
-    → asked (before_premise_checks R xs es ++ moved_checks (first_premises R xs) a c (later_premises R xs) y)
-    ≡ is_some (cond (are_arguments (first_premises R xs) xs && start_all xs es) (moved_argument (first_premises R xs) a c (later_premises R xs) y) None)
-moved_asked R xs es a c y h k = go (later_premises R xs) (next_there xs R.premises)
-  where
-    ps : List (ℕ × Statement)
-    ps = first_premises R xs
-
-    B : Bool
-    B = are_arguments ps xs && start_all xs es
-
-    go : (qs : List (ℕ × Statement)) → nat_lt (length xs) (length R.premises) ≡ is_cons qs → asked (before_premise_checks R xs es ++ moved_checks ps a c qs y) ≡ is_some (cond B (moved_argument ps a c qs y) None)
-    go [] e =
-        asked_append (before_premise_checks R xs es) []
-        ∙ ap (λ z. (z && asked (first_argument_checks R xs ++ all_equation_checks xs es)) && true) e
-        ∙ sym (neither B)
-    go (q ∷ qs) e =
-        asked_append (before_premise_checks R xs es) (moved_checks ps a c (q ∷ qs) y)
-        ∙ ap₂ (λ u v. u && v) before goal
-        ∙ sym (guarded B (fits y (at_arguments ps a q.1)) _)
-      where
-        before : asked (before_premise_checks R xs es) ≡ B
-        before =
-            ap (λ z. z && asked (first_argument_checks R xs ++ all_equation_checks xs es)) (e ∙ sym (enough xs R.premises e))
-            ∙ ap (λ z. nat_le (length xs) (length R.premises) && z) (asked_append (first_argument_checks R xs) (all_equation_checks xs es))
-            ∙ and_assoc (nat_le (length xs) (length R.premises)) (asked (first_argument_checks R xs)) (asked (all_equation_checks xs es))
-            ∙ ap₂ (λ u v. u && v) (first_asked R xs h) (equations_asked xs es)
-
-        goal : asked (moved_checks ps a c (q ∷ qs) y) ≡ fits y (at_arguments ps a q.1)
-        goal =
-            after_forms (expressions (at_arguments ps a q.1)) (fit_checks y (at_arguments ps a q.1) ++ forms_statement (at_arguments ps c q.1))
-            ∙ asked_append (fit_checks y (at_arguments ps a q.1)) (forms_statement (at_arguments ps c q.1))
-            ∙ ap₂ (λ u v. u && v) (fit_asked y (at_arguments ps a q.1) k) (asked_forms (expressions (at_arguments ps c q.1)))
-            ∙ and-true (fits y (at_arguments ps a q.1))
+    → asked (equal_argument_checks R xs es ++ moved_checks R xs a c y) ≡ is_some (moved R xs es a c y)
+moved_asked R xs es a c y h k =
+    asked_append (equal_argument_checks R xs es) (moved_checks R xs a c y)
+    ∙ ap₂ (λ u v. u && v) (equal_arguments_asked R xs es h) (moved_fits R xs a c y k)
+    ∙ sym (and_assoc (nat_lt (length xs) (length R.premises)) (are_arguments (first_premises R xs) xs && start_all xs es) (fits y (boundary_after R xs a)))
+    ∙ sym (when_some (nat_lt (length xs) (length R.premises) && (are_arguments (first_premises R xs) xs && start_all xs es && fits y (boundary_after R xs a))) _)
 
 -- applications
 no_place : (i : ℕ) → false ≡ is_some (from_one [] i)
@@ -212,13 +184,13 @@ no_place (suc i) = refl
 with_result : (b : Bool) (o : Option Statement) → (b && asked (forms_result o)) ≡ b
 with_result b o = ap (λ z. b && z) (asked_result o) ∙ and-true b
 
-place_asked : (W : Store) (i : ℕ) (e : Expression) (x : Statement) → asked (place_checks W i e x) ≡ is_some (from_one (arguments_of W e) i)
+place_asked : (W : Declarations) (i : ℕ) (e : Expression) (x : Statement) → asked (place_checks W i e x) ≡ is_some (from_one (arguments_of W e) i)
 place_asked W i (bound j) x = no_place i
 place_asked W i (free v) x = no_place i
 place_asked W i (symbol r a) x = with_result (is_some (from_one (arguments_of W (symbol r a)) i)) (argument W i x)
 place_asked W i (meta m a) x = with_result (is_some (from_one (arguments_of W (meta m a)) i)) (argument W i x)
 
-argument_asked : (W : Store) (i : ℕ) (x : Statement) → asked (application_checks W i x) ≡ is_some (argument W i x)
+argument_asked : (W : Declarations) (i : ℕ) (x : Statement) → asked (application_checks W i x) ≡ is_some (argument W i x)
 argument_asked W i (plain (is_type e)) = place_asked W i e (plain (is_type e))
 argument_asked W i (plain (has_type e A)) = place_asked W i e (plain (has_type e A))
 argument_asked W i x = refl
@@ -227,7 +199,7 @@ natural_expression : (o : Option Expression) → asked (forms_natural o) ≡ is_
 natural_expression None = refl
 natural_expression (Some N) = refl
 
-natural_asked : (W : Store) (x : Statement) → asked (natural_checks W x) ≡ is_some (natural W x)
+natural_asked : (W : Declarations) (x : Statement) → asked (natural_checks W x) ≡ is_some (natural W x)
 natural_asked W (plain (has_type e A)) = natural_expression (natural_type W e) ∙ sym (is_some-option_map (λ N. plain (equal_types N A)) (natural_type W e))
 natural_asked W x = refl
 
@@ -241,7 +213,7 @@ instantiated_asked ms p xs h k =
     ∙ sym (when_some (differ (atoms ms) && on_earlier [] ms && is_within p.set (atoms ms) && are_arguments (premises_of ms) xs) _)
 
 -- each row
-row : (W : Store) (s : Resolved) → all_theses (theses s) ≡ true → all_boundaries (boundaries s) ≡ true → instance_allowed s ≡ true → asked (checks W s) ≡ is_some (conclusion W s)
+row : (W : Declarations) (s : Resolved) → all_theses (theses s) ≡ true → all_boundaries (boundaries s) ≡ true → instance_allowed s ≡ true → asked (checks W s) ≡ is_some (conclusion W s)
 row W (by_var v) h b i = refl
 row W (by_generic m) h b i = application_asked (is_object m.1.boundary) (meta m.0 (bounds (domain_count m.1.boundary)))
 row W (by_meta m ps) h b i = meta_asked m.0 m.1.boundary (statements ps)
@@ -279,7 +251,7 @@ row W (by_natural p) h b i = natural_asked W p.statement
 row W (by_metainst p ms qs) h b i = instantiated_asked ms p (statements qs) (theses_of qs h) i
 
 -- A call that may be made asks what its row asks.
-pub asks_its_row : (W : Store) (s : Resolved) → may_be_made s ≡ true → asked (checks W s) ≡ is_some (conclusion W s)
+pub asks_its_row : (W : Declarations) (s : Resolved) → may_be_made s ≡ true → asked (checks W s) ≡ is_some (conclusion W s)
 asks_its_row W s h =
     let k : (of_kind s ≡ true) × (instance_allowed s ≡ true) = and_parts (of_kind s) (instance_allowed s) h in
     let l : (all_theses (theses s) ≡ true) × (all_boundaries (boundaries s) ≡ true) = and_parts (all_theses (theses s)) (all_boundaries (boundaries s)) k.0 in

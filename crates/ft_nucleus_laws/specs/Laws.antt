@@ -6,19 +6,19 @@ use Rattle.ft_theory.specs.Rules.{look_up, Rule}
 use Rattle.ft_items.specs.Sets.{Atom, var, Has, precedes, Ascending}
 use Rattle.ft_items.specs.Equal.{is_thesis, is_plain, is_object, head}
 use Rattle.ft_items.specs.Item.{Name, Stated, Item, variable, metavariable, rule, entry, by_generic}
-use Rattle.ft_items.specs.Store.{Assertion, Annotation, Declared, Store, entry_named, variable_named, metavariable_named, rule_named, each, resolve, Resolved, Derivable, store_of}
+use Rattle.ft_items.specs.Store.{Assertion, Annotation, Declared, entry_named, variable_named, metavariable_named, rule_named, each, resolve, Resolved, Derivable, store_of, Declarations, declared_variable, declared_by}
 use Rattle.ft_items.specs.Rows.{rests_on, atoms, differ, on_earlier}
 use Rattle.ft_items.specs.Good.{given, is_next, is_new, Allowed, Good}
 use Rattle.ft_reference.specs.Refusals.{Refusal, TooBig, Check, holds, refusal_of, first_refusal, formed, AllSmall}
 use Rattle.ft_reference.specs.Compare.{fit_checks}
 use Rattle.ft_reference.specs.Checks.{first_dependent, checks}
 use Rattle.ft_reference.specs.Calls.{may_be_made, answer}
-use Rattle.ft_reference.specs.Declare.{Outcome, Duplicate, TooMany, OpenPremise, OpenConclusion, Draft, declared_variable, new_variable, next_metavariable, new_metavariable, first_variable, first_outside, begin, premise, next_rule, finish}
+use Rattle.ft_reference.specs.Declare.{Outcome, Duplicate, TooMany, OpenPremise, OpenConclusion, Draft, new_variable, next_metavariable, new_metavariable, first_variable, first_outside, begin, premise, next_rule, finish}
 
--- A call answers a statement and its set exactly where its row gives these after the store's items and all that it forms is
+-- A call answers a statement and its set exactly where its row gives these over the declarations and all that it forms is
 -- small.
 abbrev pub AnswersItsRow : Type 0
-AnswersItsRow = (W : Store) (s : Resolved) (a : Assertion) → (answer W s ≡ Ok a) ↔ ((given W s ≡ Some a) × AllSmall (formed (checks W s)))
+AnswersItsRow = (W : Declarations) (s : Resolved) (a : Assertion) → (answer W s ≡ Ok a) ↔ ((given W s ≡ Some a) × AllSmall (formed (checks W s)))
 
 -- the tests of these checks hold
 abbrev pub AllHold : List Check → Type 0
@@ -32,16 +32,16 @@ FailsFirst cs r = (before : List Check) × (c : Check) × (after : List Check) �
 -- A call that may be made refuses exactly where one of its checks fails and those before it hold, with the refusal of that
 -- check.
 abbrev pub RefusesFirst : Type 0
-RefusesFirst = (W : Store) (s : Resolved) (r : Refusal) → may_be_made s ≡ true → (answer W s ≡ Err r) ↔ FailsFirst (checks W s) r
+RefusesFirst = (W : Declarations) (s : Resolved) (r : Refusal) → may_be_made s ≡ true → (answer W s ≡ Err r) ↔ FailsFirst (checks W s) r
 
--- Over the store of a good list, what a call on its statements answers is derivable by primitive steps over the rules, in the
+-- Over the declarations of a good list, what a call on its statements answers is derivable by primitive steps over the rules, in the
 -- context of its set.
 abbrev pub AnswersDerivable : Type 0
-AnswersDerivable = (items : List Item) → Good items → (n : Stated) (s : Resolved) (a : Assertion) → resolve (store_of items) n ≡ Some s → answer (store_of items) s ≡ Ok a → Derivable (store_of items) a.statement a.set
+AnswersDerivable = (items : List Item) → Good items → (n : Stated) (s : Resolved) (a : Assertion) → resolve (store_of items) n ≡ Some s → answer (declared_by items) s ≡ Ok a → Derivable (declared_by items) a.statement a.set
 
 -- What it answers may be added to the list as an item.
 abbrev pub AnswersAllowed : Type 0
-AnswersAllowed = (items : List Item) → Good items → (n : Stated) (s : Resolved) (a : Assertion) → resolve (store_of items) n ≡ Some s → answer (store_of items) s ≡ Ok a
+AnswersAllowed = (items : List Item) → Good items → (n : Stated) (s : Resolved) (a : Assertion) → resolve (store_of items) n ≡ Some s → answer (declared_by items) s ≡ Ok a
     → Good (items ++ (entry (record { statement = a.statement; set = a.set; step = n }) ∷ []))
 
 -- A thesis fits a boundary exactly where the boundary filled with the thesis's head is the thesis.
@@ -54,75 +54,76 @@ FitsIsFilling = (x b : Statement) → is_thesis x ≡ true → is_thesis b ≡ f
 abbrev pub LeavesOld : {S A E : Type 0} → S → Outcome S A E → Type 0
 LeavesOld {S} {A} {E} old o = (e : E) → o.answer ≡ Err e → o.after ≡ old
 
--- A refusal leaves the store, and the draft of a rule, as they are.
+-- A refusal leaves the declarations, and the draft of a rule, as they are.
 abbrev pub RefusalsChangeNothing : Type 0
-RefusalsChangeNothing = (W : Store) (d : Draft) (v : ℕ) (n : Name) (p : Assertion) → LeavesOld W (new_variable W v n p) × LeavesOld W (new_metavariable W n p) × LeavesOld W (begin W n) × LeavesOld (W, d) (premise W d n p) × LeavesOld W (finish W d p)
+RefusalsChangeNothing = (W : Declarations) (d : Draft) (v : ℕ) (n : Name) (p : Assertion) → LeavesOld W (new_variable W v n p) × LeavesOld W (new_metavariable W n p) × LeavesOld W (begin W n) × LeavesOld (W, d) (premise W d n p) × LeavesOld W (finish W d p)
 
--- A variable of the next number is made exactly where the item is allowed, and the store is then that of the
--- longer list.
+-- A variable of the next number is made exactly where the item is allowed, and the declarations are then those of the longer
+-- list.
 abbrev pub VariablesAllowed : Type 0
-VariablesAllowed = (items : List Item) (v p : ℕ) (n : Name) (a : Assertion) → is_next (store_of items).variables v ≡ true → entry_named (store_of items) p ≡ Some a
-    → ((new_variable (store_of items) v n a).answer ≡ Ok (v, declared_variable n a)) ↔ (Allowed items (variable v n p) × ((new_variable (store_of items) v n a).after ≡ store_of (items ++ (variable v n p ∷ []))))
+VariablesAllowed = (items : List Item) (v p : ℕ) (n : Name) (a : Assertion) → is_next (declared_by items).variables v ≡ true → entry_named (store_of items) p ≡ Some a
+    → ((new_variable (declared_by items) v n a).answer ≡ Ok (v, declared_variable n a)) ↔ (Allowed items (variable v n p) × ((new_variable (declared_by items) v n a).after ≡ declared_by (items ++ (variable v n p ∷ []))))
 
 -- The same for a metavariable with a boundary.
 abbrev pub MetavariablesAllowed : Type 0
 MetavariablesAllowed = (items : List Item) (p : ℕ) (n : Name) (a : Assertion) → is_thesis a.statement ≡ false → entry_named (store_of items) p ≡ Some a
-    → ((new_metavariable (store_of items) n a).answer ≡ Ok (next_metavariable (store_of items) n a)) ↔ (Allowed items (metavariable n p) × ((new_metavariable (store_of items) n a).after ≡ store_of (items ++ (metavariable n p ∷ []))))
+    → ((new_metavariable (declared_by items) n a).answer ≡ Ok (next_metavariable (declared_by items) n a)) ↔ (Allowed items (metavariable n p) × ((new_metavariable (declared_by items) n a).after ≡ declared_by (items ++ (metavariable n p ∷ []))))
 
 -- the numbers of metavariables
 abbrev pub numbers : List (ℕ × Declared) → List ℕ
 numbers [] = []
 numbers (d ∷ ds) = d.0 ∷ numbers ds
 
--- The draft's metavariables are those of the store, they differ, and each rests on earlier ones alone.
-pub record IsDraft (W : Store) (d : Draft) : Type 0 where
+-- The draft's metavariables are declared, they differ, and each rests on earlier ones alone.
+pub record IsDraft (W : Declarations) (d : Draft) : Type 0 where
   pub named : each (metavariable_named W) (numbers d.premises) ≡ Some d.premises
   pub different : differ (atoms d.premises) ≡ true
   pub ordered : on_earlier [] d.premises ≡ true
 
 -- A draft that is begun is one, and with each premise that is made it stays one.
 abbrev pub DraftsGrow : Type 0
-DraftsGrow = ((W : Store) (n : Name) (d : Draft) → (begin W n).answer ≡ Ok d → IsDraft W d)
-    × ((W : Store) (d : Draft) (n : Name) (b : Assertion) (m : ℕ × Declared) → IsDraft W d → (premise W d n b).answer ≡ Ok m → IsDraft (premise W d n b).after.0 (premise W d n b).after.1)
+DraftsGrow = ((W : Declarations) (n : Name) (d : Draft) → (begin W n).answer ≡ Ok d → IsDraft W d)
+    × ((W : Declarations) (d : Draft) (n : Name) (b : Assertion) (m : ℕ × Declared) → IsDraft W d → (premise W d n b).answer ≡ Ok m → IsDraft (premise W d n b).after.0 (premise W d n b).after.1)
 
 -- And it stays one as the list goes on, by whatever items.
 abbrev pub DraftsStay : Type 0
-DraftsStay = (items more : List Item) (d : Draft) → IsDraft (store_of items) d → IsDraft (store_of (items ++ more)) d
+DraftsStay = (items more : List Item) (d : Draft) → IsDraft (declared_by items) d → IsDraft (declared_by (items ++ more)) d
 
 -- the item of a draft with the entry of its conclusion
 abbrev pub drafted : Draft → ℕ → Item
 drafted d p = rule d.name (numbers d.premises) p
 
--- A draft finishes with a plain boundary exactly where its rule is allowed, and the store is then that of the longer list.
+-- A draft finishes with a plain boundary exactly where its rule is allowed, and the declarations are then those of the longer
+-- list.
 abbrev pub FinishesAllowed : Type 0
-FinishesAllowed = (items : List Item) (d : Draft) (p : ℕ) (c : Assertion) → IsDraft (store_of items) d → entry_named (store_of items) p ≡ Some c → is_thesis c.statement ≡ false → is_plain c.statement ≡ true
-    → ((finish (store_of items) d c).answer ≡ Ok (next_rule (store_of items) d.premises c)) ↔ (Allowed items (drafted d p) × ((finish (store_of items) d c).after ≡ store_of (items ++ (drafted d p ∷ []))))
+FinishesAllowed = (items : List Item) (d : Draft) (p : ℕ) (c : Assertion) → IsDraft (declared_by items) d → entry_named (store_of items) p ≡ Some c → is_thesis c.statement ≡ false → is_plain c.statement ≡ true
+    → ((finish (declared_by items) d c).answer ≡ Ok (next_rule (declared_by items) d.premises c)) ↔ (Allowed items (drafted d p) × ((finish (declared_by items) d c).after ≡ declared_by (items ++ (drafted d p ∷ []))))
 
 -- So, after a good list, the rules stay a finitary theory, whether the draft finishes or not.
 abbrev pub FinishedIsFinitary : Type 0
-FinishedIsFinitary = (items : List Item) (d : Draft) (p : ℕ) (c : Assertion) (k : ℕ) → Good items → IsDraft (store_of items) d → entry_named (store_of items) p ≡ Some c → is_thesis c.statement ≡ false → is_plain c.statement ≡ true
-    → FinitaryUpTo k (finish (store_of items) d c).after.rules
+FinishedIsFinitary = (items : List Item) (d : Draft) (p : ℕ) (c : Assertion) (k : ℕ) → Good items → IsDraft (declared_by items) d → entry_named (store_of items) p ≡ Some c → is_thesis c.statement ≡ false → is_plain c.statement ≡ true
+    → FinitaryUpTo k (finish (declared_by items) d c).after.rules
 
--- What a declaration answers: what the store that it leaves has under the number.
+-- What a declaration answers: what stands under the number in the declarations that it leaves.
 
 -- for a variable of the next number
 abbrev pub VariableIsThere : Type 0
-VariableIsThere = (W : Store) (v : ℕ) (n : Name) (p : Assertion) (x : ℕ × Annotation) → is_next W.variables v ≡ true → (new_variable W v n p).answer ≡ Ok x
+VariableIsThere = (W : Declarations) (v : ℕ) (n : Name) (p : Assertion) (x : ℕ × Annotation) → is_next W.variables v ≡ true → (new_variable W v n p).answer ≡ Ok x
     → variable_named (new_variable W v n p).after v ≡ Some x
 
 -- for a metavariable
 abbrev pub MetavariableIsThere : Type 0
-MetavariableIsThere = (W : Store) (n : Name) (b : Assertion) (m : ℕ × Declared) → (new_metavariable W n b).answer ≡ Ok m
+MetavariableIsThere = (W : Declarations) (n : Name) (b : Assertion) (m : ℕ × Declared) → (new_metavariable W n b).answer ≡ Ok m
     → metavariable_named (new_metavariable W n b).after (length W.metavariables) ≡ Some m
 
 -- for a premise, which the draft has as its last one
 abbrev pub PremiseIsThere : Type 0
-PremiseIsThere = (W : Store) (d : Draft) (n : Name) (b : Assertion) (m : ℕ × Declared) → (premise W d n b).answer ≡ Ok m
+PremiseIsThere = (W : Declarations) (d : Draft) (n : Name) (b : Assertion) (m : ℕ × Declared) → (premise W d n b).answer ≡ Ok m
     → (metavariable_named (premise W d n b).after.0 (length W.metavariables) ≡ Some m) × ((premise W d n b).after.1.premises ≡ d.premises ++ (m ∷ []))
 
 -- for a rule
 abbrev pub RuleIsThere : Type 0
-RuleIsThere = (W : Store) (d : Draft) (c : Assertion) (r : ℕ × Rule) → (finish W d c).answer ≡ Ok r
+RuleIsThere = (W : Declarations) (d : Draft) (c : Assertion) (r : ℕ × Rule) → (finish W d c).answer ≡ Ok r
     → rule_named (finish W d c).after (length W.rules) ≡ Some r
 
 -- Which refusals name an atom: the least one.
@@ -160,7 +161,7 @@ Answers o r = o.answer ≡ r
 -- A rule of a name that is there is refused, and after 65,536 rules each other; first when its draft is begun, and again when
 -- it is finished.
 abbrev pub NamesRefused : Type 0
-NamesRefused = (W : Store) (d : Draft) (c : Assertion) →
+NamesRefused = (W : Declarations) (d : Draft) (c : Assertion) →
     (Answers (begin W d.name) (Err Duplicate) ↔ (is_new W.names d.name ≡ false))
     × (Answers (begin W d.name) (Err TooMany) ↔ ((is_new W.names d.name ≡ true) × (65536 ≤ length W.rules)))
     × (Answers (finish W d c) (Err Duplicate) ↔ (is_new W.names d.name ≡ false))
@@ -169,10 +170,10 @@ NamesRefused = (W : Store) (d : Draft) (c : Assertion) →
 -- A premise or a conclusion is refused where it rests on an atom that is none of the draft's metavariables; the conclusion after
 -- the name and the number of rules.
 abbrev pub OpenRefused : Type 0
-OpenRefused = (W : Store) (d : Draft) (n : Name) (b : Assertion) (a : Atom) →
+OpenRefused = (W : Declarations) (d : Draft) (n : Name) (b : Assertion) (a : Atom) →
     (Answers (premise W d n b) (Err (OpenPremise (suc (length d.premises)) a)) ↔ (first_outside (atoms d.premises) b.set ≡ Some a))
     × (Answers (finish W d b) (Err (OpenConclusion a)) ↔ ((is_new W.names d.name ≡ true) × (length W.rules < 65536) × (first_outside (atoms d.premises) b.set ≡ Some a)))
 
 -- The generic application of a metavariable of a type or a term with 65,536 domains or more is too big.
 abbrev pub WideRefused : Type 0
-WideRefused = (W : Store) (m : ℕ) (d : Declared) → is_object d.boundary ≡ true → 65536 ≤ domain_count d.boundary → answer W (by_generic (m, d)) ≡ Err TooBig
+WideRefused = (W : Declarations) (m : ℕ) (d : Declared) → is_object d.boundary ≡ true → 65536 ≤ domain_count d.boundary → answer W (by_generic (m, d)) ≡ Err TooBig

@@ -4,11 +4,11 @@ use Rattle.ft_theory.specs.Expressions.{bound, free}
 use Rattle.ft_theory.specs.Statements.{has_type, type_goal, term_goal, term_equation_goal, plain, abstracted}
 use Rattle.ft_items.specs.Sets.{met, var}
 use Rattle.ft_items.specs.Item.{by_var, by_generic, by_meta, by_metacong, by_abs, by_subst, by_substeq, by_refl, by_sym, by_trans, by_conv, by_conveq, by_left, by_right, by_typeof, by_domain, by_boundary, by_widen, by_btype, by_bterm, by_beqty, by_beqtm, by_rule, by_rulewith, by_inst, by_cong, by_convprem, by_convback, by_arg, by_natural, by_metainst}
-use Rattle.ft_items.specs.Store.{Assertion, Store, empty_store}
+use Rattle.ft_items.specs.Store.{Assertion, Declarations, no_declarations}
 use Rattle.ft_items.specs.Worked.{Nat, O, S}
 use Rattle.ft_reference.specs.Refusals.{WrongForm, NotAbstracted, TypeDiffers, SidesDiffer, DependentVariable, OpenBoundary, ArgumentCount, TooBig, NotApplication}
 use Rattle.ft_reference.specs.Declare.{Duplicate, OpenPremise, OpenConclusion, Draft, new_variable, new_metavariable, begin, premise, finish}
-use Rattle.ft_nucleus_laws.specs.Worked.{Vec, Sum, Fix, Bool, alone, at_one, nat_rule, successor_rule, fixed_rule, sum_rule, fix_rule, x_annotation, y_annotation, term_metavariable, equation_metavariable, declared, store, of, type_of, term_of, types_of, terms_of, under, type_boundary, term_boundary_of, types_boundary_of, terms_boundary_of, x_term, numeral, big, differs, ok, refused, Answer, AnswerOver, dependent_store}
+use Rattle.ft_nucleus_laws.specs.Worked.{Vec, Sum, Fix, Bool, alone, at_one, nat_rule, successor_rule, fixed_rule, sum_rule, fix_rule, x_annotation, y_annotation, term_metavariable, equation_metavariable, declared, declarations, of, type_of, term_of, types_of, terms_of, under, type_boundary, term_boundary_of, types_boundary_of, terms_boundary_of, x_term, numeral, big, differs, ok, refused, Answer, AnswerOver, dependent_declarations}
 
 -- variables and metavariables
 abbrev pub VariableRows : Type 0
@@ -193,7 +193,7 @@ ApplicationRows = Answer (
 
 -- types by declaration that rest on an argument
 abbrev pub NaturalRows : Type 0
-NaturalRows = AnswerOver dependent_store (
+NaturalRows = AnswerOver dependent_declarations (
     (by_natural (term_of (at_one 9 O) Nat), ok (types_of (Vec O) Nat))
     ∷ (by_natural (term_of (at_one 9 big) Nat), refused TooBig)
     ∷ [])
@@ -209,32 +209,32 @@ open_boundary = of (plain (term_equation_goal (free 4) (free 4) Nat)) (var 4 ∷
 abbrev pub nat_draft : Draft
 nat_draft = record { name = codes "Nat"; premises = [] }
 
-abbrev pub one_rule : Store
-one_rule = record empty_store { rules = nat_rule ∷ []; names = codes "Nat" ∷ [] }
+abbrev pub one_rule : Declarations
+one_rule = record no_declarations { rules = nat_rule ∷ []; names = codes "Nat" ∷ [] }
 
 abbrev pub successor_draft : Draft
 successor_draft = record { name = codes "S"; premises = (0, record { name = codes "n"; boundary = plain (term_goal Nat); set = [] }) ∷ [] }
 
-abbrev pub one_metavariable : Store
+abbrev pub one_metavariable : Declarations
 one_metavariable = record one_rule { metavariables = record { name = codes "n"; boundary = plain (term_goal Nat); set = [] } ∷ [] }
 
-abbrev pub two_rules : Store
+abbrev pub two_rules : Declarations
 two_rules = record one_metavariable { rules = nat_rule ∷ successor_rule ∷ []; names = codes "Nat" ∷ codes "S" ∷ [] }
 
 abbrev pub DraftRows : Type 0
-DraftRows = (begin empty_store (codes "Nat") ≡ record { after = empty_store; answer = Ok nat_draft })
-    × (finish empty_store nat_draft type_boundary ≡ record { after = one_rule; answer = Ok (0, nat_rule) })
+DraftRows = (begin no_declarations (codes "Nat") ≡ record { after = no_declarations; answer = Ok nat_draft })
+    × (finish no_declarations nat_draft type_boundary ≡ record { after = one_rule; answer = Ok (0, nat_rule) })
     × (begin one_rule (codes "Nat") ≡ record { after = one_rule; answer = Err Duplicate })
     × (premise one_rule (record { name = codes "S"; premises = [] }) (codes "n") (term_boundary_of Nat) ≡ record { after = (one_metavariable, successor_draft); answer = Ok (0, record { name = codes "n"; boundary = plain (term_goal Nat); set = [] }) })
     × (finish one_metavariable successor_draft (term_boundary_of Nat) ≡ record { after = two_rules; answer = Ok (1, successor_rule) })
     × (finish one_rule nat_draft type_boundary ≡ record { after = one_rule; answer = Err Duplicate })
-    × (premise store nat_draft (codes "p") open_boundary ≡ record { after = (store, nat_draft); answer = Err (OpenPremise 1 (var 4)) })
+    × (premise declarations nat_draft (codes "p") open_boundary ≡ record { after = (declarations, nat_draft); answer = Err (OpenPremise 1 (var 4)) })
     × (premise one_metavariable successor_draft (codes "p") (of (plain type_goal) (met 0 ∷ met 3 ∷ var 4 ∷ [])) ≡ record { after = (one_metavariable, successor_draft); answer = Err (OpenPremise 2 (met 3)) })
     × (finish one_metavariable successor_draft open_boundary ≡ record { after = one_metavariable; answer = Err (OpenConclusion (var 4)) })
 
 -- variables and metavariables
 abbrev pub NewRows : Type 0
-NewRows = (new_variable store 9 (codes "z") (type_of Nat) ≡ record { after = record store { variables = store.variables ++ ((9, record { name = codes "z"; annotation = Nat; set = [] }) ∷ []) }; answer = Ok (9, record { name = codes "z"; annotation = Nat; set = [] }) })
-    × (new_variable store 9 (codes "z") (term_of O Nat) ≡ record { after = store; answer = Err WrongForm })
-    × (new_metavariable store (codes "m") type_boundary ≡ record { after = record store { metavariables = store.metavariables ++ (record { name = codes "m"; boundary = plain type_goal; set = [] } ∷ []) }; answer = Ok (9, record { name = codes "m"; boundary = plain type_goal; set = [] }) })
-    × (new_metavariable store (codes "m") open_boundary ≡ record { after = store; answer = Err (OpenBoundary 4) })
+NewRows = (new_variable declarations 9 (codes "z") (type_of Nat) ≡ record { after = record declarations { variables = declarations.variables ++ ((9, record { name = codes "z"; annotation = Nat; set = [] }) ∷ []) }; answer = Ok (9, record { name = codes "z"; annotation = Nat; set = [] }) })
+    × (new_variable declarations 9 (codes "z") (term_of O Nat) ≡ record { after = declarations; answer = Err WrongForm })
+    × (new_metavariable declarations (codes "m") type_boundary ≡ record { after = record declarations { metavariables = declarations.metavariables ++ (record { name = codes "m"; boundary = plain type_goal; set = [] } ∷ []) }; answer = Ok (9, record { name = codes "m"; boundary = plain type_goal; set = [] }) })
+    × (new_metavariable declarations (codes "m") open_boundary ≡ record { after = declarations; answer = Err (OpenBoundary 4) })

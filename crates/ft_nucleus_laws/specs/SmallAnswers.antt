@@ -4,7 +4,7 @@ use Rattle.ft_theory.specs.Expressions.{Expression, close_at}
 use Rattle.ft_theory.specs.Statements.{domain_count}
 use Rattle.ft_theory.specs.Small.{depth, size, IsSmall}
 use Rattle.ft_items.specs.Item.{by_var, by_generic, by_meta, by_metacong, by_abs, by_subst, by_substeq, by_refl, by_sym, by_trans, by_conv, by_conveq, by_left, by_right, by_typeof, by_domain, by_boundary, by_widen, by_btype, by_bterm, by_beqty, by_beqtm, by_rule, by_rulewith, by_inst, by_cong, by_convprem, by_convback, by_arg, by_natural, by_metainst}
-use Rattle.ft_items.specs.Store.{Assertion, Annotation, Store, Resolved}
+use Rattle.ft_items.specs.Store.{Assertion, Annotation, Resolved, Declarations}
 use Rattle.ft_reference.specs.Refusals.{AllSmall, expressions}
 use Rattle.ft_reference.specs.Calls.{answer}
 
@@ -55,7 +55,7 @@ is_abstraction s = false
 -- Where all that a call has is small, all that it answers is; abstraction is left out, since a bound number counts the domains
 -- around it, of which there may be any number. The laws below say how many there may be.
 abbrev pub AnswersSmall : Type 0
-AnswersSmall = (W : Store) (s : Resolved) (a : Assertion) → is_abstraction s ≡ false → AllSmall (given_expressions s) → answer W s ≡ Ok a → AllSmall (expressions a.statement)
+AnswersSmall = (W : Declarations) (s : Resolved) (a : Assertion) → is_abstraction s ≡ false → AllSmall (given_expressions s) → answer W s ≡ Ok a → AllSmall (expressions a.statement)
 
 -- Closing an expression over a variable changes neither its depth nor its size.
 abbrev pub ClosingKeepsSize : Type 0
@@ -68,5 +68,5 @@ ClosingKeepsSmall = (e : Expression) (k v : ℕ) → k + 1000 * 2 ^ 32 < 2 ^ 64 
 
 -- So abstraction answers small expressions where it has small ones, for each statement with at most so many domains.
 abbrev pub AbstractionsSmall : Type 0
-AbstractionsSmall = (W : Store) (v : ℕ × Annotation) (p a : Assertion) → domain_count p.statement + 1000 * 2 ^ 32 < 2 ^ 64
+AbstractionsSmall = (W : Declarations) (v : ℕ × Annotation) (p a : Assertion) → domain_count p.statement + 1000 * 2 ^ 32 < 2 ^ 64
     → AllSmall (given_expressions (by_abs v p)) → answer W (by_abs v p) ≡ Ok a → AllSmall (expressions a.statement)

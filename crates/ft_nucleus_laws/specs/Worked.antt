@@ -1,10 +1,10 @@
--- A store to work in: the natural numbers with some further rules, metavariables and variables; and short forms of statements.
+-- Declarations to work with: the natural numbers with some further rules, metavariables and variables; and short forms of statements.
 use Rattle.std.specs.Prelude.{ℕ, zero, suc, List, [], ◌∷◌, ◌++◌, map, codes, Result, Ok, Err, ◌≡◌}
 use Rattle.ft_theory.specs.Expressions.{Expression, bound, free, symbol, meta, no_arguments, with_body, dummy, no_terms, also}
 use Rattle.ft_theory.specs.Statements.{is_type, has_type, equal_types, equal_terms, type_goal, term_goal, type_equation_goal, term_equation_goal, Statement, plain, abstracted}
 use Rattle.ft_theory.specs.Rules.{Rule}
 use Rattle.ft_items.specs.Sets.{Atom, var}
-use Rattle.ft_items.specs.Store.{Assertion, Annotation, Declared, Store, Resolved}
+use Rattle.ft_items.specs.Store.{Assertion, Annotation, Declared, Resolved, Declarations}
 use Rattle.ft_items.specs.Worked.{Nat, O, S}
 use Rattle.ft_reference.specs.Refusals.{Differ, Refusal}
 use Rattle.ft_reference.specs.Calls.{answer}
@@ -79,14 +79,13 @@ term_metavariable = declared (abstracted Nat (plain (term_goal Nat)))
 abbrev pub equation_metavariable : Declared
 equation_metavariable = declared (abstracted Nat (plain (term_equation_goal (bound 0) (bound 0) Nat)))
 
--- the store
-abbrev pub store : Store
-store = record {
+-- the declarations
+abbrev pub declarations : Declarations
+declarations = record {
   rules = nat_rule ∷ zero_rule ∷ successor_rule ∷ vector_rule ∷ fixed_rule ∷ sum_rule ∷ fix_rule ∷ nat_rule ∷ [];
   names = codes "Nat" ∷ codes "O" ∷ codes "S" ∷ codes "Vec" ∷ codes "fixed" ∷ codes "Sum" ∷ codes "Fix" ∷ codes "Bool" ∷ [];
   metavariables = declared (plain (term_goal Nat)) ∷ declared (plain (term_goal Nat)) ∷ declared (plain (term_goal Nat)) ∷ declared (plain type_goal) ∷ declared (abstracted (alone 3) (plain type_goal)) ∷ declared (plain (term_goal Nat)) ∷ declared (plain (term_equation_goal (S (alone 5)) (alone 5) Nat)) ∷ term_metavariable ∷ equation_metavariable ∷ [];
   variables = (4, x_annotation) ∷ (7, y_annotation) ∷ [];
-  entries = [];
 }
 
 -- a statement with its set
@@ -147,13 +146,13 @@ ok a = Ok a
 abbrev pub refused : Refusal → Result Assertion Refusal
 refused r = Err r
 
--- each call over a store answers what stands beside it
-abbrev pub AnswerOver : Store → List (Resolved × Result Assertion Refusal) → Type 0
+-- each call over the declarations answers what stands beside it
+abbrev pub AnswerOver : Declarations → List (Resolved × Result Assertion Refusal) → Type 0
 AnswerOver W ps = map (λ (p : Resolved × Result Assertion Refusal). answer W p.0) ps ≡ map (λ (p : Resolved × Result Assertion Refusal). p.1) ps
 
 abbrev pub Answer : List (Resolved × Result Assertion Refusal) → Type 0
-Answer ps = AnswerOver store ps
+Answer ps = AnswerOver declarations ps
 
--- the store with metavariable 9, a term over {x : Nat} of type Vec at x
-abbrev pub dependent_store : Store
-dependent_store = record store { metavariables = store.metavariables ++ (declared (abstracted Nat (plain (term_goal (Vec (bound 0))))) ∷ []) }
+-- the declarations with metavariable 9, a term over {x : Nat} of type Vec at x
+abbrev pub dependent_declarations : Declarations
+dependent_declarations = record declarations { metavariables = declarations.metavariables ++ (declared (abstracted Nat (plain (term_goal (Vec (bound 0))))) ∷ []) }

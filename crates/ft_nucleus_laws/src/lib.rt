@@ -5,7 +5,7 @@ ghost use Rattle.ft_nucleus_laws.specs.Laws.{AnswersItsRow, RefusesFirst, Answer
 ghost use Rattle.ft_nucleus_laws.specs.SmallAnswers.{AnswersSmall, ClosingKeepsSize, ClosingKeepsSmall, AbstractionsSmall};
 ghost use Rattle.ft_nucleus_laws.specs.Rows.{VariableRows, SubstitutionRows, EqualityRows, SideRows, RuleRows, DeepRows, CongruenceRows, ApplicationRows, NaturalRows, DraftRows, NewRows};
 
-/// A call answers a statement and its set exactly where its row gives these after the store's items and all that it forms is small.
+/// A call answers a statement and its set exactly where its row gives these over the declarations and all that it forms is small.
 pub fn answers_its_row()
     ensures law { AnswersItsRow }
 {}
@@ -15,7 +15,7 @@ pub fn refuses_first()
     ensures law { RefusesFirst }
 {}
 
-/// Over the store of a good list, what a call answers is derivable by primitive steps over the rules, in the context of its set.
+/// Over the declarations of a good list, what a call answers is derivable by primitive steps over the rules, in the context of its set.
 pub fn answers_derivable()
     ensures law { AnswersDerivable }
 {}
@@ -30,17 +30,17 @@ pub fn fits_is_filling()
     ensures law { FitsIsFilling }
 {}
 
-/// A refusal leaves the store, and the draft of a rule, as they are.
+/// A refusal leaves the declarations, and the draft of a rule, as they are.
 pub fn refusals_change_nothing()
     ensures law { RefusalsChangeNothing }
 {}
 
-/// A variable is made exactly where its item is allowed; the store is then that of the longer list.
+/// A variable is made exactly where its item is allowed; the declarations are then those of the longer list.
 pub fn variables_allowed()
     ensures law { VariablesAllowed }
 {}
 
-/// A metavariable is made exactly where its item is allowed; the store is then that of the longer list.
+/// A metavariable is made exactly where its item is allowed; the declarations are then those of the longer list.
 pub fn metavariables_allowed()
     ensures law { MetavariablesAllowed }
 {}
@@ -55,7 +55,7 @@ pub fn drafts_stay()
     ensures law { DraftsStay }
 {}
 
-/// A draft finishes exactly where its rule is allowed; the store is then that of the longer list.
+/// A draft finishes exactly where its rule is allowed; the declarations are then those of the longer list.
 pub fn finishes_allowed()
     ensures law { FinishesAllowed }
 {}
@@ -65,7 +65,7 @@ pub fn finished_is_finitary()
     ensures law { FinishedIsFinitary }
 {}
 
-/// What a declaration answers is what the store that it leaves has under the number.
+/// What a declaration answers is what stands under the number in the declarations that it leaves.
 pub fn answers_what_is_declared()
     ensures variable { VariableIsThere }
     ensures metavariable { MetavariableIsThere }

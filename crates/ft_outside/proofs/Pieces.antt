@@ -4,7 +4,7 @@ use Rattle.std.proofs.Math.Seq.{take-add}
 use Rattle.std.proofs.lemmas.List.{take-append-drop, drop-drop}
 use Rattle.std.specs.Prelude.{Result, Ok, Err, OnErr}
 use Rattle.ft_common.proofs.Lists.{range_from}
-use Rattle.ft_outside.specs.Outside.{Gives, GivesSome, Appends, raised_count, CountsOn}
+use Rattle.ft_streams.specs.Streams.{Gives, GivesSome, Appends, raised_count, CountsOn}
 
 -- a piece, and the next one
 pub appends_next : (w w1 w2 : Option (List ℕ)) (xs : List ℕ) (a n : ℕ) → Appends w (take a xs) w1 → Appends w1 (take n (drop a xs)) w2 → Appends w (take (a + n) xs) w2

@@ -1,6 +1,6 @@
 -- Sources and sinks in memory, and the counts of adapters, as their callers see them.
 use Rattle.std.specs.Prelude.{◌≡◌, ◌<◌, ℕ, List, Option, None, Contains, length}
-use Rattle.ft_outside.specs.Outside.{raised_count}
+use Rattle.ft_streams.specs.Streams.{raised_count}
 
 -- a source in memory
 pub record SourceState : Type 0 where

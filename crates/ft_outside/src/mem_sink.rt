@@ -1,7 +1,7 @@
 //! A sink in memory, whose calls fail where that is asked for.
 ghost use Rattle.std.specs.Prelude.{◌≡◌, ◌≤◌, ◌<◌, ◌+◌, ◌-◌, ◌++◌, ◌↔◌, ◌⊎◌, [], IfOk, OnErr, IsErr, Some, length, min, take, vec_capacity};
 ghost use Rattle.ft_outside.specs.InMemory.{SinkState, IsListed, IsFull};
-ghost use Rattle.ft_outside.specs.Outside.{Rose, Appends, raised_count};
+ghost use Rattle.ft_streams.specs.Streams.{Rose, Appends, raised_count};
 
 use crate::{Failed, Sink};
 use ft_base::Memory;

@@ -1,7 +1,7 @@
 //! A source in memory, whose calls fail where that is asked for.
 ghost use Rattle.std.specs.Prelude.{◌≡◌, ◌≤◌, ◌<◌, ◌-◌, ◌↔◌, [], IfOk, OnErr, IsErr, Some, drop, length, min, take};
 ghost use Rattle.ft_outside.specs.InMemory.{SourceState, IsListed};
-ghost use Rattle.ft_outside.specs.Outside.{Rose, Gives, IsAtEnd, raised_count};
+ghost use Rattle.ft_streams.specs.Streams.{Rose, Gives, IsAtEnd, raised_count};
 
 use crate::{Failed, Source};
 use std::marker::Model;

@@ -1,7 +1,7 @@
 //! Adapters over real streams. They count, and tell nothing of the bytes.
 ghost use Rattle.std.specs.Prelude.{◌≡◌, ◌≤◌, ◌<◌, IfOk, OnOk, OnErr, length, take};
 ghost use Rattle.ft_outside.specs.InMemory.{untold_bytes};
-ghost use Rattle.ft_outside.specs.Outside.{Rose, Gives, Appends, IsAtEnd, raised_count};
+ghost use Rattle.ft_streams.specs.Streams.{Rose, Gives, Appends, IsAtEnd, raised_count};
 
 use crate::{Failed, Sink, Source};
 use std::io::{Read, Write};

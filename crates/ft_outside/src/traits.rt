@@ -1,6 +1,6 @@
 //! Sources and sinks: bytes that come in, and bytes that go out.
 ghost use Rattle.std.specs.Prelude.{◌≡◌, ◌≤◌, ◌<◌, ℕ, List, Option, length, take, IfOk, OnErr};
-ghost use Rattle.ft_outside.specs.Outside.{Rose, Gives, Appends, raised_count, IsAtEnd};
+ghost use Rattle.ft_streams.specs.Streams.{Rose, Gives, Appends, raised_count, IsAtEnd};
 
 /// A call of a source or a sink failed.
 #[derive(Clone, Copy, Debug, Drop, PartialEq, Eq)]

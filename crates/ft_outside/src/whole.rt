@@ -1,6 +1,6 @@
 //! Whole texts in and out.
 ghost use Rattle.std.specs.Prelude.{◌≡◌, ◌≤◌, ◌<◌, ◌+◌, ◌⊎◌, length, IfOk, OnOk, IfSome, OnErr, IsErrOf};
-ghost use Rattle.ft_outside.specs.Outside.{Rose, CountsOn, Gives, GivesSome, Appends, AppendsPrefix, IsAtEnd, greatest_count};
+ghost use Rattle.ft_streams.specs.Streams.{Rose, CountsOn, Gives, GivesSome, Appends, AppendsPrefix, IsAtEnd, greatest_count};
 
 use crate::{Failed, ReadErr, Sink, Source};
 use std::alloc::Global;

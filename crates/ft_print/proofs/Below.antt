@@ -3,7 +3,7 @@ use Rattle.std.proofs.Common.{◌≡◌, ◌∙◌, sym, ap, subst, ℕ, zero, s
 use Rattle.ft_common.proofs.Options.{none_some}
 use Rattle.ft_theory.specs.Expressions.{Expression}
 use Rattle.ft_theory.specs.Statements.{Claim, plain}
-use Rattle.ft_items.specs.Store.{Store}
+use Rattle.ft_items.specs.Store.{Declarations}
 use Rattle.ft_syntax.specs.Table.{tree, AllBelow}
 use Rattle.ft_judge.specs.Meaning.{under}
 use Rattle.ft_meaning.specs.Texts.{Text, claim_text, statement_text}
@@ -23,7 +23,7 @@ one_more : (n k : ℕ) → suc n + k ≡ n + suc k
 one_more n k = omega arith
 
 -- one more domain
-pub domains_next : (W : Store) (vs : List ℕ) (ts : List Expression) (n : ℕ) (ds : List ℕ) (i d : ℕ) → slice_get ds i ≡ Some d
+pub domains_next : (W : Declarations) (vs : List ℕ) (ts : List Expression) (n : ℕ) (ds : List ℕ) (i d : ℕ) → slice_get ds i ≡ Some d
     → domains_text W vs ts n (take (suc i) ds) ≡ domains_text W vs ts n (take i ds) ++ domain_text W vs (n + i) (tree ts d)
 domains_next W vs ts n [] i d g = none_some g
 domains_next W vs ts n (c ∷ ds) zero d g =
@@ -35,7 +35,7 @@ domains_next W vs ts n (c ∷ ds) (suc i) d g =
     ∙ ap (λ m. (x ++ domains_text W vs ts (suc n) (take i ds)) ++ domain_text W vs m (tree ts d)) (one_more n i)
 
 -- the domains, and then what stands below them
-under_text : (W : Store) (vs : List ℕ) (ts : List Expression) (n : ℕ) (ds : List ℕ) (c : Claim) → statement_text W vs n (under ts ds (plain c)) ≡ domains_text W vs ts n ds ++ claim_text W vs (n + length ds) c
+under_text : (W : Declarations) (vs : List ℕ) (ts : List Expression) (n : ℕ) (ds : List ℕ) (c : Claim) → statement_text W vs n (under ts ds (plain c)) ≡ domains_text W vs ts n ds ++ claim_text W vs (n + length ds) c
 under_text W vs ts n [] c = ap (λ n. claim_text W vs n c) (sym (none_more n))
 under_text W vs ts n (d ∷ ds) c =
     let x = domain_text W vs n (tree ts d) in
@@ -45,7 +45,7 @@ under_text W vs ts n (d ∷ ds) c =
 none_before : (n : ℕ) → 0 + n ≡ n
 none_before n = omega arith
 
-pub statement_written : {A E : Type 0} (r : Result A E) (W : Store) (vs : List ℕ) (ts : List Expression) (ds es : List ℕ) (c : Claim) (old mid new : Text) → ds ≡ es → mid ≡ old ++ domains_text W vs ts 0 ds
+pub statement_written : {A E : Type 0} (r : Result A E) (W : Declarations) (vs : List ℕ) (ts : List Expression) (ds es : List ℕ) (c : Claim) (old mid new : Text) → ds ≡ es → mid ≡ old ++ domains_text W vs ts 0 ds
     → OnOk r (new ≡ mid ++ claim_text W vs (length ds) c) → OnOk r (new ≡ old ++ statement_text W vs 0 (under ts es (plain c)))
 statement_written (Ok a) W vs ts ds es c old mid new same m e =
     e ∙ ap (λ z. z ++ claim_text W vs (length ds) c) m ∙ append_assoc old (domains_text W vs ts 0 ds) (claim_text W vs (length ds) c)
@@ -54,7 +54,7 @@ statement_written (Ok a) W vs ts ds es c old mid new same m e =
 statement_written (Err f) W vs ts ds es c old mid new same m e = tt
 
 -- one more domain, as it is written
-pub domain_written : (W : Store) (vs : List ℕ) (ts : List Expression) (ds : List ℕ) (i d : ℕ) (old out new : Text) → slice_get ds i ≡ Some d → out ≡ old ++ domains_text W vs ts 0 (take i ds) → new ≡ out ++ domain_text W vs i (tree ts d)
+pub domain_written : (W : Declarations) (vs : List ℕ) (ts : List Expression) (ds : List ℕ) (i d : ℕ) (old out new : Text) → slice_get ds i ≡ Some d → out ≡ old ++ domains_text W vs ts 0 (take i ds) → new ≡ out ++ domain_text W vs i (tree ts d)
     → new ≡ old ++ domains_text W vs ts 0 (take (suc i) ds)
 domain_written W vs ts ds i d old out new g o e =
     written_next old (domains_text W vs ts 0 (take i ds)) (domain_text W vs i (tree ts d)) out new (domains_text W vs ts 0 (take (suc i) ds))

@@ -3,7 +3,7 @@ use Rattle.std.proofs.Common.{◌≡◌, ◌≢◌, ◌∙◌, sym, ap, ap₂, r
 use Rattle.ft_common.proofs.Options.{none_some}
 use Rattle.ft_theory.specs.Expressions.{Expression, bound, free, symbol, meta, Arguments, no_arguments, with_body, dummy, Terms, no_terms, also}
 use Rattle.ft_theory.specs.Small.{IsSmall, NumbersFitInArguments}
-use Rattle.ft_items.specs.Store.{Store, nth}
+use Rattle.ft_items.specs.Store.{nth, Declarations}
 use Rattle.ft_syntax.specs.Arguments.{Argument, node_of, arguments_of, list_of_arguments, list_of_terms}
 use Rattle.ft_syntax.specs.Table.{BodyBelow}
 use Rattle.std.specs.Prelude.{IfSome}
@@ -23,28 +23,28 @@ none_more n = omega arith
 one_more : (n k : ℕ) → n + suc k ≡ suc n + k
 one_more n k = omega arith
 
-symbol_texts : (W : Store) (vs : List ℕ) (n : ℕ) (a : Arguments) → map (argument_text W vs n) (list_of_arguments a) ≡ argument_texts W vs n a
+symbol_texts : (W : Declarations) (vs : List ℕ) (n : ℕ) (a : Arguments) → map (argument_text W vs n) (list_of_arguments a) ≡ argument_texts W vs n a
 symbol_texts W vs n no_arguments = refl
 symbol_texts W vs n (with_body k e a) = ap (λ xs. (binders_text n k ++ expression_text W vs (n + k) e) ∷ xs) (symbol_texts W vs n a)
 symbol_texts W vs n (dummy k a) = ap (λ xs. (binders_text n k ++ codes "*") ∷ xs) (symbol_texts W vs n a)
 
-meta_texts : (W : Store) (vs : List ℕ) (n : ℕ) (a : Terms) → map (argument_text W vs n) (list_of_terms a) ≡ term_texts W vs n a
+meta_texts : (W : Declarations) (vs : List ℕ) (n : ℕ) (a : Terms) → map (argument_text W vs n) (list_of_terms a) ≡ term_texts W vs n a
 meta_texts W vs n no_terms = refl
 meta_texts W vs n (also t a) = ap₂ (λ m xs. expression_text W vs m t ∷ xs) (none_more n) (meta_texts W vs n a)
 
-pub bound_written : (W : Store) (vs : List ℕ) (n : ℕ) (t : Expression) (i : ℕ) → Bound i ≡ node_of t → codes "@" ++ decimal (n - suc i) ≡ expression_text W vs n t
+pub bound_written : (W : Declarations) (vs : List ℕ) (n : ℕ) (t : Expression) (i : ℕ) → Bound i ≡ node_of t → codes "@" ++ decimal (n - suc i) ≡ expression_text W vs n t
 bound_written W vs n (bound j) i e = let same : i ≡ j = cc in ap (λ i. codes "@" ++ decimal (n - suc i)) same
 bound_written W vs n (free v) i e = cc
 bound_written W vs n (symbol s a) i e = cc
 bound_written W vs n (meta m a) i e = cc
 
-pub free_written : (W : Store) (vs : List ℕ) (n : ℕ) (t : Expression) (v : ℕ) → Free v ≡ node_of t → variable_text W vs v ≡ expression_text W vs n t
+pub free_written : (W : Declarations) (vs : List ℕ) (n : ℕ) (t : Expression) (v : ℕ) → Free v ≡ node_of t → variable_text W vs v ≡ expression_text W vs n t
 free_written W vs n (bound j) v e = cc
 free_written W vs n (free w) v e = let same : v ≡ w = cc in ap (variable_text W vs) same
 free_written W vs n (symbol s a) v e = cc
 free_written W vs n (meta m a) v e = cc
 
-pub symbol_written : (W : Store) (vs : List ℕ) (n : ℕ) (t : Expression) (s : ℕ) (old mid new : Text) → Sym s ≡ node_of t → mid ≡ old ++ name_if_any (nth W.names s)
+pub symbol_written : (W : Declarations) (vs : List ℕ) (n : ℕ) (t : Expression) (s : ℕ) (old mid new : Text) → Sym s ≡ node_of t → mid ≡ old ++ name_if_any (nth W.names s)
     → new ≡ mid ++ arguments_text W vs n (arguments_of t) → new ≡ old ++ expression_text W vs n t
 symbol_written W vs n (bound i) s old mid new e m g = cc
 symbol_written W vs n (free v) s old mid new e m g = cc
@@ -55,7 +55,7 @@ symbol_written W vs n (symbol r a) s old mid new e m g =
     ∙ ap (λ xs. old ++ x ++ in_parentheses xs) (symbol_texts W vs n a) ∙ append_assoc old x (in_parentheses (argument_texts W vs n a))
 symbol_written W vs n (meta r a) s old mid new e m g = cc
 
-pub meta_written : (W : Store) (vs : List ℕ) (n : ℕ) (t : Expression) (s : ℕ) (old mid new : Text) → Meta s ≡ node_of t → mid ≡ old ++ metavariable_text W [] s
+pub meta_written : (W : Declarations) (vs : List ℕ) (n : ℕ) (t : Expression) (s : ℕ) (old mid new : Text) → Meta s ≡ node_of t → mid ≡ old ++ metavariable_text W [] s
     → new ≡ mid ++ arguments_text W vs n (arguments_of t) → new ≡ old ++ expression_text W vs n t
 meta_written W vs n (bound i) s old mid new e m g = cc
 meta_written W vs n (free v) s old mid new e m g = cc
@@ -77,7 +77,7 @@ binders_next n (suc k) =
     ∙ ap (λ m. (binder n ++ binders_text (suc n) k) ++ binder m) (sym (one_more n k))
 
 -- one more argument
-pub argument_written : (W : Store) (vs : List ℕ) (n : ℕ) (ps : List Argument) (i : ℕ) (p : Argument) (b old out mid then new : Text) → slice_get ps i ≡ Some p → (i ≡ 0 → b ≡ codes "(") → (i ≢ 0 → b ≡ codes ", ")
+pub argument_written : (W : Declarations) (vs : List ℕ) (n : ℕ) (ps : List Argument) (i : ℕ) (p : Argument) (b old out mid then new : Text) → slice_get ps i ≡ Some p → (i ≡ 0 → b ≡ codes "(") → (i ≢ 0 → b ≡ codes ", ")
     → out ≡ old ++ opened (map (argument_text W vs n) (take i ps)) → mid ≡ out ++ b → then ≡ mid ++ binders_text n p.0 → new ≡ then ++ body_text W vs (n + p.0) p.1
     → new ≡ old ++ opened (map (argument_text W vs n) (take (suc i) ps))
 argument_written W vs n ps i p b old out mid then new g first next o m t e =
@@ -86,7 +86,7 @@ argument_written W vs n ps i p b old out mid then new g first next o m t e =
     (e ∙ ap (λ z. z ++ body_text W vs (n + p.0) p.1) t ∙ append_assoc mid (binders_text n p.0) (body_text W vs (n + p.0) p.1))
 
 -- no argument is left
-pub arguments_closed : (W : Store) (vs : List ℕ) (n : ℕ) (ps : List Argument) (i : ℕ) (old out new : Text) → length ps ≢ 0 → length ps ≤ i
+pub arguments_closed : (W : Declarations) (vs : List ℕ) (n : ℕ) (ps : List Argument) (i : ℕ) (old out new : Text) → length ps ≢ 0 → length ps ≤ i
     → out ≡ old ++ opened (map (argument_text W vs n) (take i ps)) → new ≡ out ++ codes ")" → new ≡ old ++ arguments_text W vs n ps
 arguments_closed W vs n ps i old out new some l o e = go ps some (o ∙ ap (λ qs. old ++ opened (map (argument_text W vs n) qs)) (take_all ps i l))
   where
@@ -94,7 +94,7 @@ arguments_closed W vs n ps i old out new some l o e = go ps some (o ∙ ap (λ q
     go [] some o = absurd (some refl)
     go (p ∷ ps) some o = e ∙ ap (λ z. z ++ codes ")") o ∙ append_assoc old (opened (map (argument_text W vs n) (p ∷ ps))) (codes ")")
 
-pub arguments_none : (W : Store) (vs : List ℕ) (n : ℕ) (ps : List Argument) (i : ℕ) (old out : Text) → length ps ≡ 0 → out ≡ old ++ opened (map (argument_text W vs n) (take i ps)) → out ≡ old ++ arguments_text W vs n ps
+pub arguments_none : (W : Declarations) (vs : List ℕ) (n : ℕ) (ps : List Argument) (i : ℕ) (old out : Text) → length ps ≡ 0 → out ≡ old ++ opened (map (argument_text W vs n) (take i ps)) → out ≡ old ++ arguments_text W vs n ps
 arguments_none W vs n ps i old out l o = o ∙ go ps l
   where
     none : (i : ℕ) → opened (map (argument_text W vs n) (take i [])) ≡ []
@@ -121,7 +121,7 @@ in_terms (also t a) (suc i) p g = in_terms a i p g
 pub few_binders : (t : Expression) (i : ℕ) (p : Argument) → IsSmall t → slice_get (arguments_of t) i ≡ Some p → p.0 < 2 ^ 32
 few_binders (bound j) i p s g = none_some g
 few_binders (free v) i p s g = none_some g
-few_binders (symbol f a) i p s g = in_arguments a i p s.numbers g
+few_binders (symbol f a) i p s g = in_arguments a i p s.kept.2 g
 few_binders (meta m a) i p s g = in_terms a i p g
 
 -- room for what is below

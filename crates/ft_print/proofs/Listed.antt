@@ -2,16 +2,16 @@
 use Rattle.std.proofs.Common.{◌≡◌, ◌∙◌, sym, ap, ap₂, refl, ℕ, suc, ◌≤◌, Option, Some, None, option_map, option_and_then, List, [], ◌∷◌, ◌++◌, take, flat_map, slice_get, length, append_assoc, append-nil}
 use Rattle.std.proofs.lemmas.Option.{same_Some}
 use Rattle.ft_common.proofs.Options.{none_some, some_none}
-use Rattle.ft_items.specs.Store.{Assertion, Store, each}
+use Rattle.ft_items.specs.Store.{Assertion, each, Declarations}
 use Rattle.ft_meaning.specs.Texts.{Text, sequent_text}
 use Rattle.ft_meaning.specs.Lines.{line}
 use Rattle.ft_print.proofs.Joining.{take_next, take_all}
 
 -- the lines of judgements
-abbrev pub sequent_lines : Store → List Assertion → Text
+abbrev pub sequent_lines : Declarations → List Assertion → Text
 sequent_lines W js = flat_map (λ j. line (sequent_text W j)) js
 
-lines_last : (W : Store) (entries : List Assertion) (a : Assertion) → sequent_lines W (entries ++ a ∷ []) ≡ sequent_lines W entries ++ line (sequent_text W a)
+lines_last : (W : Declarations) (entries : List Assertion) (a : Assertion) → sequent_lines W (entries ++ a ∷ []) ≡ sequent_lines W entries ++ line (sequent_text W a)
 lines_last W [] a = append-nil (line (sequent_text W a))
 lines_last W (b ∷ entries) a = ap (λ z. line (sequent_text W b) ++ z) (lines_last W entries a) ∙ sym (append_assoc (line (sequent_text W b)) (sequent_lines W entries) (line (sequent_text W a)))
 
@@ -33,7 +33,7 @@ made F t None e = some_none e
 made F t (Some a) e = (a, refl, same_Some t (F a) e)
 
 -- one more judgement
-pub lines_next : (W : Store) (f : ℕ → Option Assertion) (js : List ℕ) (i j : ℕ) (out mid new : Text) → slice_get js i ≡ Some j → Some out ≡ option_map (sequent_lines W) (each f (take i js)) → Some mid ≡ option_map (λ a. out ++ sequent_text W a) (f j)
+pub lines_next : (W : Declarations) (f : ℕ → Option Assertion) (js : List ℕ) (i j : ℕ) (out mid new : Text) → slice_get js i ≡ Some j → Some out ≡ option_map (sequent_lines W) (each f (take i js)) → Some mid ≡ option_map (λ a. out ++ sequent_text W a) (f j)
     → new ≡ mid ++ 10 ∷ [] → Some new ≡ option_map (sequent_lines W) (each f (take (suc i) js))
 lines_next W f js i j out mid new g o m e =
     let r = made (sequent_lines W) out (each f (take i js)) o in
@@ -43,5 +43,5 @@ lines_next W f js i j out mid new g o m e =
     ap Some text ∙ sym (ap (option_map (sequent_lines W)) (ap (each f) (take_next js i j g) ∙ each_last f (take i js) j r.0 s.0 r.1 s.1))
 
 -- no more judgement
-pub lines_end : (W : Store) (f : ℕ → Option Assertion) (js : List ℕ) (i : ℕ) (out : Text) → length js ≤ i → Some out ≡ option_map (sequent_lines W) (each f (take i js)) → Some out ≡ option_map (sequent_lines W) (each f js)
+pub lines_end : (W : Declarations) (f : ℕ → Option Assertion) (js : List ℕ) (i : ℕ) (out : Text) → length js ≤ i → Some out ≡ option_map (sequent_lines W) (each f (take i js)) → Some out ≡ option_map (sequent_lines W) (each f js)
 lines_end W f js i out l o = o ∙ ap (λ xs. option_map (sequent_lines W) (each f xs)) (take_all js i l)

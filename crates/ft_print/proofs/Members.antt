@@ -8,7 +8,7 @@ use Rattle.ft_theory.specs.Statements.{is_type, has_type, equal_types, equal_ter
 use Rattle.ft_theory.specs.Rules.{look_up}
 use Rattle.ft_items.specs.Equal.{is_thesis}
 use Rattle.ft_items.specs.Item.{Name, Item, variable, metavariable, rule, entry, shown}
-use Rattle.ft_items.specs.Store.{Assertion, Store, nth, annotated, declared, type_in, empty_store, add, add_all, store_of, entries_in, variables_in, metavariables_in}
+use Rattle.ft_items.specs.Store.{Assertion, Store, nth, annotated, declared, type_in, empty_store, add, add_all, entries_in, variables_in, metavariables_in, Declarations, declared_by}
 use Rattle.ft_items.specs.Good.{Good, GoodAfter, is_plain_type}
 use Rattle.ft_items.proofs.Lists.{entries_all, before_all}
 use Rattle.ft_syntax.specs.Table.{tree}
@@ -101,46 +101,46 @@ annotated_type y None x e = none_some e
 annotated_type y (Some a) x e = ap type_in (same_Some a.statement x e)
 
 pub metavariable_declared : (s : State) (vs : List ℕ) (m : ℕ) (n : Name) (p : ℕ) (x : Statement) → Good s.items → nth (metavariables_in s.items) m ≡ Some (n, p) → statement_at s p ≡ Some x
-    → metavariable_member (store_of s.items) vs m (nth (store_of s.items).metavariables m) ≡ metavariable_text (store_of s.items) vs m ++ codes " := " ++ statement_text (store_of s.items) vs zero x
+    → metavariable_member (declared_by s.items) vs m (nth (declared_by s.items).metavariables m) ≡ metavariable_text (declared_by s.items) vs m ++ codes " := " ++ statement_text (declared_by s.items) vs zero x
 metavariable_declared s vs m n p x g e f =
-    let W : Store = store_of s.items in
+    let W : Declarations = declared_by s.items in
     ap (metavariable_member W vs m) (metavariable_at s.items m g ∙ ap (option_map (λ (y : Name × ℕ). declared y (nth (entries_in s.items) y.1))) e)
     ∙ ap (λ y. metavariable_text W vs m ++ codes " := " ++ statement_text W vs zero y) (declared_boundary (n, p) (nth (entries_in s.items) p) x f)
 
 pub variable_declared : (s : State) (vs : List ℕ) (v : ℕ) (n : Name) (p : ℕ) (x : Statement) → Good s.items → variable_numbered (variables_in s.items) v ≡ Some (n, p) → statement_at s p ≡ Some x
-    → variable_member (store_of s.items) vs v (look_up (store_of s.items).variables v) ≡ variable_text (store_of s.items) vs v ++ of_type_text (store_of s.items) vs zero (type_in x)
+    → variable_member (declared_by s.items) vs v (look_up (declared_by s.items).variables v) ≡ variable_text (declared_by s.items) vs v ++ of_type_text (declared_by s.items) vs zero (type_in x)
 variable_declared s vs v n p x g e f =
-    let W : Store = store_of s.items in
+    let W : Declarations = declared_by s.items in
     ap (variable_member W vs v) (variable_at s.items v g ∙ ap (option_map (λ (y : Name × ℕ). (annotated (v, y.0, y.1) (nth (entries_in s.items) y.1)).1)) e)
     ∙ ap (λ A. variable_text W vs v ++ of_type_text W vs zero A) (annotated_type (v, n, p) (nth (entries_in s.items) p) x f)
 
 -- a metavariable with its boundary, as it is written
 pub metavariable_written : {A E : Type 0} (r : Result A E) (s : State) (vs : List ℕ) (m f : ℕ) (n : Name) (p : ℕ) (x : Statement) (old a b new : Text) → Good s.items → f ≡ m → nth (metavariables_in s.items) f ≡ Some (n, p)
-    → statement_at s p ≡ Some x → a ≡ old ++ metavariable_text (store_of s.items) [] m → b ≡ a ++ codes " := " → OnOk r (new ≡ b ++ statement_text (store_of s.items) vs zero x)
-    → OnOk r (new ≡ old ++ metavariable_member (store_of s.items) vs m (nth (store_of s.items).metavariables m))
+    → statement_at s p ≡ Some x → a ≡ old ++ metavariable_text (declared_by s.items) [] m → b ≡ a ++ codes " := " → OnOk r (new ≡ b ++ statement_text (declared_by s.items) vs zero x)
+    → OnOk r (new ≡ old ++ metavariable_member (declared_by s.items) vs m (nth (declared_by s.items).metavariables m))
 metavariable_written r s vs m f n p x old a b new g same e q ea eb h =
-    let W : Store = store_of s.items in
+    let W : Declarations = declared_by s.items in
     two_parts r old (metavariable_text W vs m ++ codes " := ") (statement_text W vs zero x) b new (metavariable_member W vs m (nth W.metavariables m))
     (metavariable_declared s vs m n p x g (ap (nth (metavariables_in s.items)) (sym same) ∙ e) q)
     (eb ∙ ap (λ z. z ++ codes " := ") ea ∙ append_assoc old (metavariable_text W vs m) (codes " := ")) h
 
 -- a variable with its type, as it is written
 pub variable_written : {A E : Type 0} (r : Result A E) (s : State) (vs : List ℕ) (v f : ℕ) (n : Name) (p : ℕ) (x : Statement) (T : Expression) (old a new : Text) → Good s.items → f ≡ v → variable_numbered (variables_in s.items) f ≡ Some (n, p)
-    → statement_at s p ≡ Some x → type_in x ≡ T → a ≡ old ++ variable_text (store_of s.items) vs v → OnOk r (new ≡ a ++ of_type_text (store_of s.items) vs zero T)
-    → OnOk r (new ≡ old ++ variable_member (store_of s.items) vs v (look_up (store_of s.items).variables v))
+    → statement_at s p ≡ Some x → type_in x ≡ T → a ≡ old ++ variable_text (declared_by s.items) vs v → OnOk r (new ≡ a ++ of_type_text (declared_by s.items) vs zero T)
+    → OnOk r (new ≡ old ++ variable_member (declared_by s.items) vs v (look_up (declared_by s.items).variables v))
 variable_written r s vs v f n p x T old a new g same e q t ea h =
-    let W : Store = store_of s.items in
+    let W : Declarations = declared_by s.items in
     two_parts r old (variable_text W vs v) (of_type_text W vs zero T) a new (variable_member W vs v (look_up W.variables v))
     (variable_declared s vs v n p x g (ap (variable_numbered (variables_in s.items)) (sym same) ∙ e) q ∙ ap (λ A. variable_text W vs v ++ of_type_text W vs zero A) t) ea h
 
-pub no_metavariable : (items : List Item) (vs : List ℕ) (m : ℕ) (old : Text) → Good items → length (metavariables_in items) ≤ m → old ≡ old ++ metavariable_member (store_of items) vs m (nth (store_of items).metavariables m)
-no_metavariable items vs m old g l = nothing_written old (metavariable_member (store_of items) vs m (nth (store_of items).metavariables m)) (ap (metavariable_member (store_of items) vs m) (metavariable_none items m g l))
+pub no_metavariable : (items : List Item) (vs : List ℕ) (m : ℕ) (old : Text) → Good items → length (metavariables_in items) ≤ m → old ≡ old ++ metavariable_member (declared_by items) vs m (nth (declared_by items).metavariables m)
+no_metavariable items vs m old g l = nothing_written old (metavariable_member (declared_by items) vs m (nth (declared_by items).metavariables m)) (ap (metavariable_member (declared_by items) vs m) (metavariable_none items m g l))
 
-pub no_variable : (items : List Item) (vs : List ℕ) (v : ℕ) (old : Text) → Good items → variable_numbered (variables_in items) v ≡ None → old ≡ old ++ variable_member (store_of items) vs v (look_up (store_of items).variables v)
-no_variable items vs v old g e = nothing_written old (variable_member (store_of items) vs v (look_up (store_of items).variables v)) (ap (variable_member (store_of items) vs v) (variable_none items v g e))
+pub no_variable : (items : List Item) (vs : List ℕ) (v : ℕ) (old : Text) → Good items → variable_numbered (variables_in items) v ≡ None → old ≡ old ++ variable_member (declared_by items) vs v (look_up (declared_by items).variables v)
+no_variable items vs v old g e = nothing_written old (variable_member (declared_by items) vs v (look_up (declared_by items).variables v)) (ap (variable_member (declared_by items) vs v) (variable_none items v g e))
 
 -- one more member of a context
-pub member_next : (W : Store) (vs : List ℕ) (atoms : List AtomValue) (i : ℕ) (a : AtomValue) (b old out mid new : Text) → slice_get atoms i ≡ Some a → (i ≡ 0 → b ≡ []) → (i ≢ 0 → b ≡ codes ", ")
+pub member_next : (W : Declarations) (vs : List ℕ) (atoms : List AtomValue) (i : ℕ) (a : AtomValue) (b old out mid new : Text) → slice_get atoms i ≡ Some a → (i ≡ 0 → b ≡ []) → (i ≢ 0 → b ≡ codes ", ")
     → out ≡ old ++ joined (map (member_text W vs) (take i (atoms_of atoms))) → mid ≡ out ++ b → new ≡ mid ++ member_text W vs (atom_of a) → new ≡ old ++ joined (map (member_text W vs) (take (suc i) (atoms_of atoms)))
 member_next W vs atoms i a b old out mid new g first next o m e =
     written_more old (joined (map (member_text W vs) (take i (atoms_of atoms)))) b (member_text W vs (atom_of a)) out mid new (joined (map (member_text W vs) (take (suc i) (atoms_of atoms))))

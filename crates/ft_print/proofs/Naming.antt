@@ -5,7 +5,7 @@ use Rattle.ft_common.proofs.Options.{none_some, some_none}
 use Rattle.ft_common.proofs.Choices.{by_test}
 use Rattle.ft_theory.specs.Rules.{look_up}
 use Rattle.ft_items.specs.Item.{Name, Item}
-use Rattle.ft_items.specs.Store.{Assertion, Annotation, Declared, nth, annotated, declared, store_of, entries_in, variables_in, metavariables_in, rules_in}
+use Rattle.ft_items.specs.Store.{Assertion, Annotation, Declared, nth, annotated, declared, entries_in, variables_in, metavariables_in, rules_in, declared_by}
 use Rattle.ft_items.specs.Good.{Good}
 use Rattle.ft_items.proofs.Lists.{store_is, annotated_number, nth_past}
 use Rattle.ft_kernel.specs.State.{variable_numbered, if_below}
@@ -35,36 +35,36 @@ past_bound n bound e = by_test (nat_lt n bound) (λ t. some_none (sym (ap (λ b.
 abbrev name_of : Name × List ℕ × ℕ → Name
 name_of x = x.0
 
-rule_name : (items : List Item) (s : ℕ) → Good items → nth (store_of items).names s ≡ option_map name_of (nth (rules_in items) s)
+rule_name : (items : List Item) (s : ℕ) → Good items → nth (declared_by items).names s ≡ option_map name_of (nth (rules_in items) s)
 rule_name items s g = ap (λ ns. nth ns s) (store_is items g).names ∙ nth_map name_of (rules_in items) s
 
-pub rule_named : (items : List Item) (s : ℕ) (n : Name) (ms : List ℕ) (p : ℕ) → Good items → nth (rules_in items) s ≡ Some (n, ms, p) → name_if_any (nth (store_of items).names s) ≡ encode_utf8_all n
+pub rule_named : (items : List Item) (s : ℕ) (n : Name) (ms : List ℕ) (p : ℕ) → Good items → nth (rules_in items) s ≡ Some (n, ms, p) → name_if_any (nth (declared_by items).names s) ≡ encode_utf8_all n
 rule_named items s n ms p g e = ap name_if_any (rule_name items s g ∙ ap (option_map name_of) e)
 
-pub rule_unnamed : (items : List Item) (s : ℕ) → Good items → length (rules_in items) ≤ s → name_if_any (nth (store_of items).names s) ≡ []
+pub rule_unnamed : (items : List Item) (s : ℕ) → Good items → length (rules_in items) ≤ s → name_if_any (nth (declared_by items).names s) ≡ []
 rule_unnamed items s g l = ap name_if_any (rule_name items s g ∙ ap (option_map name_of) (nth_past (rules_in items) s l))
 
 -- Metavariables.
 
-abbrev declared_by : List Assertion → Name × ℕ → Declared
-declared_by es x = declared x (nth es x.1)
+abbrev metavariable_by : List Assertion → Name × ℕ → Declared
+metavariable_by es x = declared x (nth es x.1)
 
 declared_name : (x : Name × ℕ) (o : Option Assertion) → (declared x o).name ≡ x.0
 declared_name x None = refl
 declared_name x (Some a) = refl
 
-pub metavariable_at : (items : List Item) (m : ℕ) → Good items → nth (store_of items).metavariables m ≡ option_map (declared_by (entries_in items)) (nth (metavariables_in items) m)
-metavariable_at items m g = ap (λ ds. nth ds m) (store_is items g).metavariables ∙ nth_map (declared_by (entries_in items)) (metavariables_in items) m
+pub metavariable_at : (items : List Item) (m : ℕ) → Good items → nth (declared_by items).metavariables m ≡ option_map (metavariable_by (entries_in items)) (nth (metavariables_in items) m)
+metavariable_at items m g = ap (λ ds. nth ds m) (store_is items g).metavariables ∙ nth_map (metavariable_by (entries_in items)) (metavariables_in items) m
 
-pub metavariable_none : (items : List Item) (m : ℕ) → Good items → length (metavariables_in items) ≤ m → nth (store_of items).metavariables m ≡ None
-metavariable_none items m g l = metavariable_at items m g ∙ ap (option_map (declared_by (entries_in items))) (nth_past (metavariables_in items) m l)
+pub metavariable_none : (items : List Item) (m : ℕ) → Good items → length (metavariables_in items) ≤ m → nth (declared_by items).metavariables m ≡ None
+metavariable_none items m g l = metavariable_at items m g ∙ ap (option_map (metavariable_by (entries_in items))) (nth_past (metavariables_in items) m l)
 
 pub metavariable_named : (items : List Item) (m : ℕ) (n : Name) (p : ℕ) → Good items → nth (metavariables_in items) m ≡ Some (n, p)
-    → name_if_any (option_map (λ d. d.name) (nth (store_of items).metavariables m)) ≡ encode_utf8_all n
+    → name_if_any (option_map (λ d. d.name) (nth (declared_by items).metavariables m)) ≡ encode_utf8_all n
 metavariable_named items m n p g e =
-    ap (λ o. name_if_any (option_map (λ d. d.name) o)) (metavariable_at items m g ∙ ap (option_map (declared_by (entries_in items))) e) ∙ ap encode_utf8_all (declared_name (n, p) (nth (entries_in items) p))
+    ap (λ o. name_if_any (option_map (λ d. d.name) o)) (metavariable_at items m g ∙ ap (option_map (metavariable_by (entries_in items))) e) ∙ ap encode_utf8_all (declared_name (n, p) (nth (entries_in items) p))
 
-pub metavariable_unnamed : (items : List Item) (m : ℕ) → Good items → length (metavariables_in items) ≤ m → name_if_any (option_map (λ d. d.name) (nth (store_of items).metavariables m)) ≡ []
+pub metavariable_unnamed : (items : List Item) (m : ℕ) → Good items → length (metavariables_in items) ≤ m → name_if_any (option_map (λ d. d.name) (nth (declared_by items).metavariables m)) ≡ []
 metavariable_unnamed items m g l = ap (λ o. name_if_any (option_map (λ d. d.name) o)) (metavariable_none items m g l)
 
 -- Variables.
@@ -96,18 +96,18 @@ look_annotated es ((w, n, p) ∷ vs) v =
     ap (λ b. cond b (Some x) rest) (ap (nat_eq v) (annotated_number (w, n, p) (nth es p)) ∙ same_turned v w)
     ∙ picked (annotation_by es v) (nat_eq w v) x rest (n, p) (variable_numbered vs v) (annotation_same w v n p (nth es p)) (look_annotated es vs v)
 
-pub variable_at : (items : List Item) (v : ℕ) → Good items → look_up (store_of items).variables v ≡ option_map (annotation_by (entries_in items) v) (variable_numbered (variables_in items) v)
+pub variable_at : (items : List Item) (v : ℕ) → Good items → look_up (declared_by items).variables v ≡ option_map (annotation_by (entries_in items) v) (variable_numbered (variables_in items) v)
 variable_at items v g = ap (λ G. look_up G v) (store_is items g).variables ∙ look_annotated (entries_in items) (variables_in items) v
 
-pub variable_none : (items : List Item) (v : ℕ) → Good items → variable_numbered (variables_in items) v ≡ None → look_up (store_of items).variables v ≡ None
+pub variable_none : (items : List Item) (v : ℕ) → Good items → variable_numbered (variables_in items) v ≡ None → look_up (declared_by items).variables v ≡ None
 variable_none items v g e = variable_at items v g ∙ ap (option_map (annotation_by (entries_in items) v)) e
 
 pub variable_named : (items : List Item) (v : ℕ) (n : Name) (p : ℕ) → Good items → variable_numbered (variables_in items) v ≡ Some (n, p)
-    → name_if_any (option_map (λ d. d.name) (look_up (store_of items).variables v)) ≡ encode_utf8_all n
+    → name_if_any (option_map (λ d. d.name) (look_up (declared_by items).variables v)) ≡ encode_utf8_all n
 variable_named items v n p g e =
     ap (λ o. name_if_any (option_map (λ d. d.name) o)) (variable_at items v g ∙ ap (option_map (annotation_by (entries_in items) v)) e) ∙ ap encode_utf8_all (annotation_name (v, n, p) (nth (entries_in items) p))
 
-pub variable_unnamed : (items : List Item) (v : ℕ) → Good items → variable_numbered (variables_in items) v ≡ None → name_if_any (option_map (λ d. d.name) (look_up (store_of items).variables v)) ≡ []
+pub variable_unnamed : (items : List Item) (v : ℕ) → Good items → variable_numbered (variables_in items) v ≡ None → name_if_any (option_map (λ d. d.name) (look_up (declared_by items).variables v)) ≡ []
 variable_unnamed items v g e = ap (λ o. name_if_any (option_map (λ d. d.name) o)) (variable_none items v g e)
 
 -- a variable that is found by its number

@@ -4,7 +4,7 @@ ghost use Rattle.std.specs.Prelude.{◌≡◌, ◌≢◌, ◌+◌, ◌*◌, ◌-
 ghost use Rattle.std.specs.List.Sorted.{IsNonDecreasing};
 ghost use Rattle.ft_theory.specs.Small.{IsSmall};
 ghost use Rattle.ft_items.specs.Good.{Good};
-ghost use Rattle.ft_items.specs.Store.{store_of};
+ghost use Rattle.ft_items.specs.Store.{declared_by};
 ghost use Rattle.ft_syntax.specs.Arguments.{arguments_of};
 ghost use Rattle.ft_syntax.specs.Table.{tree, BodyBelow};
 ghost use Rattle.ft_meaning.specs.Texts.{binders_text, expression_text};
@@ -29,7 +29,7 @@ pub fn push_expression(
     requires ascending { IsNonDecreasing variables.now }
     ensures ok { OnOk result
         (out.new ≡ out.old ++
-        expression_text (store_of k.now.items) variables.now n (tree k.now.trees e)) }
+        expression_text (declared_by k.now.items) variables.now n (tree k.now.trees e)) }
 {
     push_part(k, variables, u128::from(n), e, out)
 }
@@ -43,7 +43,7 @@ fn push_part(k: &Kernel, variables: &[u64], n: u128, e: E, out: &mut Text) -> Re
     requires ascending { IsNonDecreasing variables.now }
     ensures ok { OnOk result
         (out.new ≡ out.old ++
-        expression_text (store_of k.now.items) variables.now n (tree k.now.trees e)) }
+        expression_text (declared_by k.now.items) variables.now n (tree k.now.trees e)) }
 {
     match k.terms().node(e) {
         Node::Bound(i) => push_bound(n, i, out),
@@ -90,7 +90,7 @@ fn push_arguments(
     requires room { HasRoom n e }
     requires ascending { IsNonDecreasing variables.now }
     ensures ok { OnOk result
-        (out.new ≡ out.old ++ arguments_text (store_of k.now.items) variables.now n (arguments_of
+        (out.new ≡ out.old ++ arguments_text (declared_by k.now.items) variables.now n (arguments_of
         (tree k.now.trees e))) }
 {
     let terms = k.terms();
@@ -153,7 +153,7 @@ fn push_body(
     requires ascending { IsNonDecreasing variables.now }
     ensures ok { OnOk result
         (out.new ≡ out.old ++
-        body_text (store_of k.now.items) variables.now n (option_map (tree k.now.trees) body)) }
+        body_text (declared_by k.now.items) variables.now n (option_map (tree k.now.trees) body)) }
 {
     match body {
         Some(e) => push_part(k, variables, n, e, out),

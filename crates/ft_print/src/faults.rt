@@ -2,7 +2,7 @@
 
 ghost use Rattle.std.specs.Prelude.{◌≡◌, length, codes, IfOk};
 ghost use Rattle.ft_items.specs.Item.{Name as AnyName};
-ghost use Rattle.ft_items.specs.Store.{Store, store_of};
+ghost use Rattle.ft_items.specs.Store.{declared_by, Declarations};
 ghost use Rattle.ft_meaning.specs.Values.{NoMatch, Refused, Unhandled};
 ghost use Rattle.ft_meaning.specs.Faults.{fault_text};
 ghost use Rattle.ft_meaning.specs.Lines.{error_line, line_of, column_of};
@@ -43,7 +43,7 @@ pub fn refused_text(alloc: Global, k: &Kernel, r: &Refusal) -> Result<Text, Memo
     requires { RefusalBelow (length k.now.trees) r.now }
     ensures { IfOk result
         (λ t. (n : AnyName) →
-        t ≡ fault_text (store_of k.now.items) n (Refused (refusal_in k.now.trees r.now))) }
+        t ≡ fault_text (declared_by k.now.items) n (Refused (refusal_in k.now.trees r.now))) }
 {
     let mut out = Text::new(alloc);
     out.push_str("refused ")?;
@@ -54,7 +54,7 @@ pub fn refused_text(alloc: Global, k: &Kernel, r: &Refusal) -> Result<Text, Memo
 /// Why a run ends at an operation that has no handler.
 pub fn unhandled_text(alloc: Global, operation: &Name) -> Result<Text, Memory>
     ensures { IfOk result
-        (λ t. (W : Store) (n : AnyName) → t ≡ fault_text W n (Unhandled operation.now)) }
+        (λ t. (W : Declarations) (n : AnyName) → t ≡ fault_text W n (Unhandled operation.now)) }
 {
     let mut out = Text::new(alloc);
     out.push_str("unhandled ")?;
@@ -64,7 +64,7 @@ pub fn unhandled_text(alloc: Global, operation: &Name) -> Result<Text, Memory>
 
 /// Why a run ends at a value that fits no case.
 pub fn no_match_text(alloc: Global) -> Result<Text, Memory>
-    ensures { IfOk result (λ t. (W : Store) (n : AnyName) → t ≡ fault_text W n NoMatch) }
+    ensures { IfOk result (λ t. (W : Declarations) (n : AnyName) → t ≡ fault_text W n NoMatch) }
 {
     let mut out = Text::new(alloc);
     out.push_str("no match")?;

@@ -2,7 +2,7 @@
 
 ghost use Rattle.std.specs.Prelude.{◌≡◌, Some, All, option_map, IfOk};
 ghost use Rattle.ft_theory.specs.Rules.{Rule};
-ghost use Rattle.ft_items.specs.Store.{Store, store_of, each};
+ghost use Rattle.ft_items.specs.Store.{each, Declarations, declared_by};
 ghost use Rattle.ft_kernel.specs.State.{entry_at, IsThesisOf};
 ghost use Rattle.ft_meaning.specs.Commands.{Accepted, Shown, ShownNone};
 ghost use Rattle.ft_meaning.specs.Lines.{done_lines};
@@ -14,7 +14,7 @@ use std::alloc::Global;
 
 /// The line of a rule that was accepted.
 pub fn accepted_line(alloc: Global, name: &Name) -> Result<Text, Memory>
-    ensures { IfOk result (λ t. (W : Store) (R : Rule) → t ≡ done_lines W (Accepted name.now R)) }
+    ensures { IfOk result (λ t. (W : Declarations) (R : Rule) → t ≡ done_lines W (Accepted name.now R)) }
 {
     let mut out = Text::new(alloc);
     out.push_str("accepted ")?;
@@ -27,7 +27,7 @@ pub fn accepted_line(alloc: Global, name: &Name) -> Result<Text, Memory>
 pub fn sequent_lines(alloc: Global, k: &Kernel, js: &[J]) -> Result<Text, Memory>
     requires { All (IsThesisOf k.now) js.now }
     ensures { IfOk result
-        (λ t. Some t ≡ option_map (λ entries. done_lines (store_of k.now.items) (Shown entries))
+        (λ t. Some t ≡ option_map (λ entries. done_lines (declared_by k.now.items) (Shown entries))
         (each (entry_at k.now) js.now)) }
 {
     let mut out = Text::new(alloc);
@@ -40,7 +40,7 @@ pub fn sequent_lines(alloc: Global, k: &Kernel, js: &[J]) -> Result<Text, Memory
 
 /// The line of an option that shows nothing.
 pub fn none_line(alloc: Global) -> Result<Text, Memory>
-    ensures { IfOk result (λ t. (W : Store) → t ≡ done_lines W ShownNone) }
+    ensures { IfOk result (λ t. (W : Declarations) → t ≡ done_lines W ShownNone) }
 {
     let mut out = Text::new(alloc);
     out.push_str("none\n")?;

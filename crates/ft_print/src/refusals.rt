@@ -4,7 +4,7 @@ ghost use Rattle.std.specs.Prelude.{◌≡◌, ◌++◌, length, IfOk, OnOk};
 ghost use Rattle.std.specs.List.Sorted.{IsNonDecreasing};
 ghost use Rattle.ft_items.specs.Sets.{var};
 ghost use Rattle.ft_items.specs.Good.{Good};
-ghost use Rattle.ft_items.specs.Store.{store_of};
+ghost use Rattle.ft_items.specs.Store.{declared_by};
 ghost use Rattle.ft_meaning.specs.Faults.{atom_text, differ_text, refusal_text};
 ghost use Rattle.ft_calls.specs.Answers.{difference_in, refusal_in, RefusalBelow};
 ghost use Rattle.ft_print.specs.Refused.{counts_text, DifferBelow};
@@ -21,7 +21,7 @@ use std::alloc::Global;
 pub fn refusal_text(alloc: Global, k: &Kernel, r: &Refusal) -> Result<Text, Memory>
     requires { RefusalBelow (length k.now.trees) r.now }
     ensures { IfOk result
-        (λ t. t ≡ refusal_text (store_of k.now.items) (refusal_in k.now.trees r.now)) }
+        (λ t. t ≡ refusal_text (declared_by k.now.items) (refusal_in k.now.trees r.now)) }
 {
     let mut out = Text::new(alloc);
     push_refusal(alloc, k, r, &mut out)?;
@@ -32,7 +32,7 @@ pub fn refusal_text(alloc: Global, k: &Kernel, r: &Refusal) -> Result<Text, Memo
 pub fn push_refusal(alloc: Global, k: &Kernel, r: &Refusal, out: &mut Text) -> Result<(), Memory>
     requires { RefusalBelow (length k.now.trees) r.now }
     ensures ok { OnOk result
-        (out.new ≡ out.old ++ refusal_text (store_of k.now.items) (refusal_in k.now.trees r.now)) }
+        (out.new ≡ out.old ++ refusal_text (declared_by k.now.items) (refusal_in k.now.trees r.now)) }
 {
     match r {
         Refusal::WrongForm => out.push_str("WrongForm"),
@@ -63,7 +63,7 @@ pub fn push_refusal(alloc: Global, k: &Kernel, r: &Refusal, out: &mut Text) -> R
 fn push_differ(alloc: Global, k: &Kernel, d: &Differ, out: &mut Text) -> Result<(), Memory>
     requires { DifferBelow (length k.now.trees) d.now }
     ensures ok { OnOk result
-        (out.new ≡ out.old ++ differ_text (store_of k.now.items) (difference_in k.now.trees d.now)) }
+        (out.new ≡ out.old ++ differ_text (declared_by k.now.items) (difference_in k.now.trees d.now)) }
 {
     let variables = variables_mentioned(alloc, k.terms(), d.found, d.wanted)?;
     out.push_str(": found ")?;
@@ -74,7 +74,7 @@ fn push_differ(alloc: Global, k: &Kernel, d: &Differ, out: &mut Text) -> Result<
 
 // Appends a variable that alone is mentioned.
 fn push_variable_alone(k: &Kernel, v: u64, out: &mut Text) -> Result<(), Memory>
-    ensures ok { OnOk result (out.new ≡ out.old ++ atom_text (store_of k.now.items) (var v)) }
+    ensures ok { OnOk result (out.new ≡ out.old ++ atom_text (declared_by k.now.items) (var v)) }
 {
     // That the list is good comes with its table.
     let _terms = k.terms();

@@ -4,7 +4,7 @@ ghost use Rattle.std.specs.Prelude.{◌≡◌, ◌≢◌, ◌<◌, ℕ, ◌++◌
 ghost use Rattle.std.specs.List.Sorted.{IsNonDecreasing};
 ghost use Rattle.ft_theory.specs.Rules.{look_up};
 ghost use Rattle.ft_items.specs.Good.{Good};
-ghost use Rattle.ft_items.specs.Store.{nth, store_of, type_in};
+ghost use Rattle.ft_items.specs.Store.{nth, type_in, declared_by};
 ghost use Rattle.ft_theory.specs.Expressions.{Expression};
 ghost use Rattle.ft_syntax.specs.Table.{tree};
 ghost use Rattle.ft_judge.specs.Meaning.{thesis_in, ThesisBelow};
@@ -27,7 +27,7 @@ use std::alloc::Global;
 pub fn sequent_text(alloc: Global, k: &Kernel, j: J) -> Result<Text, Memory>
     requires { IsThesisOf k.now j }
     ensures { IfOk result
-        (λ t. Some t ≡ option_map (sequent_text (store_of k.now.items)) (entry_at k.now j)) }
+        (λ t. Some t ≡ option_map (sequent_text (declared_by k.now.items)) (entry_at k.now j)) }
 {
     let mut out = Text::new(alloc);
     push_sequent(alloc, k, j, &mut out)?;
@@ -39,7 +39,7 @@ pub fn push_sequent(alloc: Global, k: &Kernel, j: J, out: &mut Text) -> Result<(
     requires { IsThesisOf k.now j }
     ensures ok { OnOk result
         (Some out.new ≡ option_map (λ a. out.old ++
-        sequent_text (store_of k.now.items) a) (entry_at k.now j)) }
+        sequent_text (declared_by k.now.items) a) (entry_at k.now j)) }
 {
     let thesis = k.thesis_of(j);
     let set = k.asm_of(j);
@@ -55,7 +55,7 @@ fn push_context(k: &Kernel, variables: &[u64], atoms: &[Atom], out: &mut Text) -
     requires ascending { IsNonDecreasing variables.now }
     ensures ok { OnOk result
         (out.new ≡ out.old ++
-        context_text (store_of k.now.items) variables.now (atoms_of atoms.now)) }
+        context_text (declared_by k.now.items) variables.now (atoms_of atoms.now)) }
 {
     for i in 0..atoms.len() {
         out.push_str(before(i))?;
@@ -83,7 +83,7 @@ fn push_member(k: &Kernel, variables: &[u64], atom: Atom, out: &mut Text) -> Res
     requires good { Good k.now.items }
     requires ascending { IsNonDecreasing variables.now }
     ensures ok { OnOk result
-        (out.new ≡ out.old ++ member_text (store_of k.now.items) variables.now (atom_of atom)) }
+        (out.new ≡ out.old ++ member_text (declared_by k.now.items) variables.now (atom_of atom)) }
 {
     match atom {
         Atom::Met(m) => push_metavariable_member(k, variables, m, out),
@@ -101,8 +101,8 @@ fn push_metavariable_member(
     requires good { Good k.now.items }
     requires ascending { IsNonDecreasing variables.now }
     ensures ok { OnOk result
-        (out.new ≡ out.old ++ metavariable_member (store_of k.now.items) variables.now m (nth
-        (store_of k.now.items).metavariables m)) }
+        (out.new ≡ out.old ++ metavariable_member (declared_by k.now.items) variables.now m (nth
+        (declared_by k.now.items).metavariables m)) }
 {
     match k.met_numbered(m) {
         Some(found) => {
@@ -119,8 +119,8 @@ fn push_variable_member(k: &Kernel, variables: &[u64], v: u64, out: &mut Text) -
     requires good { Good k.now.items }
     requires ascending { IsNonDecreasing variables.now }
     ensures ok { OnOk result
-        (out.new ≡ out.old ++ variable_member (store_of k.now.items) variables.now v (look_up
-        (store_of k.now.items).variables v)) }
+        (out.new ≡ out.old ++ variable_member (declared_by k.now.items) variables.now v (look_up
+        (declared_by k.now.items).variables v)) }
 {
     match k.var_numbered(v) {
         Some(found) => {

@@ -3,7 +3,7 @@
 ghost use Rattle.std.specs.Prelude.{◌≡◌, ◌<◌, ◌++◌, length, OnOk};
 ghost use Rattle.std.specs.List.Sorted.{IsNonDecreasing};
 ghost use Rattle.ft_items.specs.Good.{Good};
-ghost use Rattle.ft_items.specs.Store.{store_of};
+ghost use Rattle.ft_items.specs.Store.{declared_by};
 ghost use Rattle.ft_syntax.specs.Table.{tree, AllBelow};
 ghost use Rattle.ft_judge.specs.Meaning.{claim_in, goal_in, thesis_in, boundary_in, FormBelow, GoalBelow, ThesisBelow, BoundaryBelow};
 ghost use Rattle.ft_meaning.specs.Texts.{sides_text, of_type_text, claim_text, statement_text};
@@ -22,7 +22,7 @@ pub fn push_thesis(k: &Kernel, variables: &[u64], x: &Thesis, out: &mut Text) ->
     requires ascending { IsNonDecreasing variables.now }
     ensures ok { OnOk result
         (out.new ≡ out.old ++
-        statement_text (store_of k.now.items) variables.now 0 (thesis_in k.now.trees x.now)) }
+        statement_text (declared_by k.now.items) variables.now 0 (thesis_in k.now.trees x.now)) }
 {
     let domains = x.domains.items();
     push_domains(k, variables, domains, out)?;
@@ -41,7 +41,7 @@ pub fn push_boundary(
     requires ascending { IsNonDecreasing variables.now }
     ensures ok { OnOk result
         (out.new ≡ out.old ++
-        statement_text (store_of k.now.items) variables.now 0 (boundary_in k.now.trees x.now)) }
+        statement_text (declared_by k.now.items) variables.now 0 (boundary_in k.now.trees x.now)) }
 {
     let domains = x.domains.items();
     push_domains(k, variables, domains, out)?;
@@ -55,7 +55,7 @@ fn push_domains(k: &Kernel, variables: &[u64], domains: &[E], out: &mut Text) ->
     requires ascending { IsNonDecreasing variables.now }
     ensures ok { OnOk result
         (out.new ≡ out.old ++
-        domains_text (store_of k.now.items) variables.now k.now.trees 0 domains.now) }
+        domains_text (declared_by k.now.items) variables.now k.now.trees 0 domains.now) }
 {
     for i in 0..domains.len() {
         push_domain(k, variables, i as u64, domains[i], out)?;
@@ -76,7 +76,7 @@ fn push_domain(
     requires ascending { IsNonDecreasing variables.now }
     ensures ok { OnOk result
         (out.new ≡ out.old ++
-        domain_text (store_of k.now.items) variables.now n (tree k.now.trees domain)) }
+        domain_text (declared_by k.now.items) variables.now n (tree k.now.trees domain)) }
 {
     out.push_str("{@")?;
     out.push_number(n)?;
@@ -97,7 +97,7 @@ pub fn push_of_type(
     requires ascending { IsNonDecreasing variables.now }
     ensures ok { OnOk result
         (out.new ≡ out.old ++
-        of_type_text (store_of k.now.items) variables.now n (tree k.now.trees ty)) }
+        of_type_text (declared_by k.now.items) variables.now n (tree k.now.trees ty)) }
 {
     out.push_str(" : ")?;
     push_expression(k, variables, n, ty, out)
@@ -115,7 +115,7 @@ fn push_sides(
     requires below { (sides.0 < length k.now.trees) × (sides.1 < length k.now.trees) }
     requires ascending { IsNonDecreasing variables.now }
     ensures ok { OnOk result
-        (out.new ≡ out.old ++ sides_text (store_of k.now.items) variables.now n (tree k.now.trees
+        (out.new ≡ out.old ++ sides_text (declared_by k.now.items) variables.now n (tree k.now.trees
         sides.0) (tree k.now.trees sides.1)) }
 {
     push_expression(k, variables, n, sides.0, out)?;
@@ -136,7 +136,7 @@ fn push_form(
     requires ascending { IsNonDecreasing variables.now }
     ensures ok { OnOk result
         (out.new ≡ out.old ++
-        claim_text (store_of k.now.items) variables.now n (claim_in k.now.trees form)) }
+        claim_text (declared_by k.now.items) variables.now n (claim_in k.now.trees form)) }
 {
     match form {
         Form::Ty(a) => {
@@ -168,7 +168,7 @@ fn push_goal(
     requires ascending { IsNonDecreasing variables.now }
     ensures ok { OnOk result
         (out.new ≡ out.old ++
-        claim_text (store_of k.now.items) variables.now n (goal_in k.now.trees goal)) }
+        claim_text (declared_by k.now.items) variables.now n (goal_in k.now.trees goal)) }
 {
     match goal {
         Goal::Ty => out.push_str("_ type"),

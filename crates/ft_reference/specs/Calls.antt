@@ -2,7 +2,7 @@
 use Rattle.std.specs.Prelude.{Option, Some, None, Bool, true, ◌&&◌, Result, Ok, Err, []}
 use Rattle.ft_items.specs.Sets.{is_within}
 use Rattle.ft_items.specs.Item.{by_metainst}
-use Rattle.ft_items.specs.Store.{Assertion, Store, Resolved}
+use Rattle.ft_items.specs.Store.{Assertion, Resolved, Declarations}
 use Rattle.ft_items.specs.Rows.{atoms, differ, on_earlier}
 use Rattle.ft_items.specs.Good.{of_kind, given}
 use Rattle.ft_reference.specs.Refusals.{Refusal, WrongForm, first_refusal}
@@ -24,7 +24,7 @@ answered (Some r) o = Err r
 answered None (Some a) = Ok a
 answered None None = Err WrongForm
 
--- The answer of a call over a store: a statement with its set, or the first refusal. A call is a step with the statements,
--- variables, metavariables and the rule that it names. The store stays as it is.
-abbrev pub answer : Store → Resolved → Result Assertion Refusal
+-- The answer of a call over declarations: a statement with its set, or the first refusal. A call is a step with the statements,
+-- variables, metavariables and the rule that it names. The declarations stay as they are.
+abbrev pub answer : Declarations → Resolved → Result Assertion Refusal
 answer W s = answered (first_refusal (checks W s)) (given W s)

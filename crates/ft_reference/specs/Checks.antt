@@ -7,8 +7,8 @@ use Rattle.ft_theory.specs.Rules.{look_up, Rule, conclusion_at}
 use Rattle.ft_items.specs.Sets.{Atom, met, var}
 use Rattle.ft_items.specs.Equal.{is_object_goal, is_object, has_head, heads, right_heads}
 use Rattle.ft_items.specs.Item.{by_var, by_generic, by_meta, by_metacong, by_abs, by_subst, by_substeq, by_refl, by_sym, by_trans, by_conv, by_conveq, by_left, by_right, by_typeof, by_domain, by_boundary, by_widen, by_btype, by_bterm, by_beqty, by_beqtm, by_rule, by_rulewith, by_inst, by_cong, by_convprem, by_convback, by_arg, by_natural, by_metainst}
-use Rattle.ft_items.specs.Store.{Annotation, Store, Resolved, premises_of}
-use Rattle.ft_items.specs.Rows.{statements, bounds, rests_on, substitution, equal_substitution, symmetry, left_side, right_side, type_part, under_domains, first_domain, term_boundary, type_equation_boundary, applied_meta, meta_congruence, at_arguments, rule_instance, rule_instance_with, boundary_instance, congruence_of, first_premises, later_premises, arguments_of, from_one, argument, natural_type, instantiated}
+use Rattle.ft_items.specs.Store.{Annotation, Declarations, Resolved, premises_of}
+use Rattle.ft_items.specs.Rows.{statements, bounds, rests_on, substitution, equal_substitution, symmetry, left_side, right_side, type_part, under_domains, first_domain, term_boundary, type_equation_boundary, applied_meta, meta_congruence, at_arguments, rule_instance, rule_instance_with, boundary_after, boundary_instance, congruence_of, first_premises, arguments_of, from_one, argument, natural_type, instantiated}
 use Rattle.ft_reference.specs.Refusals.{WrongForm, NotAbstracted, DependentVariable, ArgumentCount, NotApplication, Check, asks, forms, forms_statement, forms_result, count_check, none_check}
 use Rattle.ft_reference.specs.Compare.{type_check, side_check, boundary_checks, fit_checks, argument_checks, head_count, equation_checks, term_checks, pair_checks}
 
@@ -88,24 +88,23 @@ instance_checks R xs =
 abbrev pub congruence_checks : ℕ → Rule → List Statement → List Statement → List Check
 congruence_checks r R xs es = asks (is_object_goal R.conclusion) WrongForm ∷ (rule_checks r R xs ++ (all_equation_checks xs es ++ forms_result (congruence_of r R xs es)))
 
--- the next premise's boundary at a, which the thesis is to fit; that boundary at c
-abbrev pub moved_checks : List (ℕ × Statement) → Arguments → Arguments → List (ℕ × Statement) → Statement → List Check
-moved_checks ps a c [] y = []
-moved_checks ps a c (q ∷ qs) y = forms_statement (at_arguments ps a q.1) ++ (fit_checks y (at_arguments ps a q.1) ++ forms_statement (at_arguments ps c q.1))
-
 -- fewer theses than premises; arguments for the first premises; equations
-abbrev pub before_premise_checks : Rule → List Statement → List Statement → List Check
-before_premise_checks R xs es =
+abbrev pub equal_argument_checks : Rule → List Statement → List Statement → List Check
+equal_argument_checks R xs es =
     asks (nat_lt (length xs) (length R.premises)) (ArgumentCount (length xs) (length R.premises))
     ∷ (first_argument_checks R xs ++ all_equation_checks xs es)
 
+-- the next premise's boundary at a, which the thesis is to fit; that boundary at c
+abbrev pub moved_checks : Rule → List Statement → Arguments → Arguments → Statement → List Check
+moved_checks R xs a c y = forms_statement (boundary_after R xs a) ++ (fit_checks y (boundary_after R xs a) ++ forms_statement (boundary_after R xs c))
+
 -- all these, and the argument that is moved from the arguments to the right sides
 abbrev pub premise_checks : Rule → List Statement → List Statement → Statement → List Check
-premise_checks R xs es y = before_premise_checks R xs es ++ moved_checks (first_premises R xs) (heads xs) (right_heads xs es) (later_premises R xs) y
+premise_checks R xs es y = equal_argument_checks R xs es ++ moved_checks R xs (heads xs) (right_heads xs es) y
 
 -- the same from the right sides to the arguments
 abbrev pub premise_back_checks : Rule → List Statement → List Statement → Statement → List Check
-premise_back_checks R xs es y = before_premise_checks R xs es ++ moved_checks (first_premises R xs) (right_heads xs es) (heads xs) (later_premises R xs) y
+premise_back_checks R xs es y = equal_argument_checks R xs es ++ moved_checks R xs (right_heads xs es) (heads xs) y
 
 -- Metavariables.
 
@@ -132,30 +131,30 @@ is_application (symbol r a) = true
 is_application (meta m a) = true
 
 -- an application with an i-th argument, from 1; that argument
-abbrev pub place_checks : Store → ℕ → Expression → Statement → List Check
+abbrev pub place_checks : Declarations → ℕ → Expression → Statement → List Check
 place_checks W i e x =
     asks (is_application e) NotApplication
     ∷ asks (is_some (from_one (arguments_of W e) i)) (ArgumentCount i (length (arguments_of W e)))
     ∷ forms_result (argument W i x)
 
 -- the same for the expression of a plain type or term
-abbrev pub application_checks : Store → ℕ → Statement → List Check
+abbrev pub application_checks : Declarations → ℕ → Statement → List Check
 application_checks W i (plain (is_type e)) = place_checks W i e (plain (is_type e))
 application_checks W i (plain (has_type e A)) = place_checks W i e (plain (has_type e A))
 application_checks W i x = asks false WrongForm ∷ []
 
--- the type by declaration is formed; an expression without one has a wrong form, which no term over the store is
+-- the type by declaration is formed; an expression without one has a wrong form, which no term over the declarations is
 abbrev pub forms_natural : Option Expression → List Check
 forms_natural None = asks false WrongForm ∷ []
 forms_natural (Some N) = forms N ∷ []
 
 -- a plain term; its type by declaration
-abbrev pub natural_checks : Store → Statement → List Check
+abbrev pub natural_checks : Declarations → Statement → List Check
 natural_checks W (plain (has_type e A)) = forms_natural (natural_type W e)
 natural_checks W x = asks false WrongForm ∷ []
 
 -- The checks of each call, in order. Steps without checks are never refused.
-abbrev pub checks : Store → Resolved → List Check
+abbrev pub checks : Declarations → Resolved → List Check
 checks W (by_var v) = []
 checks W (by_generic m) = forms_application (is_object m.1.boundary) (meta m.0 (bounds (domain_count m.1.boundary)))
 checks W (by_meta m ps) = meta_checks m.0 m.1.boundary (statements ps)

@@ -3,7 +3,7 @@ use Rattle.std.specs.Prelude.{ℕ, suc, Bool, cond, nat_lt, Option, Some, None, 
 use Rattle.ft_theory.specs.Rules.{Rule}
 use Rattle.ft_items.specs.Sets.{Atom, met, var, has}
 use Rattle.ft_items.specs.Item.{Name}
-use Rattle.ft_items.specs.Store.{Assertion, Annotation, Declared, Store, type_in, claim_in, premises_of, add_variable, add_metavariable, add_rule}
+use Rattle.ft_items.specs.Store.{Assertion, Annotation, Declared, declared_variable, declared_metavariable, declared_rule, add_variable, add_metavariable, add_rule, Declarations}
 use Rattle.ft_items.specs.Rows.{atoms}
 use Rattle.ft_items.specs.Good.{is_plain_type, is_new}
 use Rattle.ft_reference.specs.Refusals.{Refusal, WrongForm, OpenBoundary}
@@ -29,20 +29,12 @@ first_of (Some e) o = Some e
 
 -- Variables and metavariables. What is answered is the number with what is declared under it.
 
--- what is declared of a variable with this name and this type: both, and the set on which the type rests
-abbrev pub declared_variable : Name → Assertion → Annotation
-declared_variable n p = record { name = n; annotation = type_in p.statement; set = p.set }
-
 -- A variable of number v at a type, which is to be plain. The number is to be greater than those of the earlier variables.
-abbrev pub new_variable : Store → ℕ → Name → Assertion → Outcome Store (ℕ × Annotation) Refusal
+abbrev pub new_variable : Declarations → ℕ → Name → Assertion → Outcome Declarations (ℕ × Annotation) Refusal
 new_variable W v n p = outcome (refused_unless (is_plain_type p.statement) WrongForm) W (add_variable W v n (Some p)) (v, declared_variable n p)
 
--- what is declared of a metavariable with this name and this boundary: both, and the set on which the boundary rests
-abbrev pub declared_metavariable : Name → Assertion → Declared
-declared_metavariable n b = record { name = n; boundary = b.statement; set = b.set }
-
 -- the metavariable that is declared next with them, with its number
-abbrev pub next_metavariable : Store → Name → Assertion → ℕ × Declared
+abbrev pub next_metavariable : Declarations → Name → Assertion → ℕ × Declared
 next_metavariable W n b = (length W.metavariables, declared_metavariable n b)
 
 -- the first variable of a set, which is the least
@@ -52,7 +44,7 @@ first_variable (met m ∷ S) = first_variable S
 first_variable (var v ∷ S) = Some v
 
 -- A metavariable with a boundary, which rests on no variable. Its number is the next one.
-abbrev pub new_metavariable : Store → Name → Assertion → Outcome Store (ℕ × Declared) Refusal
+abbrev pub new_metavariable : Declarations → Name → Assertion → Outcome Declarations (ℕ × Declared) Refusal
 new_metavariable W n b = outcome (option_map OpenBoundary (first_variable b.set)) W (add_metavariable W n (Some b)) (next_metavariable W n b)
 
 -- Rules.
@@ -71,7 +63,7 @@ pub record Draft : Type 0 where
   pub premises : List (ℕ × Declared)
 
 -- why no rule of this name can be declared
-abbrev pub name_fault : Store → Name → Option RuleFault
+abbrev pub name_fault : Declarations → Name → Option RuleFault
 name_fault W n = first_of (refused_unless (is_new W.names n) Duplicate) (refused_unless (nat_lt (length W.rules) 65536) TooMany)
 
 -- the first atom of the set that is not among the others; in a set it is the least
@@ -79,27 +71,23 @@ abbrev pub first_outside : List Atom → List Atom → Option Atom
 first_outside others [] = None
 first_outside others (a ∷ S) = cond (has a others) (first_outside others S) (Some a)
 
--- a draft without premises, where a rule of the name can be declared; the store stays
-abbrev pub begin : Store → Name → Outcome Store Draft RuleFault
+-- a draft without premises, where a rule of the name can be declared; the declarations stay
+abbrev pub begin : Declarations → Name → Outcome Declarations Draft RuleFault
 begin W n = outcome (name_fault W n) W W (record { name = n; premises = [] })
 
 -- A further premise with this boundary, which rests on the draft's metavariables alone: a metavariable, whose number is the
--- next one. Store and draft stay as they are after a refusal.
-abbrev pub premise : Store → Draft → Name → Assertion → Outcome (Store × Draft) (ℕ × Declared) RuleFault
+-- next one. Declarations and draft stay as they are after a refusal.
+abbrev pub premise : Declarations → Draft → Name → Assertion → Outcome (Declarations × Draft) (ℕ × Declared) RuleFault
 premise W d n b = outcome (option_map (OpenPremise (suc (length d.premises))) (first_outside (atoms d.premises) b.set)) (W, d)
     (add_metavariable W n (Some b), record d { premises = d.premises ++ (next_metavariable W n b ∷ []) })
     (next_metavariable W n b)
 
--- the rule with these premises and this boundary as its conclusion
-abbrev pub declared_rule : List (ℕ × Declared) → Assertion → Rule
-declared_rule ds c = record { premises = premises_of ds; conclusion = claim_in c.statement }
-
 -- the rule that is declared next with them, with its number
-abbrev pub next_rule : Store → List (ℕ × Declared) → Assertion → ℕ × Rule
+abbrev pub next_rule : Declarations → List (ℕ × Declared) → Assertion → ℕ × Rule
 next_rule W ds c = (length W.rules, declared_rule ds c)
 
 -- The rule of the draft with a plain boundary as its conclusion, which rests on the draft's metavariables alone. Its number is
 -- the next one.
-abbrev pub finish : Store → Draft → Assertion → Outcome Store (ℕ × Rule) RuleFault
+abbrev pub finish : Declarations → Draft → Assertion → Outcome Declarations (ℕ × Rule) RuleFault
 finish W d c = outcome (first_of (name_fault W d.name) (option_map OpenConclusion (first_outside (atoms d.premises) c.set))) W
     (add_rule W d.name (Some d.premises) (Some c)) (next_rule W d.premises c)

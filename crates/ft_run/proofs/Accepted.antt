@@ -7,24 +7,24 @@ use Rattle.ft_theory.specs.Rules.{Rule}
 use Rattle.ft_items.specs.Sets.{Atom, met, has, is_within}
 use Rattle.ft_items.specs.Equal.{is_thesis}
 use Rattle.ft_items.specs.Item.{Item, rule}
-use Rattle.ft_items.specs.Store.{Declared, Store, nth, each, entry_named, metavariable_named, premises_of, add_rule, empty_store, store_of}
+use Rattle.ft_items.specs.Store.{Declared, nth, each, entry_named, metavariable_named, premises_of, add_rule, empty_store, store_of, Declarations, declared_by}
 use Rattle.ft_items.specs.Rows.{atoms, differ, on_earlier}
 use Rattle.ft_items.specs.Good.{Allowed, equal_names, is_new}
-use Rattle.ft_items.proofs.Lists.{store_last, entries_all}
+use Rattle.ft_items.proofs.Lists.{entries_all, declared_last}
 use Rattle.ft_judge.specs.Meaning.{goal_in}
 use Rattle.ft_judge.specs.declared.judgement.Goal.{Goal}
 use Rattle.ft_kernel.specs.State.{State, with_item}
-use Rattle.ft_applications.specs.Building.{Declaration, theory, names, first_named}
+use Rattle.ft_applications_meaning.specs.Building.{Declaration, theory, names, first_named}
 use Rattle.ft_run.specs.declared.session.Known.{Known}
 use Rattle.ft_run.specs.Session.{Progress, numbered, boundaries_in, declaration, declarations, IsSimpleGoal, FitsKnown, AreKnown, IsSession, HasEntry, AreMade, goals_in}
 use Rattle.ft_run.specs.Claiming.{rule_in}
-use Rattle.ft_applications.specs.Histories.{declares, told_rule, told}
+use Rattle.ft_applications_meaning.specs.Histories.{declares, told_rule, told}
 use Rattle.ft_run.proofs.Telling.{told_last, steps_last}
 use Rattle.std.proofs.lemmas.Option.{none-some}
 use Rattle.ft_run.proofs.Keeping.{declarations_length, theory_length}
 
 -- Metavariables that are made: what they declare, and why a rule may have them.
-record Made (W : Store) (m : ℕ) (gs : List Claim) (ms : List ℕ) : Type 0 where
+record Made (W : Declarations) (m : ℕ) (gs : List Claim) (ms : List ℕ) : Type 0 where
   pub ds : List (ℕ × Declared)
   pub found : each (metavariable_named W) ms ≡ Some ds
   pub premises : premises_of ds ≡ numbered m (map plain gs)
@@ -35,12 +35,12 @@ record Made (W : Store) (m : ℕ) (gs : List Claim) (ms : List ℕ) : Type 0 whe
 unequal : (j m : ℕ) → j < m → nat_eq j m ≡ false
 unequal j m l = ne_eqb j m (λ e. omega (arith, e, l))
 
-made_in : (s : State) (m : ℕ) (gs : List Claim) (ms : List ℕ) → AreMade s m gs ms → Made (store_of s.items) m gs ms
+made_in : (s : State) (m : ℕ) (gs : List Claim) (ms : List ℕ) → AreMade s m gs ms → Made (declared_by s.items) m gs ms
 made_in s m [] [] h = record { ds = []; found = refl; premises = refl; differing = refl; fresh = λ j l. refl; earlier = λ before. refl }
 made_in s m [] (k ∷ ms) h = absurd h
 made_in s m (g ∷ gs) [] h = absurd h
 made_in s m (g ∷ gs) (k ∷ ms) h =
-    let W : Store = store_of s.items in
+    let W : Declarations = declared_by s.items in
     let d : Declared = h.1.0 in
     let more : Made W (suc m) gs ms = made_in s (suc m) gs ms h.2 in
     let less : m < suc m = omega arith in
@@ -70,8 +70,8 @@ entry_there s b c h = ap (λ es. nth es b) (entries_all empty_store s.items) ∙
 allowed_in : (s : State) (ks : List Known) (k : Known) (ms : List ℕ) (b : ℕ) → IsSession s ks → is_new (names (declarations s.trees ks)) k.name ≡ true → length (declarations s.trees ks) < 65536
     → FitsKnown s.trees k → AreMade s k.first (goals_in s.trees k.premises.items) ms → HasEntry s b (goal_in s.trees k.conclusion) → Allowed s.items (rule k.name ms b)
 allowed_in s ks k ms b h n l f m e =
-    let M : Made (store_of s.items) k.first (goals_in s.trees k.premises.items) ms = made_in s k.first (goals_in s.trees k.premises.items) ms m in
-    let long : length (store_of s.items).rules ≡ length (declarations s.trees ks) = ap length h.rules ∙ theory_length (declarations s.trees ks) in (
+    let M : Made (declared_by s.items) k.first (goals_in s.trees k.premises.items) ms = made_in s k.first (goals_in s.trees k.premises.items) ms m in
+    let long : length (declared_by s.items).rules ≡ length (declarations s.trees ks) = ap length h.rules ∙ theory_length (declarations s.trees ks) in (
       ap (λ ns. is_new ns k.name) h.names_are ∙ n,
       subst (λ i. i < 65536) (sym long) l,
       M.ds,
@@ -124,12 +124,12 @@ plain_goals ts (g ∷ gs) = ap (λ bs. plain (goal_in ts g) ∷ bs) (plain_goals
 session_in : (s : State) (ks : List Known) (k : Known) (ms : List ℕ) (b : ℕ) → IsSession s ks
     → FitsKnown s.trees k → AreMade s k.first (goals_in s.trees k.premises.items) ms → HasEntry s b (goal_in s.trees k.conclusion) → IsSession (with_item s (rule k.name ms b)) (ks ++ k ∷ [])
 session_in s ks k ms b h f m e =
-    let W : Store = store_of s.items in
+    let W : Declarations = declared_by s.items in
     let ds : List Declaration = declarations s.trees ks in
     let d : Declaration = declaration s.trees k in
     let M : Made W k.first (goals_in s.trees k.premises.items) ms = made_in s k.first (goals_in s.trees k.premises.items) ms m in
-    let after : store_of (s.items ++ rule k.name ms b ∷ []) ≡ add_rule W k.name (Some M.ds) (Some (record { statement = plain (goal_in s.trees k.conclusion); set = [] })) =
-    store_last empty_store s.items (rule k.name ms b) ∙ ap₂ (λ os o. add_rule W k.name os o) M.found (entry_there s b (goal_in s.trees k.conclusion) e) in
+    let after : declared_by (s.items ++ rule k.name ms b ∷ []) ≡ add_rule W k.name (Some M.ds) (Some (record { statement = plain (goal_in s.trees k.conclusion); set = [] })) =
+    declared_last s.items (rule k.name ms b) ∙ ap₂ (λ os o. add_rule W k.name os o) M.found (entry_there s b (goal_in s.trees k.conclusion) e) in
     let premises : premises_of M.ds ≡ numbered k.first (boundaries_in s.trees k.premises.items) = M.premises ∙ ap (numbered k.first) (plain_goals s.trees k.premises.items) in
     record {
       known = known_last s.trees ks k h.known f;
@@ -150,7 +150,7 @@ session_in s ks k ms b h f m e =
 told_rule_in : (s : State) (k : Known) (ms : List ℕ) (b : ℕ) → AreMade s k.first (goals_in s.trees k.premises.items) ms → HasEntry s b (goal_in s.trees k.conclusion)
     → told (s.items ++ rule k.name ms b ∷ []) ≡ told s.items ++ declares k.name (declaration s.trees k).rule ∷ []
 told_rule_in s k ms b m e =
-    let W : Store = store_of s.items in
+    let W : Declarations = declared_by s.items in
     let M : Made W k.first (goals_in s.trees k.premises.items) ms = made_in s k.first (goals_in s.trees k.premises.items) ms m in
     let premises : premises_of M.ds ≡ numbered k.first (boundaries_in s.trees k.premises.items) = M.premises ∙ ap (numbered k.first) (plain_goals s.trees k.premises.items) in
     told_last s.items (rule k.name ms b)

@@ -6,11 +6,12 @@ use Rattle.ft_theory.specs.Rules.{Rule, rule_at, instance_of}
 use Rattle.ft_items.specs.Sets.{unions}
 use Rattle.ft_items.specs.Equal.{fits, fit_all, heads}
 use Rattle.ft_items.specs.Item.{Item, entry, by_rule}
-use Rattle.ft_items.specs.Store.{Store, each, entry_named, resolve, with_two, store_of}
+use Rattle.ft_items.specs.Store.{Store, each, entry_named, resolve, with_two, store_of, declared_by}
 use Rattle.ft_items.specs.Rows.{when, statements, sets, rule_instance}
 use Rattle.ft_items.specs.Good.{all_theses, given, Allowed}
-use Rattle.ft_applications.specs.Building.{plains}
-use Rattle.ft_run.specs.Session.{IsSimple, AreSimple, IsSimpleGoal, IsSimpleBoundary, AreSimplePremises, IsSimpleRule, AreSimpleClaims, assertions}
+use Rattle.ft_applications_meaning.specs.Building.{plains}
+use Rattle.ft_run.specs.Session.{IsSimple, AreSimple, IsSimpleGoal}
+use Rattle.ft_run.proofs.Simple.{IsSimpleBoundary, AreSimplePremises, IsSimpleRule, AreSimpleClaims, assertions}
 
 mutual
   unfolding act
@@ -74,7 +75,7 @@ instance_simple k R cs h f =
     ap (rule_instance k R) (statements_plain cs)
     ∙ ap₂ (λ b c. when b (plain (fill_goal c (symbol k (heads (plains cs)))))) (fit_simple i R.premises (plains cs) h.0 ∙ f) (goal_simple i R.conclusion h.1)
 
-pub rule_allowed : (items : List Item) (k : ℕ) (R : Rule) (js : List ℕ) (cs : List Claim) → rule_at (store_of items).rules k ≡ Some R → IsSimpleRule R → AreSimpleClaims cs
+pub rule_allowed : (items : List Item) (k : ℕ) (R : Rule) (js : List ℕ) (cs : List Claim) → rule_at (declared_by items).rules k ≡ Some R → IsSimpleRule R → AreSimpleClaims cs
     → each (entry_named (store_of items)) js ≡ Some (assertions cs) → fit_all (λ b. b) R.premises (plains cs) ≡ true
     → Allowed items (entry (record { statement = plain (fill_goal R.conclusion (symbol k (heads (plains cs)))); set = []; step = by_rule k js }))
 rule_allowed items k R js cs r h s e f =
@@ -82,6 +83,6 @@ rule_allowed items k R js cs r h s e f =
     let x : Statement = plain (fill_goal R.conclusion (symbol k (heads (plains cs)))) in
     let resolved : resolve W (by_rule k js) ≡ Some (by_rule (k, R) (assertions cs)) =
     ap₂ (λ o p. with_two by_rule (option_map (λ R. (k, R)) o) p) r e in
-    ap (option_and_then (given W)) resolved
+    ap (option_and_then (given W.declarations)) resolved
     ∙ ap₂ (λ b o. cond (b && true) (option_map (λ x. record { statement = x; set = unions (sets (assertions cs)) }) o) None) (theses_simple cs s) (instance_simple k R cs h f)
     ∙ ap (λ S. Some (record { statement = x; set = S })) (sets_empty cs)

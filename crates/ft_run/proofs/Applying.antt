@@ -12,7 +12,7 @@ use Rattle.ft_judge.specs.declared.judgement.Form.{Form}
 use Rattle.ft_judge.specs.declared.judgement.Form.TheVariants.{Ty, Tm, EqTy, EqTm}
 use Rattle.ft_judge.specs.declared.judgement.Goal.{Goal}
 use Rattle.ft_kernel.specs.State.{State}
-use Rattle.ft_applications.specs.Building.{Declaration, plains}
+use Rattle.ft_applications_meaning.specs.Building.{Declaration, plains}
 use Rattle.ft_run.specs.declared.session.Claimed.{Claimed}
 use Rattle.ft_run.specs.Given.{argument_of}
 use Rattle.ft_run.specs.Session.{Progress, IsSimple, AreSimple, IsSimpleClaim, IsSimpleGoal, HasEntry, IsClaimed, AreClaimed, claims_in, Keeps}

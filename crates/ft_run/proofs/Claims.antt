@@ -5,16 +5,17 @@ use Rattle.std.proofs.lemmas.Option.{none-some, same_Some}
 use Rattle.std.proofs.Math.Seq.{take-suc, drop-cons}
 use Rattle.ft_theory.specs.Statements.{Claim}
 use Rattle.ft_theory.specs.Rules.{Rule}
-use Rattle.ft_applications.specs.declared.syntax.Application.{Application}
-use Rattle.ft_applications.specs.declared.syntax.Application.TheOpen.{Application-F}
-use Rattle.ft_applications.specs.declared.syntax.Application.TheFolds.{fold-roll-Application}
-use Rattle.ft_applications.specs.declared.syntax.Application as opened
-use Rattle.ft_applications.specs.declared.syntax.Application.TheVariants as application
-use Rattle.ft_applications.specs.Building.{Declaration, claim_of, claim_of_layer, all_of, first_named, rule_at_arguments}
+use Rattle.ft_applications_meaning.specs.declared.syntax.Application.{Application}
+use Rattle.ft_applications_meaning.specs.declared.syntax.Application.TheOpen.{Application-F}
+use Rattle.ft_applications_meaning.specs.declared.syntax.Application.TheFolds.{fold-roll-Application}
+use Rattle.ft_applications_meaning.specs.declared.syntax.Application as opened
+use Rattle.ft_applications_meaning.specs.declared.syntax.Application.TheVariants as application
+use Rattle.ft_applications_meaning.specs.Building.{Declaration, claim_of, claim_of_layer, all_of, first_named, rule_at_arguments}
 use Rattle.ft_judge.specs.Meaning.{claim_in}
 use Rattle.ft_run.specs.declared.session.Claimed.{Claimed}
 use Rattle.ft_run.specs.Session.{Progress, IsClaimed, AreClaimed, claims_in, Keeps}
-use Rattle.ft_run.specs.Claiming.{named_at, nodes, nodes_in_layer, total}
+use Rattle.ft_run.specs.Claiming.{named_at}
+use Rattle.ft_run.proofs.Nodes.{nodes, nodes_in_layer, total}
 use Rattle.ft_run.proofs.Keeping.{all_claimed_kept}
 
 -- what an application claims, by its arguments

@@ -5,7 +5,7 @@ use Rattle.ft_theory.specs.Statements.{plain, fill_goal}
 use Rattle.ft_theory.specs.Rules.{rule_at}
 use Rattle.ft_items.specs.Equal.{fit_all, heads}
 use Rattle.ft_items.specs.Item.{Item, entry, by_rule}
-use Rattle.ft_items.specs.Store.{nth, each, entry_named, rules_in, empty_store, store_of}
+use Rattle.ft_items.specs.Store.{nth, each, entry_named, rules_in, empty_store, store_of, declared_by}
 use Rattle.ft_items.specs.Good.{Allowed, Good}
 use Rattle.ft_items.proofs.Lists.{entries_all, store_is}
 use Rattle.std.proofs.lemmas.Bool.{lt-ltb}
@@ -14,11 +14,12 @@ use Rattle.ft_judge.specs.Meaning.{claim_in, goal_in, GoalBelow}
 use Rattle.ft_judge.specs.declared.judgement.Form.{Form}
 use Rattle.ft_judge.specs.declared.judgement.Goal.{Goal}
 use Rattle.ft_kernel.specs.State.{State, if_below}
-use Rattle.ft_applications.specs.Building.{Declaration, theory, plains}
+use Rattle.ft_applications_meaning.specs.Building.{Declaration, theory, plains}
 use Rattle.ft_run.specs.declared.session.Known.{Known}
 use Rattle.ft_run.specs.declared.session.Claimed.{Claimed}
 use Rattle.ft_run.specs.Given.{fits_goals}
-use Rattle.ft_run.specs.Session.{Progress, numbered, boundaries_in, declaration, declarations, IsSimpleGoal, AllFitGoals, FitsKnown, AreKnown, IsSession, AreClaimed, AllClaimsBelow, claims_in, IsSimpleRule, AreSimplePremises, AreSimpleClaims, assertions}
+use Rattle.ft_run.specs.Session.{Progress, numbered, boundaries_in, declaration, declarations, IsSimpleGoal, AllFitGoals, FitsKnown, AreKnown, IsSession, AreClaimed, AllClaimsBelow, claims_in}
+use Rattle.ft_run.proofs.Simple.{IsSimpleRule, AreSimplePremises, AreSimpleClaims, assertions}
 use Rattle.ft_run.specs.Claiming.{rule_in}
 use Rattle.ft_run.proofs.Keeping.{declarations_length, theory_length, fits_declared}
 use Rattle.ft_run.proofs.Allowed.{rule_allowed}
@@ -99,7 +100,7 @@ concluded_in : (s : State) (ks : List Known) (i : ℕ) (xs : List Claimed) (js :
 concluded_in s ks i xs js f h l c j fit claim =
     let ds : List Declaration = declarations s.trees ks in
     let m : i < length ds = subst (λ n. i < n) (sym (declarations_length s.trees ks)) l in
-    let there : rule_at (store_of s.items).rules i ≡ Some (rule_in ds i) = ap (λ T. rule_at T i) h.rules ∙ rule_at_in ds i m in
+    let there : rule_at (declared_by s.items).rules i ≡ Some (rule_in ds i) = ap (λ T. rule_at T i) h.rules ∙ rule_at_in ds i m in
     let given : each (entry_named (store_of s.items)) js ≡ Some (assertions (claims_in s.trees xs)) = ap (each (entry_named (store_of s.items))) j ∙ entries_claimed s xs c in
     subst (λ c. Allowed s.items (entry (record { statement = plain c; set = []; step = by_rule i js }))) (sym claim)
     (rule_allowed s.items i (rule_in ds i) js (claims_in s.trees xs) there (rule_simple s.trees ks i h.known l) (claims_simple s xs c) given fit)
@@ -122,7 +123,7 @@ concluded_allowed s ks p i r xs js f h v l q c j fit claim =
 pub goal_simple_at : (s : State) (ks : List Known) (p : Progress) (i : ℕ) (k : Known) → IsSession s ks → record { state = s; rules = declarations s.trees ks } ≡ p → i < length ks → k ≡ get_or ks i k → IsSimpleGoal (goal_in p.state.trees k.conclusion)
 goal_simple_at s ks p i k h v l e = subst (λ p. IsSimpleGoal (goal_in p.state.trees k.conclusion)) v (rule_in_at s.trees ks i k h.known l e).1.1.1
 
-rules_length : (items : List Item) → Good items → length (rules_in items) ≡ length (store_of items).rules
+rules_length : (items : List Item) → Good items → length (rules_in items) ≡ length (declared_by items).rules
 rules_length items g = sym (ap length (store_is items g).rules ∙ length-map (rules_in items) _)
 
 -- a place of the rules is the number of a rule of the kernel

@@ -3,15 +3,15 @@ use Rattle.std.proofs.Common.{◌≡◌, ◌∙◌, sym, ap, refl, subst, ℕ, s
 use Rattle.ft_base.specs.declared.memory.Memory.{Memory}
 use Rattle.ft_theory.specs.Statements.{Claim, plain}
 use Rattle.ft_items.specs.Item.{Name, Item, Entry, metavariable, rule, entry, shown}
-use Rattle.ft_items.specs.Store.{Assertion, Declared, Store, nth, entry_named, add_metavariable, add, add_all, empty_store, store_of, metavariables_in}
+use Rattle.ft_items.specs.Store.{Assertion, Declared, Store, nth, entry_named, add_metavariable, add, add_all, empty_store, store_of, metavariables_in, Declarations, declared_by}
 use Rattle.ft_items.specs.Good.{Allowed, Good}
 use Rattle.std.proofs.lemmas.List.{length-map}
-use Rattle.ft_items.proofs.Lists.{store_last, store_is, nth_end, before_all, metavariables_append}
+use Rattle.ft_items.proofs.Lists.{store_is, nth_end, before_all, metavariables_append, declared_last}
 use Rattle.ft_kernel.specs.State.{State, with_item}
 use Rattle.ft_run.specs.declared.session.Known.{Known}
 use Rattle.ft_run.specs.Session.{Progress, declarations, IsSession, HasEntry, HasMet, AreMade, Keeps, GoesOn}
 use Rattle.ft_run.specs.Asking.{HasGoal}
-use Rattle.ft_applications.specs.Histories.{told}
+use Rattle.ft_applications_meaning.specs.Histories.{told}
 use Rattle.ft_run.proofs.Telling.{told_metavariable, steps_last}
 use Rattle.ft_run.proofs.Keeping.{keeps_tell}
 use Rattle.ft_run.proofs.Accepted.{entry_there, goal_no_thesis}
@@ -51,7 +51,7 @@ add_append W (i ∷ is) js = add_append (add W i) is js
 met_stays : (s t : State) (more : List Item) (m : ℕ) (g : Claim) → t.items ≡ s.items ++ more → HasMet s m g → HasMet t m g
 met_stays s t more m g e h =
     let there : store_of t.items ≡ add_all (store_of s.items) more = ap store_of e ∙ add_append empty_store s.items more in
-    (h.0, ap (λ (W : Store). nth W.metavariables m) there ∙ (before_all (store_of s.items) more).metavariables m h.0 h.1, h.2, h.3)
+    (h.0, ap (λ (W : Store). nth W.declarations.metavariables m) there ∙ (before_all (store_of s.items) more).metavariables m h.0 h.1, h.2, h.3)
 
 -- what was made stays made
 pub made_stays : (s t : State) (more : List Item) (m : ℕ) (gs : List Claim) (ms : List ℕ) → t.items ≡ s.items ++ more → AreMade s m gs ms → AreMade t m gs ms
@@ -67,26 +67,26 @@ met_allowed s n b h = (record { statement = plain h.0; set = [] }, entry_there s
 
 pub met_made : (s t : State) (n : Name) (b m : ℕ) (g : Claim) → Good s.items → t ≡ with_item s (metavariable n b) → m ≡ length (metavariables_in s.items) → HasEntry s b g → HasMet t m g
 met_made s t n b m g good a e h =
-    let W : Store = store_of s.items in
+    let W : Declarations = declared_by s.items in
     let d : Declared = record { name = n; boundary = plain g; set = [] } in
-    let after : store_of (s.items ++ metavariable n b ∷ []) ≡ add_metavariable W n (Some (record { statement = plain g; set = [] })) =
-    store_last empty_store s.items (metavariable n b) ∙ ap (add_metavariable W n) (entry_there s b g h) in
+    let after : declared_by (s.items ++ metavariable n b ∷ []) ≡ add_metavariable W n (Some (record { statement = plain g; set = [] })) =
+    declared_last s.items (metavariable n b) ∙ ap (add_metavariable W n) (entry_there s b g h) in
     let long : length W.metavariables ≡ length (metavariables_in s.items) = ap length (store_is s.items good).metavariables ∙ length-map (metavariables_in s.items) _ in
     subst (λ (t : State). HasMet t m g) (sym a)
-    (d, ap (λ (X : Store). nth X.metavariables m) after ∙ ap (nth (W.metavariables ++ d ∷ [])) (e ∙ sym long) ∙ nth_end W.metavariables d, refl, refl)
+    (d, ap (λ (X : Declarations). nth X.metavariables m) after ∙ ap (nth (W.metavariables ++ d ∷ [])) (e ∙ sym long) ∙ nth_end W.metavariables d, refl, refl)
 
-stays_metavariable_rules : (W : Store) (n : Name) (o : Option Assertion) → ((add_metavariable W n o).rules ≡ W.rules) × ((add_metavariable W n o).names ≡ W.names)
+stays_metavariable_rules : (W : Declarations) (n : Name) (o : Option Assertion) → ((add_metavariable W n o).rules ≡ W.rules) × ((add_metavariable W n o).names ≡ W.names)
 stays_metavariable_rules W n None = (refl, refl)
 stays_metavariable_rules W n (Some a) = (refl, refl)
 
 session_met : (s : State) (n : Name) (b : ℕ) (ks : List Known) → IsSession s ks → IsSession (with_item s (metavariable n b)) ks
 session_met s n b ks h =
-    let more = store_last empty_store s.items (metavariable n b) in
-    let same = stays_metavariable_rules (store_of s.items) n (entry_named (store_of s.items) b) in
+    let more = declared_last s.items (metavariable n b) in
+    let same = stays_metavariable_rules (declared_by s.items) n (entry_named (store_of s.items) b) in
     record {
       known = h.known;
-      rules = ap (λ (W : Store). W.rules) more ∙ same.0 ∙ h.rules;
-      names_are = ap (λ (W : Store). W.names) more ∙ same.1 ∙ h.names_are;
+      rules = ap (λ (W : Declarations). W.rules) more ∙ same.0 ∙ h.rules;
+      names_are = ap (λ (W : Declarations). W.names) more ∙ same.1 ∙ h.names_are;
       steps = steps_last s.items (metavariable n b) h.steps tt;
     }
 

@@ -5,17 +5,18 @@ use Rattle.ft_theory.specs.Expressions.{Expression}
 use Rattle.ft_theory.specs.Statements.{Claim, plain}
 use Rattle.ft_items.specs.Sets.{Atom}
 use Rattle.ft_items.specs.Item.{Item, Entry, Stated, entry}
-use Rattle.ft_items.specs.Store.{nth, entries_in, empty_store, store_of}
-use Rattle.ft_items.proofs.Lists.{store_last, nth_before, nth_end, entries_append}
+use Rattle.ft_items.specs.Store.{nth, entries_in, declared_by}
+use Rattle.ft_items.proofs.Lists.{nth_before, nth_end, entries_append, declared_last}
 use Rattle.std.proofs.lemmas.List.{map-append, length-map}
 use Rattle.ft_syntax.specs.Table.{Extends}
 use Rattle.ft_judge.specs.Meaning.{claim_in, under}
 use Rattle.ft_judge.specs.declared.judgement.Goal.{Goal}
 use Rattle.ft_kernel.specs.State.{State, with_item}
-use Rattle.ft_applications.specs.Histories.{told, IsOfApplications, AllOfApplications}
+use Rattle.ft_applications_meaning.specs.Histories.{told}
+use Rattle.ft_run.specs.Steps.{IsOfApplications, AllOfApplications}
 use Rattle.ft_run.proofs.Telling.{told_entries, steps_last}
 use Rattle.ft_judge.specs.Laws.{claim_extends, goal_extends, form_below_extends, goal_below_extends}
-use Rattle.ft_applications.specs.Building.{Declaration, theory, names, plains}
+use Rattle.ft_applications_meaning.specs.Building.{Declaration, theory, names, plains}
 use Rattle.ft_run.specs.declared.session.Known.{Known}
 use Rattle.ft_run.specs.declared.session.Claimed.{Claimed}
 use Rattle.ft_items.specs.Equal.{fit_all}
@@ -51,8 +52,8 @@ session_extends s t ks h x e =
     let same = declarations_kept s.trees t.trees x ks h.known in
     record {
       known = known_kept s.trees t.trees x ks h.known;
-      rules = ap (λ is. (store_of is).rules) e ∙ h.rules ∙ ap theory (sym same);
-      names_are = ap (λ is. (store_of is).names) e ∙ h.names_are ∙ ap names (sym same);
+      rules = ap (λ is. (declared_by is).rules) e ∙ h.rules ∙ ap theory (sym same);
+      names_are = ap (λ is. (declared_by is).names) e ∙ h.names_are ∙ ap names (sym same);
       steps = subst AllOfApplications (sym e) h.steps;
     }
 
@@ -112,7 +113,7 @@ all_claimed_kept p q (x ∷ xs) k h =
 -- one more entry
 pub session_entry : (s : State) (e : Entry) (ks : List Known) → IsSession s ks → IsOfApplications (entry e) → IsSession (with_item s (entry e)) ks
 session_entry s e ks h f =
-    let more = store_last empty_store s.items (entry e) in
+    let more = declared_last s.items (entry e) in
     record {
       known = h.known;
       rules = ap (λ W. W.rules) more ∙ h.rules;

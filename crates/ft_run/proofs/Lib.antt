@@ -1,3 +1,6 @@
+pub mod Nodes
+pub mod Left
+pub mod Simple
 pub mod Fitting
 pub mod Allowed
 pub mod Telling

@@ -8,20 +8,19 @@ use Rattle.ft_theory.specs.Rules.{Rule}
 use Rattle.ft_theory.specs.Steps.{Prim}
 use Rattle.ft_items.specs.Item.{Name, shown}
 use Rattle.ft_items.specs.Equal.{is_thesis}
-use Rattle.ft_items.specs.Store.{empty_store}
 use Rattle.ft_items.specs.Good.{Allowed, is_new}
-use Rattle.ft_items.proofs.Lists.{store_last}
+use Rattle.ft_items.proofs.Lists.{declared_last}
 use Rattle.ft_base.specs.declared.memory.Memory.{Memory}
-use Rattle.ft_applications.specs.declared.syntax.Application.{Application}
-use Rattle.ft_applications.specs.declared.syntax.Premise.{Premise}
-use Rattle.ft_applications.specs.declared.syntax.Conclusion.{Conclusion}
-use Rattle.ft_applications.specs.declared.syntax.Command.{Command}
-use Rattle.ft_applications.specs.declared.syntax.Command.TheVariants as command
-use Rattle.ft_applications.specs.Building.{Declaration, theory, names, metavariable_count, claim_of, declared, with_rule}
-use Rattle.ft_applications.specs.Events.{Event, accepts, repeats, shows, event_of_rule, done, events}
-use Rattle.ft_applications.specs.Texts.{name_text, claim_text}
-use Rattle.ft_applications.specs.Transcript.{line_feed, accepted_line, repeated_line, shown_line, text_of, status_of, shown_in, AllDerivable}
-use Rattle.ft_applications.specs.Histories.{told, told_in, told_in_run, told_shown, states}
+use Rattle.ft_applications_meaning.specs.declared.syntax.Application.{Application}
+use Rattle.ft_applications_meaning.specs.declared.syntax.Premise.{Premise}
+use Rattle.ft_applications_meaning.specs.declared.syntax.Conclusion.{Conclusion}
+use Rattle.ft_applications_meaning.specs.declared.syntax.Command.{Command}
+use Rattle.ft_applications_meaning.specs.declared.syntax.Command.TheVariants as command
+use Rattle.ft_applications_meaning.specs.Building.{Declaration, theory, names, metavariable_count, claim_of, declared, with_rule}
+use Rattle.ft_applications_meaning.specs.Events.{Event, accepts, repeats, shows, event_of_rule, done, events}
+use Rattle.ft_applications_meaning.specs.Texts.{name_text, claim_text}
+use Rattle.ft_applications_meaning.specs.Transcript.{line_feed, accepted_line, repeated_line, shown_line, text_of, status_of, shown_in, AllDerivable}
+use Rattle.ft_applications_meaning.specs.Histories.{told, told_in, told_in_run, told_shown, states}
 use Rattle.ft_judge.specs.Meaning.{claim_in}
 use Rattle.ft_judge.specs.declared.judgement.Form.{Form}
 use Rattle.ft_kernel.specs.State.{State, with_item}
@@ -31,7 +30,8 @@ use Rattle.ft_run.specs.declared.session.Ending.{Ending}
 use Rattle.ft_run.specs.declared.session.Ending.TheVariants as ending
 use Rattle.ft_run.specs.Session.{Progress, declarations, IsSession, HasEntry, IsClaimed, IsSimpleClaim, Keeps, IsCounted}
 use Rattle.ft_run.specs.Claiming.{names_known}
-use Rattle.ft_run.specs.Running.{Does, IsDeclared, IsShown, WasRule, WasRun, AreLeft, WereRun}
+use Rattle.ft_run.specs.Running.{Does, IsDeclared, IsShown, WasRule, WasRun, WereRun}
+use Rattle.ft_run.proofs.Left.{AreLeft}
 use Rattle.ft_run.proofs.Telling.{told_last, steps_last}
 use Rattle.ft_run.proofs.Keeping.{keeps_tell}
 use Rattle.ft_run.proofs.Naming.{names_declared}
@@ -254,7 +254,7 @@ mark_allowed s ks p x v h =
 
 session_marked : (s : State) (j : ℕ) (ks : List Known) → IsSession s ks → IsSession (with_item s (shown j)) ks
 session_marked s j ks h =
-    let more = store_last empty_store s.items (shown j) in
+    let more = declared_last s.items (shown j) in
     record {
       known = h.known;
       rules = ap (λ W. W.rules) more ∙ h.rules;

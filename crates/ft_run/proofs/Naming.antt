@@ -4,7 +4,7 @@ use Rattle.std.proofs.lemmas.Option.{none-some, same_Some}
 use Rattle.ft_items.specs.Good.{Good, equal_names}
 use Rattle.ft_items.proofs.Lists.{store_is}
 use Rattle.ft_kernel.specs.State.{State, place_of_name, rule_names}
-use Rattle.ft_applications.specs.Building.{Declaration, names, first_named}
+use Rattle.ft_applications_meaning.specs.Building.{Declaration, names, first_named}
 use Rattle.ft_theory.specs.Expressions.{Expression}
 use Rattle.ft_run.specs.declared.session.Known.{Known}
 use Rattle.ft_run.specs.Session.{Progress, declarations, IsSession}

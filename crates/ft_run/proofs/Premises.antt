@@ -12,11 +12,11 @@ use Rattle.ft_judge.specs.Meaning.{goal_in}
 use Rattle.ft_judge.specs.declared.judgement.Goal.{Goal}
 use Rattle.ft_kernel.specs.State.{State, with_item}
 use Rattle.ft_syntax.specs.Table.{Extends}
-use Rattle.ft_applications.specs.declared.syntax.Premise.{Premise}
-use Rattle.ft_applications.specs.declared.syntax.Conclusion.{Conclusion}
-use Rattle.ft_applications.specs.Building.{Declaration, premises_of, before_premises, goal_of_premise, goal_of_conclusion, name_of_premise, premise_names, metavariable_count, rule_by, rule_of, declared}
+use Rattle.ft_applications_meaning.specs.declared.syntax.Premise.{Premise}
+use Rattle.ft_applications_meaning.specs.declared.syntax.Conclusion.{Conclusion}
+use Rattle.ft_applications_meaning.specs.Building.{Declaration, premises_of, before_premises, goal_of_premise, goal_of_conclusion, name_of_premise, premise_names, metavariable_count, rule_by, rule_of, declared}
 use Rattle.ft_run.specs.Session.{Progress, numbered, boundaries_in, goals_in, FitsGoal, AllFitGoals, HasMet, AreMade, GoesOn, Keeps, IsCounted}
-use Rattle.ft_applications.specs.Histories.{told, declares}
+use Rattle.ft_applications_meaning.specs.Histories.{told, declares}
 use Rattle.ft_run.specs.Running.{IsDeclared}
 use Rattle.ft_run.specs.Asking.{goal_of_new}
 use Rattle.ft_run.specs.Declaring.{first_number}

@@ -6,7 +6,7 @@ use Rattle.ft_syntax.specs.Laws.{arguments_listed}
 use Rattle.ft_syntax.specs.Table.{tree, argument_in}
 use Rattle.ft_syntax.specs.declared.syntax.Arg.{Arg}
 use Rattle.ft_syntax.specs.declared.syntax.Node.TheVariants.{Sym}
-use Rattle.ft_applications.specs.Texts.{symbol_text, expression_text, rest_text}
+use Rattle.ft_applications_meaning.specs.Texts.{symbol_text, expression_text, rest_text}
 use Rattle.ft_run.specs.declared.session.Known.{Known}
 use Rattle.ft_run.specs.Session.{IsSimple, AreSimple}
 use Rattle.ft_run.specs.Claiming.{names_known}

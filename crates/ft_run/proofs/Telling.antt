@@ -2,7 +2,8 @@
 use Rattle.std.proofs.Common.{◌≡◌, ◌∙◌, sym, ap, refl, List, [], ◌∷◌, ◌++◌, map, append_assoc, append-nil, ℕ}
 use Rattle.ft_items.specs.Item.{Name, Entry, Item, metavariable, entry}
 use Rattle.ft_items.specs.Store.{Store, add, add_all, empty_store, store_of}
-use Rattle.ft_applications.specs.Histories.{told_by, told_from, told, IsOfApplications, AllOfApplications}
+use Rattle.ft_applications_meaning.specs.Histories.{told_by, told_from, told}
+use Rattle.ft_run.specs.Steps.{IsOfApplications, AllOfApplications}
 
 told_append : (W : Store) (xs ys : List Item) → told_from W (xs ++ ys) ≡ told_from W xs ++ told_from (add_all W xs) ys
 told_append W [] ys = refl

@@ -4,15 +4,15 @@ use Rattle.std.specs.Str.{bytes_eq}
 use Rattle.std.proofs.Math.Seq.{drop-cons}
 use Rattle.ft_theory.specs.Statements.{Claim, is_type, has_type, equal_types, equal_terms, type_goal, term_goal, type_equation_goal, term_equation_goal, plain}
 use Rattle.ft_items.specs.Item.{entry, by_btype, by_bterm}
-use Rattle.ft_items.specs.Store.{store_of, with_one}
+use Rattle.ft_items.specs.Store.{with_one, declared_by}
 use Rattle.ft_items.specs.Good.{Allowed, given, is_new, equal_names}
 use Rattle.ft_judge.specs.Meaning.{claim_in, goal_in, FormBelow}
 use Rattle.ft_judge.specs.declared.judgement.Form.{Form}
 use Rattle.ft_judge.specs.declared.judgement.Goal.{Goal}
 use Rattle.ft_kernel.specs.State.{State}
-use Rattle.ft_applications.specs.declared.syntax.Application.{Application}
-use Rattle.ft_applications.specs.declared.syntax.Premise.{Premise}
-use Rattle.ft_applications.specs.Building.{Declaration, claim_of, avoids, type_claimed, name_of_premise, premise_names}
+use Rattle.ft_applications_meaning.specs.declared.syntax.Application.{Application}
+use Rattle.ft_applications_meaning.specs.declared.syntax.Premise.{Premise}
+use Rattle.ft_applications_meaning.specs.Building.{Declaration, claim_of, avoids, type_claimed, name_of_premise, premise_names}
 use Rattle.ft_run.specs.Session.{IsSimpleClaim, HasEntry, IsClaimed}
 use Rattle.ft_run.specs.Asking.{HasType, IsGoalAsked, IsTypeOf, goal_of_type}
 use Rattle.ft_run.proofs.Accepted.{entry_there}
@@ -35,7 +35,7 @@ term_allowed s j (has_type t A) h = absurd h
 term_allowed s j (equal_types A B) h = absurd h
 term_allowed s j (equal_terms t u A) h = absurd h
 term_allowed s j type_goal h = absurd h
-term_allowed s j (term_goal A) h = ap (λ o. option_and_then (given (store_of s.items)) (with_one by_bterm o)) (entry_there s j (is_type A) h)
+term_allowed s j (term_goal A) h = ap (λ o. option_and_then (given (declared_by s.items)) (with_one by_bterm o)) (entry_there s j (is_type A) h)
 term_allowed s j (type_equation_goal A B) h = absurd h
 term_allowed s j (term_equation_goal t u A) h = absurd h
 

@@ -8,9 +8,9 @@ use Rattle.ft_judge.specs.declared.judgement.Form.TheVariants as form
 use Rattle.ft_judge.specs.declared.judgement.Goal.{Goal}
 use Rattle.ft_judge.specs.declared.judgement.Goal.TheVariants as goal
 use Rattle.ft_kernel.specs.State.{State}
-use Rattle.ft_applications.specs.Building.{Declaration, type_of, goal_of_premise, name_of_premise}
-use Rattle.ft_applications.specs.declared.syntax.Application.{Application}
-use Rattle.ft_applications.specs.declared.syntax.Premise.{Premise}
+use Rattle.ft_applications_meaning.specs.Building.{Declaration, type_of, goal_of_premise, name_of_premise}
+use Rattle.ft_applications_meaning.specs.declared.syntax.Application.{Application}
+use Rattle.ft_applications_meaning.specs.declared.syntax.Premise.{Premise}
 use Rattle.ft_run.specs.Session.{IsSimpleGoal, FitsGoal, HasEntry}
 
 -- the type of a term that is asked for has an entry; a type has none

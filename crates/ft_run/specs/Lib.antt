@@ -1,3 +1,4 @@
+pub mod Steps
 pub mod Session
 pub mod Given
 pub mod Claiming

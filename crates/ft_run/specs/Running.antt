@@ -1,17 +1,17 @@
 -- What is done as commands are run, and how a run ends.
-use Rattle.std.specs.Prelude.{ℕ, ◌≡◌, true, false, List, [], ◌∷◌, ◌++◌, Some, option_map}
+use Rattle.std.specs.Prelude.{ℕ, ◌≡◌, true, false, List, [], ◌∷◌, ◌++◌, Some}
 use Rattle.ft_items.specs.Item.{Name}
 use Rattle.ft_theory.specs.Rules.{Rule}
-use Rattle.ft_applications.specs.declared.syntax.Command.{Command}
-use Rattle.ft_applications.specs.declared.syntax.Premise.{Premise}
-use Rattle.ft_applications.specs.declared.syntax.Conclusion.{Conclusion}
-use Rattle.ft_applications.specs.declared.syntax.Application.{Application}
+use Rattle.ft_applications_meaning.specs.declared.syntax.Command.{Command}
+use Rattle.ft_applications_meaning.specs.declared.syntax.Premise.{Premise}
+use Rattle.ft_applications_meaning.specs.declared.syntax.Conclusion.{Conclusion}
+use Rattle.ft_applications_meaning.specs.declared.syntax.Application.{Application}
 use Rattle.ft_theory.specs.Statements.{Claim}
 use Rattle.ft_items.specs.Good.{is_new}
-use Rattle.ft_applications.specs.Building.{Declaration, names, claim_of, declared}
-use Rattle.ft_applications.specs.Events.{Event, repeats, shows, done, events}
-use Rattle.ft_applications.specs.Transcript.{accepted_line, repeated_line, text_of, status_of, shown_in, AllDerivable}
-use Rattle.ft_applications.specs.Histories.{told, told_in_run, declares}
+use Rattle.ft_applications_meaning.specs.Building.{Declaration, names, claim_of, declared}
+use Rattle.ft_applications_meaning.specs.Events.{Event, repeats, shows, done, events}
+use Rattle.ft_applications_meaning.specs.Transcript.{accepted_line, repeated_line, text_of, status_of, shown_in, AllDerivable}
+use Rattle.ft_applications_meaning.specs.Histories.{told, told_in_run, declares}
 use Rattle.ft_run.specs.declared.session.Ending.{Ending}
 use Rattle.ft_run.specs.declared.session.Ending.TheVariants as ending
 use Rattle.ft_run.specs.Session.{Progress, IsCounted}
@@ -53,10 +53,6 @@ WasRule p q out new n ps c ending.Twice = IsRepeated p q out new n
 abbrev pub WasRun : Progress → Progress → List ℕ → List ℕ → Command → Ending → Type 0
 WasRun p q out new c ending.Done = (e : Event) × (done p.rules c ≡ Some (q.rules, e)) × Does p q out new (e ∷ [])
 WasRun p q out new c ending.Twice = (n : Name) × ((s : List Declaration × Event) → done p.rules c ≡ Some s → s.1 ≡ repeats n) × IsRepeated p q out new n
-
--- what all commands do, by what was done and by the commands that are left
-abbrev pub AreLeft : List Declaration → List Command → List Event → List Declaration → List Command → Type 0
-AreLeft ds cs es fs left = events ds cs ≡ option_map (λ more. es ++ more) (events fs left)
 
 -- Commands were run: where they are built, this is what they do, and it ended as said.
 abbrev pub WereRun : Progress → Progress → List ℕ → List ℕ → List Command → Ending → Type 0

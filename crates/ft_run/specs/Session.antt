@@ -1,15 +1,15 @@
 -- What a session stands for: the state of its kernel, and the declarations of the language of applications.
 use Rattle.std.specs.Prelude.{ℕ, suc, ◌≡◌, List, [], ◌∷◌, ◌++◌, map, length, Some}
 use Rattle.ft_theory.specs.Expressions.{Expression, bound, free, symbol, meta, Arguments, no_arguments, with_body, dummy}
-use Rattle.ft_theory.specs.Statements.{Claim, is_type, has_type, equal_types, equal_terms, type_goal, term_goal, type_equation_goal, term_equation_goal, Statement, plain, abstracted}
-use Rattle.ft_theory.specs.Rules.{Rule}
+use Rattle.ft_theory.specs.Statements.{Claim, is_type, has_type, equal_types, equal_terms, type_goal, term_goal, type_equation_goal, term_equation_goal, Statement, plain}
 use Rattle.ft_items.specs.Item.{Item, Entry, entry}
-use Rattle.ft_items.specs.Store.{Assertion, Declared, nth, store_of, entries_in, metavariables_in}
+use Rattle.ft_items.specs.Store.{Declared, nth, entries_in, metavariables_in, declared_by}
 use Rattle.ft_judge.specs.Meaning.{claim_in, goal_in, FormBelow, GoalBelow}
 use Rattle.ft_judge.specs.declared.judgement.Goal.{Goal}
 use Rattle.ft_kernel.specs.State.{State}
-use Rattle.ft_applications.specs.Building.{Declaration, theory, names, metavariable_count}
-use Rattle.ft_applications.specs.Histories.{told, AllOfApplications}
+use Rattle.ft_applications_meaning.specs.Building.{Declaration, theory, names, metavariable_count}
+use Rattle.ft_applications_meaning.specs.Histories.{told}
+use Rattle.ft_run.specs.Steps.{AllOfApplications}
 use Rattle.ft_run.specs.declared.session.Known.{Known}
 use Rattle.ft_run.specs.declared.session.Claimed.{Claimed}
 
@@ -88,8 +88,8 @@ AreKnown ts (k ∷ ks) = FitsKnown ts k × AreKnown ts ks
 -- the store of the kernel's list has the declared rules, and no others; each item of the list is of this language
 pub record IsSession (s : State) (ks : List Known) : Type 0 where
   pub known : AreKnown s.trees ks
-  pub rules : (store_of s.items).rules ≡ theory (declarations s.trees ks)
-  pub names_are : (store_of s.items).names ≡ names (declarations s.trees ks)
+  pub rules : (declared_by s.items).rules ≡ theory (declarations s.trees ks)
+  pub names_are : (declared_by s.items).names ≡ names (declarations s.trees ks)
   pub steps : AllOfApplications s.items
 
 -- an entry has the claim, as a thesis without domains that rests on nothing
@@ -132,32 +132,9 @@ pub record GoesOn (p q : Progress) : Type 0 where
 abbrev pub IsCounted : Progress → Type 0
 IsCounted p = length (metavariables_in p.state.items) ≡ metavariable_count p.rules
 
--- a boundary without domains, with a simple goal
-abbrev pub IsSimpleBoundary : Statement → Type 0
-IsSimpleBoundary (plain c) = IsSimpleGoal c
-IsSimpleBoundary (abstracted A x) = ⊥
-
--- premises with simple boundaries
-abbrev pub AreSimplePremises : List (ℕ × Statement) → Type 0
-AreSimplePremises [] = Unit {0}
-AreSimplePremises (p ∷ ps) = IsSimpleBoundary p.1 × AreSimplePremises ps
-
--- a rule without domains whose expressions are simple
-abbrev pub IsSimpleRule : Rule → Type 0
-IsSimpleRule R = AreSimplePremises R.premises × IsSimpleGoal R.conclusion
-
--- simple claims
-abbrev pub AreSimpleClaims : List Claim → Type 0
-AreSimpleClaims [] = Unit {0}
-AreSimpleClaims (c ∷ cs) = IsSimpleClaim c × AreSimpleClaims cs
-
--- claims as assertions that rest on nothing
-abbrev pub assertions : List Claim → List Assertion
-assertions cs = map (λ c. record { statement = plain c; set = [] }) cs
-
 -- the store has the metavariable m, with this goal as its boundary, which rests on nothing
 abbrev pub HasMet : State → ℕ → Claim → Type 0
-HasMet s m g = (d : Declared) × (nth (store_of s.items).metavariables m ≡ Some d) × (d.boundary ≡ plain g) × (d.set ≡ [])
+HasMet s m g = (d : Declared) × (nth (declared_by s.items).metavariables m ≡ Some d) × (d.boundary ≡ plain g) × (d.set ≡ [])
 
 -- the metavariables ms are numbered from m, and have these goals
 abbrev pub AreMade : State → ℕ → List Claim → List ℕ → Type 0

@@ -5,8 +5,8 @@ ghost use Rattle.ft_items.specs.Item.{rule};
 ghost use Rattle.ft_items.specs.Good.{is_new};
 ghost use Rattle.ft_judge.specs.Meaning.{goal_in};
 ghost use Rattle.ft_kernel.specs.State.{with_item};
-ghost use Rattle.ft_applications.specs.Building.{names};
-ghost use Rattle.ft_applications.specs.Histories.{told, declares};
+ghost use Rattle.ft_applications_meaning.specs.Building.{names};
+ghost use Rattle.ft_applications_meaning.specs.Histories.{told, declares};
 ghost use Rattle.ft_applications.specs.declared.fault.Fault.TheVariants as fault;
 ghost use Rattle.ft_run.specs.Session.{FitsGoal, AllFitGoals, FitsKnown, AreMade, HasEntry, goals_in, boundaries_in, numbered, declaration};
 

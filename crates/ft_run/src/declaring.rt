@@ -3,7 +3,7 @@
 ghost use Rattle.std.specs.Prelude.{◌≡◌, ◌+◌, [], length, Some, None, true, IfOk, OnOk, IsErrOf};
 ghost use Rattle.ft_items.specs.Store.{metavariables_in};
 ghost use Rattle.ft_items.specs.Good.{is_new};
-ghost use Rattle.ft_applications.specs.Building.{names, premises_of, declared};
+ghost use Rattle.ft_applications_meaning.specs.Building.{names, premises_of, declared};
 ghost use Rattle.ft_applications.specs.declared.fault.Fault.TheVariants as fault;
 ghost use Rattle.ft_run.specs.Session.{GoesOn, AllFitGoals, AreMade, goals_in, boundaries_in, numbered, IsCounted};
 ghost use Rattle.ft_run.specs.Declaring.{first_number};
@@ -11,7 +11,8 @@ ghost use Rattle.ft_run.specs.Running.{IsDeclared};
 
 use crate::asking::{Asked, Made};
 use crate::session::Session;
-use ft_applications::{Conclusion, Fault, Premise};
+use ft_applications::Fault;
+use ft_applications_meaning::{Conclusion, Premise};
 use ft_base::Name;
 use ft_judge::Goal;
 use ft_kernel::Metavariables;

@@ -3,15 +3,16 @@
 ghost use Rattle.std.specs.Prelude.{◌≡◌, ℕ, List, [], nat_lt, length, Some, None, true, false, OnOk, IsErrOf};
 ghost use Rattle.ft_theory.specs.Statements.{Statement};
 ghost use Rattle.ft_theory.specs.Rules.{Rule};
-ghost use Rattle.ft_applications.specs.Building.{premises_of, declared, with_rule};
-ghost use Rattle.ft_applications.specs.Events.{Event, done, events};
+ghost use Rattle.ft_applications_meaning.specs.Building.{premises_of, declared, with_rule};
+ghost use Rattle.ft_applications_meaning.specs.Events.{Event, done, events};
 ghost use Rattle.ft_applications.specs.declared.fault.Fault.TheVariants as fault;
 ghost use Rattle.ft_run.specs.Session.{Keeps, IsCounted};
 ghost use Rattle.ft_run.specs.Running.{AreBuilt};
 
 use crate::asking::Asked;
 use crate::session::{Claimed, Session};
-use ft_applications::{Command, Conclusion, Fault, Premise};
+use ft_applications::Fault;
+use ft_applications_meaning::{Command, Conclusion, Premise};
 use ft_base::Name;
 use ft_base::limits::MAX_RULES;
 

@@ -5,7 +5,7 @@ ghost use Rattle.ft_theory.specs.Statements.{has_type};
 ghost use Rattle.ft_syntax.specs.Arguments.{arguments_of};
 ghost use Rattle.ft_syntax.specs.Table.{tree};
 ghost use Rattle.ft_judge.specs.Meaning.{claim_in, FormBelow};
-ghost use Rattle.ft_applications.specs.Texts.{symbol_text, expression_text, claim_text};
+ghost use Rattle.ft_applications_meaning.specs.Texts.{symbol_text, expression_text, claim_text};
 ghost use Rattle.ft_run.specs.Session.{IsSimple, IsSimpleClaim};
 ghost use Rattle.ft_run.specs.Claiming.{names_known};
 ghost use Rattle.ft_run.specs.Printing.{HasBeginning};

@@ -1,4 +1,4 @@
--- Each item that is allowed keeps the store well formed.
+-- What each item that is allowed declares keeps the declarations of a list well formed.
 use Rattle.std.proofs.Common.{◌≡◌, ◌≢◌, ℕ, zero, suc, ◌<◌, Bool, true, false, nat_lt, ◌&&◌, not, Option, Some, None, List, [], ◌∷◌, ◌++◌, length, ◌⊎◌, inl, inr, refl, sym, ap, ◌∙◌, subst, append_assoc, append-nil}
 use Rattle.std.proofs.lemmas.Bool.{ltb-true, and_parts, not-true}
 use Rattle.std.proofs.lemmas.Option.{same_Some}
@@ -6,7 +6,7 @@ use Rattle.ft_common.proofs.Booleans.{false_true}
 use Rattle.ft_common.proofs.Options.{none_some}
 use Rattle.ft_common.proofs.Choices.{if_same, if_other}
 use Rattle.ft_theory.specs.Statements.{is_type, Statement, plain, abstracted, IsObject, IsEquation}
-use Rattle.ft_theory.specs.Rules.{look_up, Rule, rule_at}
+use Rattle.ft_theory.specs.Rules.{look_up, Rule}
 use Rattle.ft_theory.specs.Steps.{Prim}
 use Rattle.ft_theory.specs.Derivability.{DerUpTo, PremisesHold, RuleHolds, FinitaryAfter, FinitaryUpTo}
 use Rattle.ft_laws.proofs.Opens.{by_test}
@@ -16,20 +16,20 @@ use Rattle.ft_laws.proofs.Finitary.{scoped}
 use Rattle.ft_laws.proofs.Admissible.{finitary_sound, law, rule_before}
 use Rattle.ft_items.specs.Sets.{Atom, met, var, Has, Within, is_within, same_set, metavariables_only, has}
 use Rattle.ft_items.specs.Equal.{equal_statements, is_thesis, is_plain}
-use Rattle.ft_items.specs.Item.{Name, Entry, variable, metavariable, rule, entry}
-use Rattle.ft_items.specs.Store.{Assertion, Annotation, Declared, Store, nth, each, entry_named, metavariable_named, type_in, claim_in, premises_of, Resolved, resolve, add_variable, add_metavariable, add_rule, add}
+use Rattle.ft_items.specs.Item.{Name, Entry, entry}
+use Rattle.ft_items.specs.Store.{Assertion, Annotation, Declared, Store, nth, type_in, claim_in, premises_of, Derivable, Resolved, resolve, add_variable, add_metavariable, add_rule, add, Declarations, declared_variable, declared_metavariable, declared_rule}
 use Rattle.ft_items.specs.Rows.{conclusion, result_set, atoms, differ, on_earlier, concludes_thesis}
-use Rattle.ft_items.specs.Good.{Reject, Kind, Premise, Conclusion, Set, Named, Number, Many, Loose, unless, of_kind, same_kind, is_next, is_plain_type, is_new, reason_of_result, reason_of_entry, reason_of_variable, reason_of_metavariable, reason_of_rule, reason_in}
+use Rattle.ft_items.specs.Good.{Reject, Kind, Conclusion, Set, unless, of_kind, same_truth, is_next, is_plain_type, reason_of_result, reason_of_entry, reason_in}
 use Rattle.ft_items.proofs.Lists.{nth_before, nth_within}
 use Rattle.ft_items.proofs.SetLemmas.{same_set_true, no_variable, within_true, has_false}
 use Rattle.ft_sound.proofs.EqualLemmas.{statement_true, boundary_kind}
-use Rattle.ft_sound.proofs.Valid.{Later, Declares, Valid, WellFormed, later_valid, scoped_rules}
+use Rattle.ft_sound.proofs.Valid.{Later, Declares, Valid, WellFormed, WellFormedStore, later_valid, scoped_rules}
 use Rattle.ft_sound.proofs.InstanceRows.{AllDeclared, over_premises}
-use Rattle.ft_sound.proofs.Steps.{resolved, sound_step, all_declared}
+use Rattle.ft_sound.proofs.Steps.{resolved, sound_step}
 
 -- an entry states what its step gives
 abbrev pub StatesWhatItsStepGives : Store → Entry → Type 0
-StatesWhatItsStepGives W e = (s : Resolved) × (resolve W e.step ≡ Some s) × (of_kind s ≡ true) × (conclusion W s ≡ Some e.statement) × (result_set s ≡ e.set)
+StatesWhatItsStepGives W e = (s : Resolved) × (resolve W e.step ≡ Some s) × (of_kind s ≡ true) × (conclusion W.declarations s ≡ Some e.statement) × (result_set s ≡ e.set)
 
 -- a test that held
 pub unless_none : (b : Bool) (why : Reject) (next : Option Reject) → unless b why next ≡ None → (b ≡ true) × (next ≡ None)
@@ -68,22 +68,20 @@ next_above (p ∷ xs) v u d h e =
     (λ n. next_above xs v u d k.1 (sym (if_other u p.0 (Some p.1) (look_up xs u) n) ∙ e))
 
 -- what is to be shown of each declaration
-abbrev MetHolds : Store → ℕ → Declared → Type 0
+abbrev MetHolds : Declarations → ℕ → Declared → Type 0
 MetHolds W m d = Valid W d.boundary d.set × (IsObject d.boundary ⊎ IsEquation d.boundary) × ((v : ℕ) → Has (var v) d.set → ⊥) × ((n : ℕ) → Has (met n) d.set → n < m)
 
-abbrev VarHolds : Store → ℕ → Annotation → Type 0
+abbrev VarHolds : Declarations → ℕ → Annotation → Type 0
 VarHolds W v d = Valid W (plain (is_type d.annotation)) d.set × ((w : ℕ) → Has (var w) d.set → w < v)
 
-later_well_formed : (W X : Store) → WellFormed W → Later W X → ((k : ℕ) → FinitaryUpTo k X.rules)
+later_well_formed : (W X : Declarations) → WellFormed W → Later W X → ((k : ℕ) → FinitaryUpTo k X.rules)
     → ((m : ℕ) (d : Declared) → nth X.metavariables m ≡ Some d → (nth W.metavariables m ≡ Some d) ⊎ MetHolds X m d)
     → ((v : ℕ) (d : Annotation) → look_up X.variables v ≡ Some d → (look_up W.variables v ≡ Some d) ⊎ VarHolds X v d)
-    → ((p : ℕ) (a : Assertion) → nth X.entries p ≡ Some a → (nth W.entries p ≡ Some a) ⊎ Valid X a.statement a.set)
     → WellFormed X
-later_well_formed W X F l fin ms vs es = record {
+later_well_formed W X F l fin ms vs = record {
   finitary = fin;
   metavariables = λ m d q. met_case m d (ms m d q);
   variables = λ v d q. var_case v d (vs v d q);
-  entries = λ p a q. entry_case p a (es p a q);
 }
   where
     sc : ScopedTheory X.rules
@@ -97,112 +95,93 @@ later_well_formed W X F l fin ms vs es = record {
     var_case v d (inl q) = let h : VarHolds W v d = F.variables v d q in (later_valid W X (plain (is_type d.annotation)) d.set sc l h.0, h.1)
     var_case v d (inr h) = h
 
-    entry_case : (p : ℕ) (a : Assertion) → (nth W.entries p ≡ Some a) ⊎ Valid X a.statement a.set → Valid X a.statement a.set
-    entry_case p a (inl q) = later_valid W X a.statement a.set sc l (F.entries p a q)
-    entry_case p a (inr h) = h
+-- further declarations, over which all is well formed
+abbrev pub Grown : Declarations → Declarations → Type 0
+Grown W X = Later W X × WellFormed X
+
+pub over : (W : Store) (X : Declarations) → WellFormedStore W → Grown W.declarations X → WellFormedStore (record W { declarations = X })
+over W X F g = record {
+  declarations = g.1;
+  entries = λ p a q. later_valid W.declarations X a.statement a.set (scoped_rules X g.1) g.0 (F.entries p a q);
+}
 
 -- an entry
 pub as_given : (W : Store) (e : Entry) → reason_in W (entry e) ≡ None → StatesWhatItsStepGives W e
 as_given W e h = go (resolve W e.step) refl h
   where
-    result : (s : Resolved) → resolve W e.step ≡ Some s → of_kind s ≡ true → (o : Option Statement) → conclusion W s ≡ o → reason_of_result o (result_set s) e ≡ None → StatesWhatItsStepGives W e
+    result : (s : Resolved) → resolve W e.step ≡ Some s → of_kind s ≡ true → (o : Option Statement) → conclusion W.declarations s ≡ o → reason_of_result o (result_set s) e ≡ None → StatesWhatItsStepGives W e
     result s q kind None c h = none_some (sym h)
     result s q kind (Some x) c h =
         let k : (equal_statements x e.statement ≡ true) × (unless (same_set (result_set s) e.set) Set None ≡ None) = unless_none (equal_statements x e.statement) Conclusion (unless (same_set (result_set s) e.set) Set None) h in
         let l : (same_set (result_set s) e.set ≡ true) × (None ≡ None) = unless_none (same_set (result_set s) e.set) Set None k.1 in
         (s, q, kind, c ∙ ap Some (statement_true x e.statement k.0), same_set_true (result_set s) e.set l.0)
 
-    go : (o : Option Resolved) → resolve W e.step ≡ o → reason_of_entry W o e ≡ None → StatesWhatItsStepGives W e
+    go : (o : Option Resolved) → resolve W e.step ≡ o → reason_of_entry W.declarations o e ≡ None → StatesWhatItsStepGives W e
     go None q h = none_some (sym h)
     go (Some s) q h =
-        let k : ((of_kind s && same_kind (concludes_thesis s) (is_thesis e.statement)) ≡ true) × (reason_of_result (conclusion W s) (result_set s) e ≡ None) = unless_none (of_kind s && same_kind (concludes_thesis s) (is_thesis e.statement)) Kind (reason_of_result (conclusion W s) (result_set s) e) h in
-        result s q (and_parts (of_kind s) (same_kind (concludes_thesis s) (is_thesis e.statement)) k.0).0 (conclusion W s) refl k.1
+        let k : ((of_kind s && same_truth (concludes_thesis s) (is_thesis e.statement)) ≡ true) × (reason_of_result (conclusion W.declarations s) (result_set s) e ≡ None) = unless_none (of_kind s && same_truth (concludes_thesis s) (is_thesis e.statement)) Kind (reason_of_result (conclusion W.declarations s) (result_set s) e) h in
+        result s q (and_parts (of_kind s) (same_truth (concludes_thesis s) (is_thesis e.statement)) k.0).0 (conclusion W.declarations s) refl k.1
 
-pub entry_valid : (W : Store) → WellFormed W → (e : Entry) → reason_in W (entry e) ≡ None → Valid W e.statement e.set
+pub entry_valid : (W : Store) → WellFormedStore W → (e : Entry) → reason_in W (entry e) ≡ None → Valid W.declarations e.statement e.set
 entry_valid W F e h =
     let g : StatesWhatItsStepGives W e = as_given W e h in
-    subst (Valid W e.statement) g.4 (sound_step W F g.0 (resolved W F e.step g.0 g.1) e.statement g.3)
+    subst (Valid W.declarations e.statement) g.4 (sound_step W.declarations F.declarations g.0 (resolved W F e.step g.0 g.1) e.statement g.3)
 
-same_rules : (W : Store) (m : ℕ) (R : Rule) → rule_at W.rules m ≡ Some R → rule_at W.rules m ≡ Some R
-same_rules W m R q = q
-
-pub add_entry : (W : Store) → WellFormed W → (e : Entry) → reason_in W (entry e) ≡ None → WellFormed (add W (entry e))
-add_entry W F e h = later_well_formed W (add W (entry e)) F l F.finitary (λ m d q. inl q) (λ v d q. inl q)
-    (λ p a q. entries p a (nth_last W.entries (record { statement = e.statement; set = e.set }) p a q))
+pub add_entry : (W : Store) → WellFormedStore W → (e : Entry) → reason_in W (entry e) ≡ None → WellFormedStore (add W (entry e))
+add_entry W F e h = record {
+  declarations = F.declarations;
+  entries = λ p a q. entries p a (nth_last W.entries (record { statement = e.statement; set = e.set }) p a q);
+}
   where
-    l : Later W (add W (entry e))
-    l = record { rules = λ r R q. q; metavariables = λ m d q. q; variables = λ v d q. q }
-
-    entries : (p : ℕ) (a : Assertion) → (nth W.entries p ≡ Some a) ⊎ ((p ≡ length W.entries) × (record { statement = e.statement; set = e.set } ≡ a)) → (nth W.entries p ≡ Some a) ⊎ Valid (add W (entry e)) a.statement a.set
-    entries p a (inl q) = inl q
-    entries p a (inr q) = inr (subst (λ (z : Assertion). Valid (add W (entry e)) z.statement z.set) q.1 (later_valid W (add W (entry e)) e.statement e.set (scoped_rules W F) l (entry_valid W F e h)))
+    entries : (p : ℕ) (a : Assertion) → (nth W.entries p ≡ Some a) ⊎ ((p ≡ length W.entries) × (record { statement = e.statement; set = e.set } ≡ a)) → Valid W.declarations a.statement a.set
+    entries p a (inl q) = F.entries p a q
+    entries p a (inr q) = subst (λ (z : Assertion). Valid W.declarations z.statement z.set) q.1 (entry_valid W F e h)
 
 -- a variable
 pub plain_type : (x : Statement) → is_plain_type x ≡ true → x ≡ plain (is_type (type_in x))
 plain_type (plain (is_type A)) h = refl
 plain_type x h = false_true h
 
-pub add_variable_item : (W : Store) → WellFormed W → (v : ℕ) (n : Name) (p : ℕ) → reason_in W (variable v n p) ≡ None → WellFormed (add W (variable v n p))
-add_variable_item W F v n p h = go (entry_named W p) refl k.1
+pub variable_grown : (W : Declarations) → WellFormed W → (v : ℕ) (n : Name) (a : Assertion) → is_next W.variables v ≡ true → is_plain_type a.statement ≡ true
+    → Valid W a.statement a.set → Grown W (add_variable W v n (Some a))
+variable_grown W F v n a next u p = (l, later_well_formed W X F l F.finitary (λ m d q. inl q) (λ u d q. case u d (look_last W.variables v (declared_variable n a) u d q)))
   where
-    k : (is_next W.variables v ≡ true) × (reason_of_variable (entry_named W p) ≡ None)
-    k = unless_none (is_next W.variables v) Number (reason_of_variable (entry_named W p)) h
+    X : Declarations
+    X = add_variable W v n (Some a)
 
-    go : (o : Option Assertion) → entry_named W p ≡ o → reason_of_variable o ≡ None → WellFormed (add_variable W v n o)
-    go None q h = none_some (sym h)
-    go (Some a) q h = later_well_formed W X F l F.finitary (λ m d q. inl q) (λ u d q. case u d (look_last W.variables v (record { name = n; annotation = type_in a.statement; set = a.set }) u d q)) (λ p a q. inl q)
-      where
-        X : Store
-        X = add_variable W v n (Some a)
+    l : Later W X
+    l = record { rules = λ r R q. q; metavariables = λ m d q. q; variables = λ u d q. look_before W.variables ((v, declared_variable n a) ∷ []) u d q }
 
-        t : (is_thesis a.statement ≡ true) × (unless (is_plain_type a.statement) Premise None ≡ None)
-        t = unless_none (is_thesis a.statement) Kind (unless (is_plain_type a.statement) Premise None) h
+    below : (w : ℕ) → Has (var w) a.set → w < v
+    below w j = let r : (R : List Atom) × Declares W (var w) R × Within R a.set = p.proper.closed (var w) j in next_above W.variables v w r.1.0 next r.1.1
 
-        u : is_plain_type a.statement ≡ true
-        u = (unless_none (is_plain_type a.statement) Premise None t.1).0
+    valid : Valid X (plain (is_type (type_in a.statement))) a.set
+    valid = later_valid W X (plain (is_type (type_in a.statement))) a.set (scoped_rules W F) l (subst (λ z. Valid W z a.set) (plain_type a.statement u) p)
 
-        l : Later W X
-        l = record { rules = λ r R q. q; metavariables = λ m d q. q; variables = λ u d q. look_before W.variables ((v, record { name = n; annotation = type_in a.statement; set = a.set }) ∷ []) u d q }
-
-        below : (w : ℕ) → Has (var w) a.set → w < v
-        below w j = let r : (R : List Atom) × Declares W (var w) R × Within R a.set = (F.entries p a q).proper.closed (var w) j in next_above W.variables v w r.1.0 k.0 r.1.1
-
-        valid : Valid X (plain (is_type (type_in a.statement))) a.set
-        valid = later_valid W X (plain (is_type (type_in a.statement))) a.set (scoped_rules W F) l (subst (λ z. Valid W z a.set) (plain_type a.statement u) (F.entries p a q))
-
-        case : (w : ℕ) (d : Annotation) → (look_up W.variables w ≡ Some d) ⊎ ((w ≡ v) × (record { name = n; annotation = type_in a.statement; set = a.set } ≡ d)) → (look_up W.variables w ≡ Some d) ⊎ VarHolds X w d
-        case w d (inl q) = inl q
-        case w d (inr q) = inr (subst (λ (z : Annotation). VarHolds X w z) q.1 (valid, λ i j. subst (λ z. i < z) (sym q.0) (below i j)))
+    case : (w : ℕ) (d : Annotation) → (look_up W.variables w ≡ Some d) ⊎ ((w ≡ v) × (declared_variable n a ≡ d)) → (look_up W.variables w ≡ Some d) ⊎ VarHolds X w d
+    case w d (inl q) = inl q
+    case w d (inr q) = inr (subst (λ (z : Annotation). VarHolds X w z) q.1 (valid, λ i j. subst (λ z. i < z) (sym q.0) (below i j)))
 
 -- a metavariable
-pub add_metavariable_item : (W : Store) → WellFormed W → (n : Name) (p : ℕ) → reason_in W (metavariable n p) ≡ None → WellFormed (add W (metavariable n p))
-add_metavariable_item W F n p h = go (entry_named W p) refl h
+pub metavariable_grown : (W : Declarations) → WellFormed W → (n : Name) (a : Assertion) → is_thesis a.statement ≡ false → metavariables_only a.set ≡ true
+    → Valid W a.statement a.set → Grown W (add_metavariable W n (Some a))
+metavariable_grown W F n a t u p = (l, later_well_formed W X F l F.finitary (λ m d q. case m d (nth_last W.metavariables (declared_metavariable n a) m d q)) (λ v d q. inl q))
   where
-    go : (o : Option Assertion) → entry_named W p ≡ o → reason_of_metavariable o ≡ None → WellFormed (add_metavariable W n o)
-    go None q h = none_some (sym h)
-    go (Some a) q h = later_well_formed W X F l F.finitary (λ m d q. case m d (nth_last W.metavariables (record { name = n; boundary = a.statement; set = a.set }) m d q)) (λ v d q. inl q) (λ p a q. inl q)
-      where
-        X : Store
-        X = add_metavariable W n (Some a)
+    X : Declarations
+    X = add_metavariable W n (Some a)
 
-        t : (not (is_thesis a.statement) ≡ true) × (unless (metavariables_only a.set) Loose None ≡ None)
-        t = unless_none (not (is_thesis a.statement)) Kind (unless (metavariables_only a.set) Loose None) h
+    l : Later W X
+    l = record { rules = λ r R q. q; metavariables = λ m d q. nth_before W.metavariables (declared_metavariable n a ∷ []) m d q; variables = λ u d q. q }
 
-        u : metavariables_only a.set ≡ true
-        u = (unless_none (metavariables_only a.set) Loose None t.1).0
+    below : (w : ℕ) → Has (met w) a.set → w < length W.metavariables
+    below w j = let r : (R : List Atom) × Declares W (met w) R × Within R a.set = p.proper.closed (met w) j in nth_within W.metavariables w r.1.0 r.1.1
 
-        l : Later W X
-        l = record { rules = λ r R q. q; metavariables = λ m d q. nth_before W.metavariables (record { name = n; boundary = a.statement; set = a.set } ∷ []) m d q; variables = λ u d q. q }
+    valid : Valid X a.statement a.set
+    valid = later_valid W X a.statement a.set (scoped_rules W F) l p
 
-        below : (w : ℕ) → Has (met w) a.set → w < length W.metavariables
-        below w j = let r : (R : List Atom) × Declares W (met w) R × Within R a.set = (F.entries p a q).proper.closed (met w) j in nth_within W.metavariables w r.1.0 r.1.1
-
-        valid : Valid X a.statement a.set
-        valid = later_valid W X a.statement a.set (scoped_rules W F) l (F.entries p a q)
-
-        case : (m : ℕ) (d : Declared) → (nth W.metavariables m ≡ Some d) ⊎ ((m ≡ length W.metavariables) × (record { name = n; boundary = a.statement; set = a.set } ≡ d)) → (nth W.metavariables m ≡ Some d) ⊎ MetHolds X m d
-        case m d (inl q) = inl q
-        case m d (inr q) = inr (subst (λ (z : Declared). MetHolds X m z) q.1 (valid, boundary_kind a.statement (not-true (is_thesis a.statement) t.0), (λ v j. no_variable v a.set u j), λ i j. subst (λ z. i < z) (sym q.0) (below i j)))
+    case : (m : ℕ) (d : Declared) → (nth W.metavariables m ≡ Some d) ⊎ ((m ≡ length W.metavariables) × (declared_metavariable n a ≡ d)) → (nth W.metavariables m ≡ Some d) ⊎ MetHolds X m d
+    case m d (inl q) = inl q
+    case m d (inr q) = inr (subst (λ (z : Declared). MetHolds X m z) q.1 (valid, boundary_kind a.statement t, (λ v j. no_variable v a.set u j), λ i j. subst (λ z. i < z) (sym q.0) (below i j)))
 
 -- a rule
 premises_last : (ms : List (ℕ × Declared)) (d : ℕ × Declared) → premises_of (ms ++ (d ∷ [])) ≡ premises_of ms ++ ((d.0, d.1.boundary) ∷ [])
@@ -213,7 +192,7 @@ pub atoms_last : (ms : List (ℕ × Declared)) (d : ℕ × Declared) → atoms (
 atoms_last [] d = refl
 atoms_last (c ∷ ms) d = ap (λ z. met c.0 ∷ z) (atoms_last ms d)
 
-has_last : (S : List Atom) (a c : Atom) → Has c (S ++ (a ∷ [])) → Has c S ⊎ (c ≡ a)
+pub has_last : (S : List Atom) (a c : Atom) → Has c (S ++ (a ∷ [])) → Has c S ⊎ (c ≡ a)
 has_last [] a c (inl e) = inr e
 has_last [] a c (inr k) = absurd k
 has_last (b ∷ S) a c (inl e) = inl (inl e)
@@ -227,11 +206,11 @@ absent_premise : (ms : List (ℕ × Declared)) (m : ℕ) → (Has (met m) (atoms
 absent_premise [] m n = refl
 absent_premise (d ∷ ms) m n = if_other m d.0 (Some d.1.boundary) (look_up (premises_of ms) m) (λ e. n (inl (ap met e))) ∙ absent_premise ms m (λ k. n (inr k))
 
-declared_last : (W : Store) (F : WellFormed W) (ms : List (ℕ × Declared)) (d : ℕ × Declared) → AllDeclared W F ms → nth W.metavariables d.0 ≡ Some d.1 → AllDeclared W F (ms ++ (d ∷ []))
+declared_last : (W : Declarations) (F : WellFormed W) (ms : List (ℕ × Declared)) (d : ℕ × Declared) → AllDeclared W F ms → nth W.metavariables d.0 ≡ Some d.1 → AllDeclared W F (ms ++ (d ∷ []))
 declared_last W F [] d h q = (q, tt)
 declared_last W F (c ∷ ms) d h q = (h.0, declared_last W F ms d h.1 q)
 
-premises_hold : (W : Store) (F : WellFormed W) (k : ℕ) (done ms : List (ℕ × Declared)) → AllDeclared W F done → AllDeclared W F ms
+premises_hold : (W : Declarations) (F : WellFormed W) (k : ℕ) (done ms : List (ℕ × Declared)) → AllDeclared W F done → AllDeclared W F ms
     → ((a : Atom) → Has a (atoms done) → Has a (atoms ms) → ⊥) → differ (atoms ms) ≡ true → on_earlier (atoms done) ms ≡ true
     → PremisesHold (λ M x. DerUpTo k W.rules M [] x) (premises_of done) (premises_of ms)
 premises_hold W F k done [] dd dm ap' df oe = tt
@@ -260,57 +239,30 @@ plain_claim : (x : Statement) → is_plain x ≡ true → x ≡ plain (claim_in 
 plain_claim (plain c) h = refl
 plain_claim (abstracted A x) h = false_true h
 
-pub add_rule_item : (W : Store) → WellFormed W → (n : Name) (ms : List ℕ) (p : ℕ) → reason_in W (rule n ms p) ≡ None → WellFormed (add W (rule n ms p))
-add_rule_item W F n ms p h = go (each (metavariable_named W) ms) refl (entry_named W p) refl k.1
+pub rule_grown : (W : Declarations) (F : WellFormed W) (n : Name) (ds : List (ℕ × Declared)) (a : Assertion) → AllDeclared W F ds
+    → differ (atoms ds) ≡ true → is_thesis a.statement ≡ false → is_plain a.statement ≡ true → on_earlier [] ds ≡ true → is_within a.set (atoms ds) ≡ true
+    → Derivable W a.statement a.set → Grown W (add_rule W n (Some ds) (Some a))
+rule_grown W F n ds a dm different t flat ordered within p = (l, later_well_formed W X F l fin (λ m d q. inl q) (λ v d q. inl q))
   where
-    j : (is_new W.names n ≡ true) × (unless (nat_lt (length W.rules) 65536) Many (reason_of_rule (each (metavariable_named W) ms) (entry_named W p)) ≡ None)
-    j = unless_none (is_new W.names n) Named (unless (nat_lt (length W.rules) 65536) Many (reason_of_rule (each (metavariable_named W) ms) (entry_named W p))) h
+    X : Declarations
+    X = add_rule W n (Some ds) (Some a)
 
-    k : (nat_lt (length W.rules) 65536 ≡ true) × (reason_of_rule (each (metavariable_named W) ms) (entry_named W p) ≡ None)
-    k = unless_none (nat_lt (length W.rules) 65536) Many (reason_of_rule (each (metavariable_named W) ms) (entry_named W p)) j.1
+    R : Rule
+    R = declared_rule ds a
 
-    go : (os : Option (List (ℕ × Declared))) → each (metavariable_named W) ms ≡ os → (o : Option Assertion) → entry_named W p ≡ o → reason_of_rule os o ≡ None → WellFormed (add_rule W n os o)
-    go None i o q h = none_some (sym h)
-    go (Some ds) i None q h = none_some (sym h)
-    go (Some ds) i (Some a) q h = later_well_formed W X F l fin (λ m d q. inl q) (λ v d q. inl q) (λ p a q. inl q)
-      where
-        X : Store
-        X = add_rule W n (Some ds) (Some a)
+    e : a.statement ≡ plain (claim_in a.statement)
+    e = plain_claim a.statement flat
 
-        R : Rule
-        R = record { premises = premises_of ds; conclusion = claim_in a.statement }
+    holds : (n : ℕ) → RuleHolds (λ M x. DerUpTo n W.rules M [] x) R
+    holds n = (
+      premises_hold W F n [] ds tt dm (λ a i j. i) different ordered,
+      subst (λ z. IsObject z ⊎ IsEquation z) e (boundary_kind a.statement t),
+      (law n W.rules (F.finitary n) (premises_of ds) [] (plain (claim_in a.statement))).1
+          (subst (λ z. Prim W.rules (premises_of ds) [] z) e (over_premises W F ds dm a.statement a.set (within_true a.set (atoms ds) within) p)),
+    )
 
-        t : (((differ (atoms ds) && not (is_thesis a.statement)) && is_plain a.statement) ≡ true) × (unless (on_earlier [] ds && is_within a.set (atoms ds)) Loose None ≡ None)
-        t = unless_none ((differ (atoms ds) && not (is_thesis a.statement)) && is_plain a.statement) Kind (unless (on_earlier [] ds && is_within a.set (atoms ds)) Loose None) h
+    fin : (n : ℕ) → FinitaryUpTo n X.rules
+    fin n = finitary_last (λ T M x. DerUpTo n T M [] x) [] W.rules R (F.finitary n) (holds n)
 
-        u : (on_earlier [] ds && is_within a.set (atoms ds)) ≡ true
-        u = (unless_none (on_earlier [] ds && is_within a.set (atoms ds)) Loose None t.1).0
-
-        t1 : ((differ (atoms ds) && not (is_thesis a.statement)) ≡ true) × (is_plain a.statement ≡ true)
-        t1 = and_parts (differ (atoms ds) && not (is_thesis a.statement)) (is_plain a.statement) t.0
-
-        t2 : (differ (atoms ds) ≡ true) × (not (is_thesis a.statement) ≡ true)
-        t2 = and_parts (differ (atoms ds)) (not (is_thesis a.statement)) t1.0
-
-        u1 : (on_earlier [] ds ≡ true) × (is_within a.set (atoms ds) ≡ true)
-        u1 = and_parts (on_earlier [] ds) (is_within a.set (atoms ds)) u
-
-        dm : AllDeclared W F ds
-        dm = all_declared W F ms ds i
-
-        e : a.statement ≡ plain (claim_in a.statement)
-        e = plain_claim a.statement t1.1
-
-        holds : (n : ℕ) → RuleHolds (λ M x. DerUpTo n W.rules M [] x) R
-        holds n = (
-          premises_hold W F n [] ds tt dm (λ a i j. i) t2.0 u1.0,
-          subst (λ z. IsObject z ⊎ IsEquation z) e (boundary_kind a.statement (not-true (is_thesis a.statement) t2.1)),
-          (law n W.rules (F.finitary n) (premises_of ds) [] (plain (claim_in a.statement))).1
-              (subst (λ z. Prim W.rules (premises_of ds) [] z) e (over_premises W F ds dm a.statement a.set (within_true a.set (atoms ds) u1.1) (F.entries p a q).derivable)),
-        )
-
-        fin : (n : ℕ) → FinitaryUpTo n X.rules
-        fin n = finitary_last (λ T M x. DerUpTo n T M [] x) [] W.rules R (F.finitary n) (holds n)
-
-        l : Later W X
-        l = record { rules = λ r S q. rule_before W.rules (R ∷ []) r S q; metavariables = λ m d q. q; variables = λ u d q. q }
+    l : Later W X
+    l = record { rules = λ r S q. rule_before W.rules (R ∷ []) r S q; metavariables = λ m d q. q; variables = λ u d q. q }

@@ -18,7 +18,7 @@ use Rattle.ft_laws.proofs.Instances.{instantiate}
 use Rattle.ft_laws.proofs.Admissible.{admissible}
 use Rattle.ft_items.specs.Sets.{Atom, met, var, unions, is_within, Has, Within}
 use Rattle.ft_items.specs.Equal.{heads}
-use Rattle.ft_items.specs.Store.{Assertion, Annotation, Declared, Store, nth, boundaries_in, annotations_in, Derivable, premises_of}
+use Rattle.ft_items.specs.Store.{Assertion, Annotation, Declared, nth, boundaries_in, annotations_in, Derivable, premises_of, Declarations}
 use Rattle.ft_items.specs.Rows.{statements, sets, bounds}
 use Rattle.ft_items.specs.Rows as row
 use Rattle.ft_items.proofs.SetLemmas.{within_true}
@@ -26,7 +26,7 @@ use Rattle.ft_sound.proofs.Arguments.{arguments_true}
 use Rattle.ft_sound.proofs.Valid.{MetIn, VarIn, look_mets, mets_look, look_vars, vars_look, Valid, AllValid, WellFormed, sound_rules, scoped_rules, up_all, proper_unions}
 use Rattle.ft_sound.proofs.Structural.{from_when}
 
-module _ (W : Store) (F : WellFormed W) where
+module _ (W : Declarations) (F : WellFormed W) where
   -- inversion: the i-th of a list is a member
   from_one_member : (xs : List Statement) (i : ℕ) (y : Statement) → row.from_one xs i ≡ Some y → Member y xs
   from_one_member xs zero y e = none_some e

@@ -1,26 +1,25 @@
 -- What a step concludes is a thesis or a boundary as its row says.
-use Rattle.std.proofs.Common.{◌≡◌, ℕ, zero, suc, Bool, true, false, cond, ◌&&◌, not, Option, Some, None, List, [], ◌∷◌, ◌++◌, length, ◌⊎◌, inl, inr, refl, sym, ◌∙◌, subst}
+use Rattle.std.proofs.Common.{◌≡◌, ℕ, zero, suc, true, false, nat_lt, ◌&&◌, not, Option, Some, None, List, [], ◌∷◌, length, ◌⊎◌, inl, inr, refl, ap, ◌∙◌, subst}
 use Rattle.std.specs.Prelude.{option_map}
-use Rattle.std.proofs.lemmas.List.{take-append-drop}
 use Rattle.std.proofs.lemmas.Option.{same_Some}
 use Rattle.std.proofs.lemmas.Bool.{and_parts}
 use Rattle.ft_common.proofs.Options.{none_some}
 use Rattle.ft_theory.specs.Expressions.{Expression, bound, free, symbol, meta, Arguments, no_arguments, with_body, dummy, Terms, no_terms, also, act, open_at}
 use Rattle.ft_theory.specs.Statements.{Claim, is_type, has_type, equal_types, equal_terms, type_goal, term_goal, type_equation_goal, term_equation_goal, Statement, plain, abstracted, map_claim, map_statement, act_statement, close_statement, opened, domain_count, at, fill_goal, fill, equate_goal, equate, IsObjectGoal, IsEquationGoal, IsObject, IsEquation, boundary_of_claim, boundary_of}
-use Rattle.ft_theory.specs.Rules.{Rule, rule_at, instance_of, filled_premises, term_typings, conclusion_at}
+use Rattle.ft_theory.specs.Rules.{Rule, rule_at, instance_of, BoundaryAfter, filled_premises, term_typings, conclusion_at}
 use Rattle.ft_theory.specs.Steps.{Prim}
-use Rattle.ft_theory.specs.Derivability.{PremisesHold}
-use Rattle.ft_laws.proofs.Finitary.{premise_at}
+use Rattle.ft_laws.proofs.Finitary.{boundary_after}
 use Rattle.ft_laws.proofs.Statements.{object_goal-map}
 use Rattle.ft_items.specs.Equal.{equal_expressions, equal_statements, is_thesis_claim, is_thesis, is_object_goal, is_object, has_head, head, fits, heads, start_all, right_heads, typed, terms, paired, left_terms, right_terms}
 use Rattle.ft_items.specs.Item.{by_var, by_generic, by_meta, by_metacong, by_abs, by_subst, by_substeq, by_refl, by_sym, by_trans, by_conv, by_conveq, by_left, by_right, by_typeof, by_domain, by_boundary, by_widen, by_btype, by_bterm, by_beqty, by_beqtm, by_rule, by_rulewith, by_inst, by_cong, by_convprem, by_convback, by_arg, by_natural, by_metainst}
-use Rattle.ft_items.specs.Store.{Declared, Store, nth, Resolved, premises_of}
+use Rattle.ft_items.specs.Store.{Declared, nth, Resolved, premises_of, Declarations}
 use Rattle.ft_items.specs.Rows.{statements, bounds, conclusion, concludes_thesis, theses, boundaries}
 use Rattle.ft_items.specs.Rows as row
 use Rattle.ft_items.specs.Good.{all_theses, of_kind}
 use Rattle.ft_sound.proofs.EqualLemmas.{refill, object_true, object_claim_true}
 use Rattle.ft_sound.proofs.Valid.{WellFormed, sound_rules}
 use Rattle.ft_sound.proofs.Structural.{from_when}
+use Rattle.ft_sound.proofs.RuleRows.{boundary_after_is}
 use Rattle.ft_sound.proofs.Steps.{Parts}
 use Rattle.ft_laws.proofs.Scope.{object-at}
 
@@ -203,7 +202,7 @@ from_one_kind : (xs : List Statement) (i : ℕ) (y : Statement) → AllTheses xs
 from_one_kind xs zero y h e = none_some e
 from_one_kind xs (suc i) y h e = place_kind xs i y h e
 
-arguments_kind : (W : Store) (e : Expression) → AllTheses (row.arguments_of W e)
+arguments_kind : (W : Declarations) (e : Expression) → AllTheses (row.arguments_of W e)
 arguments_kind W (bound i) = tt
 arguments_kind W (free v) = tt
 arguments_kind W (symbol r a) = go (rule_at W.rules r)
@@ -217,12 +216,12 @@ arguments_kind W (meta m a) = go (nth W.metavariables m)
     go None = tt
     go (Some d) = typings_kind a d.boundary
 
-argument_kind : (W : Store) (i : ℕ) (x y : Statement) → row.argument W i x ≡ Some y → Thesis y
+argument_kind : (W : Declarations) (i : ℕ) (x y : Statement) → row.argument W i x ≡ Some y → Thesis y
 argument_kind W i (plain (is_type t)) y e = from_one_kind (row.arguments_of W t) i y (arguments_kind W t) e
 argument_kind W i (plain (has_type t A)) y e = from_one_kind (row.arguments_of W t) i y (arguments_kind W t) e
 argument_kind W i x y e = none_some e
 
-natural_kind : (W : Store) (x y : Statement) → row.natural W x ≡ Some y → Thesis y
+natural_kind : (W : Declarations) (x y : Statement) → row.natural W x ≡ Some y → Thesis y
 natural_kind W (plain (has_type t A)) y e = go (row.natural_type W t) e
   where
     go : (o : Option Expression) → option_map (λ N. plain (equal_types N A)) o ≡ Some y → Thesis y
@@ -230,25 +229,19 @@ natural_kind W (plain (has_type t A)) y e = go (row.natural_type W t) e
     go (Some N) e = subst Thesis (same_Some (plain (equal_types N A)) y e) refl
 natural_kind W x y e = none_some e
 
-moved_kind : (ps : List (ℕ × Statement)) (a c : Arguments) (later : List (ℕ × Statement)) (x y : Statement) → row.moved_argument ps a c later x ≡ Some y → Thesis y
-moved_kind ps a c [] x y e = none_some e
-moved_kind ps a c (q ∷ qs) x y e = from_when Thesis (fits x (row.at_arguments ps a q.1)) (fill (row.at_arguments ps c q.1) (head x)) y e (λ h. fill_kind (row.at_arguments ps c q.1) (head x))
+moved_kind : (R : Rule) (xs es : List Statement) (a c : Arguments) (x y : Statement) → row.moved R xs es a c x ≡ Some y → Thesis y
+moved_kind R xs es a c x y e = from_when Thesis (nat_lt (length xs) (length R.premises) && ((row.are_arguments (row.first_premises R xs) xs && start_all xs es) && fits x (row.boundary_after R xs a))) (fill (row.boundary_after R xs c) (head x)) y e
+    (λ h. fill_kind (row.boundary_after R xs c) (head x))
 
-cond_kind : (b : Bool) (o : Option Statement) (y : Statement) → cond b o None ≡ Some y → o ≡ Some y
-cond_kind true o y e = e
-cond_kind false o y e = none_some e
+instance_kind : (W : Declarations) → WellFormed W → (r : ℕ) (R : Rule) → rule_at W.rules r ≡ Some R → (xs : List Statement) (y : Statement) → row.boundary_instance R xs ≡ Some y → is_thesis y ≡ false
+instance_kind W F r R q xs y e =
+    let ps : List (ℕ × Statement) = row.first_premises R xs in
+    let k : (b : Statement) × BoundaryAfter R ps b × ((a : Arguments) → row.boundary_after R xs a ≡ row.at_arguments ps a b) = boundary_after_is R xs in
+    from_when (λ z. is_thesis z ≡ false) (row.are_arguments ps xs) (row.boundary_after R xs (heads xs)) y e
+    (λ h. ap is_thesis (k.2 (heads xs)) ∙ map_kind k.0 (λ l. act free (instance_of ps (heads xs))) zero
+    ∙ statement_boundary k.0 (boundary_after (λ M x. Prim W.rules M [] x) R ps k.0 (sound_rules W F r R q) k.1).0)
 
-instance_kind : (W : Store) → WellFormed W → (r : ℕ) (R : Rule) → rule_at W.rules r ≡ Some R → (xs : List Statement) (y : Statement) → row.boundary_instance R xs ≡ Some y → is_thesis y ≡ false
-instance_kind W F r R q xs y e = from_when (λ z. is_thesis z ≡ false) (row.are_arguments (row.first_premises R xs) xs) (row.next_boundary R (row.first_premises R xs) (heads xs) (row.later_premises R xs)) y e
-    (λ h. go (row.first_premises R xs) (row.later_premises R xs) (take-append-drop (length xs) R.premises))
-  where
-    go : (ps later : List (ℕ × Statement)) → ps ++ later ≡ R.premises → is_thesis (row.next_boundary R ps (heads xs) later) ≡ false
-    go ps [] w = map_claim_kind R.conclusion (act free (instance_of R.premises (heads xs))) ∙ claim_boundary R.conclusion (sound_rules W F r R q).1
-    go ps (n ∷ later) w =
-        map_kind n.1 (λ l. act free (instance_of ps (heads xs))) zero
-        ∙ statement_boundary n.1 (premise_at (λ M x. Prim W.rules M [] x) [] ps n later (subst (PremisesHold (λ M x. Prim W.rules M [] x) []) (sym w) (sound_rules W F r R q).0)).0
-
-pub conclusion_kind : (W : Store) (F : WellFormed W) (s : Resolved) → Parts W F s → of_kind s ≡ true → (y : Statement) → conclusion W s ≡ Some y → is_thesis y ≡ concludes_thesis s
+pub conclusion_kind : (W : Declarations) (F : WellFormed W) (s : Resolved) → Parts W F s → of_kind s ≡ true → (y : Statement) → conclusion W s ≡ Some y → is_thesis y ≡ concludes_thesis s
 conclusion_kind W F (by_var v) h k y e = subst Thesis (same_Some (plain (has_type (free v.0) v.1.annotation)) y e) refl
 conclusion_kind W F (by_generic m) h k y e = subst Thesis (same_Some (fill m.1.boundary (meta m.0 (bounds (domain_count m.1.boundary)))) y e) (fill_kind m.1.boundary (meta m.0 (bounds (domain_count m.1.boundary))))
 conclusion_kind W F (by_meta m ps) h k y e = from_when Thesis (typed m.1.boundary (statements ps)) (fill (at m.1.boundary (terms (statements ps))) (meta m.0 (terms (statements ps)))) y e (λ t. fill_kind (at m.1.boundary (terms (statements ps))) (meta m.0 (terms (statements ps))))
@@ -286,10 +279,8 @@ conclusion_kind W F (by_cong r ps es) h k y e =
     from_when Thesis ((is_object_goal r.1.conclusion && row.are_arguments r.1.premises (statements ps)) && start_all (statements ps) (statements es)) (plain (equate_goal c l s)) y e
     (λ t. equate_claim_kind c l s (object_goal-map r.1.conclusion (act free (instance_of r.1.premises (heads (statements ps))))
     (object_claim_true r.1.conclusion (and_parts (is_object_goal r.1.conclusion) (row.are_arguments r.1.premises (statements ps)) (and_parts (is_object_goal r.1.conclusion && row.are_arguments r.1.premises (statements ps)) (start_all (statements ps) (statements es)) t).0).0)))
-conclusion_kind W F (by_convprem r ps es q) h k y e = moved_kind (row.first_premises r.1 (statements ps)) (heads (statements ps)) (right_heads (statements ps) (statements es)) (row.later_premises r.1 (statements ps)) q.statement y
-    (cond_kind (row.are_arguments (row.first_premises r.1 (statements ps)) (statements ps) && start_all (statements ps) (statements es)) (row.moved_argument (row.first_premises r.1 (statements ps)) (heads (statements ps)) (right_heads (statements ps) (statements es)) (row.later_premises r.1 (statements ps)) q.statement) y e)
-conclusion_kind W F (by_convback r ps es q) h k y e = moved_kind (row.first_premises r.1 (statements ps)) (right_heads (statements ps) (statements es)) (heads (statements ps)) (row.later_premises r.1 (statements ps)) q.statement y
-    (cond_kind (row.are_arguments (row.first_premises r.1 (statements ps)) (statements ps) && start_all (statements ps) (statements es)) (row.moved_argument (row.first_premises r.1 (statements ps)) (right_heads (statements ps) (statements es)) (heads (statements ps)) (row.later_premises r.1 (statements ps)) q.statement) y e)
+conclusion_kind W F (by_convprem r ps es q) h k y e = moved_kind r.1 (statements ps) (statements es) (heads (statements ps)) (right_heads (statements ps) (statements es)) q.statement y e
+conclusion_kind W F (by_convback r ps es q) h k y e = moved_kind r.1 (statements ps) (statements es) (right_heads (statements ps) (statements es)) (heads (statements ps)) q.statement y e
 conclusion_kind W F (by_arg i p) h k y e = argument_kind W i p.statement y e
 conclusion_kind W F (by_natural p) h k y e = natural_kind W p.statement y e
 conclusion_kind W F (by_metainst p ms qs) h k y e = from_when (λ z. is_thesis z ≡ is_thesis p.statement) (((row.differ (row.atoms ms) && row.on_earlier [] ms) && Rattle.ft_items.specs.Sets.is_within p.set (row.atoms ms)) && row.are_arguments (premises_of ms) (statements qs)) (row.at_arguments (premises_of ms) (heads (statements qs)) p.statement) y e (λ t. map_kind p.statement (λ l. act free (instance_of (premises_of ms) (heads (statements qs)))) zero)

@@ -21,7 +21,7 @@ use Rattle.ft_laws.proofs.EqualTerms.{first_domain, at_fresh}
 use Rattle.ft_laws.proofs.Admissible.{admissible}
 use Rattle.ft_items.specs.Sets.{Atom, met, var, insert, union, unions, without, Has, Within}
 use Rattle.ft_items.specs.Equal.{is_object, typed, terms, paired, left_terms, right_terms}
-use Rattle.ft_items.specs.Store.{Assertion, Annotation, Declared, Store, nth, boundaries_in, annotations_in, Derivable}
+use Rattle.ft_items.specs.Store.{Assertion, Annotation, Declared, nth, boundaries_in, annotations_in, Derivable, Declarations}
 use Rattle.ft_items.specs.Rows.{statements, sets, bounds}
 use Rattle.ft_items.specs.Rows as row
 use Rattle.ft_items.proofs.SetLemmas.{by_bool, insert_new, insert_old, has_union, union_left, union_right, has_without, without_has, ascending_union, ascending_without, has_false}
@@ -136,7 +136,7 @@ depends_false G v (var u ∷ S) h w d k n q r = by_bool ⊥ (not (nat_eq u v) &&
     go (inl e) ih t = here_false (sym (inner e)) t
     go (inr k) ih t = ih k
 
-module _ (W : Store) (F : WellFormed W) where
+module _ (W : Declarations) (F : WellFormed W) where
   -- abstraction
   abs_set : ℕ → Annotation → List Atom → List Atom
   abs_set v d S = union d.set (without (var v) S)

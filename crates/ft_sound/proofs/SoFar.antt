@@ -1,17 +1,12 @@
 -- Arguments tested one by one: each premise at the instance of the arguments before it.
-use Rattle.std.proofs.Common.{◌≡◌, ◌≢◌, ℕ, zero, Bool, true, false, cond, ◌&&◌, Option, Some, List, [], ◌∷◌, ◌++◌, refl, sym, ap, ap₂, ◌∙◌, subst, append_assoc}
-use Rattle.std.proofs.lemmas.Bool.{eq-eqb}
-use Rattle.ft_common.proofs.Options.{none_some}
-use Rattle.ft_theory.specs.Expressions.{Expression, free, Arguments, no_arguments, with_body, dummy, MentionsOnly}
+use Rattle.std.proofs.Common.{◌≡◌, ℕ, Bool, true, false, cond, ◌&&◌, Option, Some, List, [], ◌∷◌, ◌++◌, refl, sym, ap, ap₂, ◌∙◌, subst, append_assoc}
+use Rattle.ft_theory.specs.Expressions.{Expression, free, no_arguments, with_body, dummy}
 use Rattle.ft_theory.specs.Statements.{Statement, act_statement, domain_count, IsObject, IsEquation}
 use Rattle.ft_theory.specs.Rules.{Rule, rule_at, instance_of, FitsPremises}
-use Rattle.ft_theory.specs.Steps.{sequent, Prim}
+use Rattle.ft_theory.specs.Steps.{Prim}
 use Rattle.ft_theory.specs.Derivability.{PremisesHold}
-use Rattle.ft_laws.proofs.Opens.{by_test}
-use Rattle.ft_laws.proofs.Acts.{MentionsOnly_mono}
-use Rattle.ft_laws.proofs.Statements.{AllOfStatement_mono, act_statement_agree}
-use Rattle.ft_laws.proofs.Scope.{scope, Fine, InVariables, InMetavariables}
-use Rattle.ft_laws.proofs.Rules.{found, past, instance_past}
+use Rattle.ft_laws.specs.Instances.{followed_by}
+use Rattle.ft_laws.proofs.LaterArguments.{statement_followed}
 use Rattle.ft_laws.proofs.Finitary.{premise_at, Sound}
 use Rattle.ft_items.specs.Equal.{has_head, head, fits, fit_all, heads}
 use Rattle.ft_items.specs.Rows.{at_arguments, are_arguments}
@@ -24,43 +19,20 @@ fit_each done given [] (x ∷ xs) = false
 fit_each done given (p ∷ ps) [] = false
 fit_each done given (p ∷ ps) (x ∷ xs) = fits x (at_arguments done (heads given) p.1) && fit_each (done ++ (p ∷ [])) (given ++ (x ∷ [])) ps xs
 
--- further arguments change nothing for the metavariables that have theirs
-inst_so_far : (ps qs : List (ℕ × Statement)) (xs ys : List Statement) (m k : ℕ) → FitsPremises ps (heads xs) → InMetavariables ps m k → instance_of (ps ++ qs) (heads (xs ++ ys)) m k ≡ instance_of ps (heads xs) m k
-inst_so_far [] qs xs ys m k f i = none_some i.1
-inst_so_far (p ∷ ps) qs [] ys m k f i = absurd f
-inst_so_far (p ∷ ps) qs (x ∷ xs) ys m k f i = go (has_head x) f (λ g j. inst_so_far ps qs xs ys m k g j)
+-- the heads of further theses follow the heads of the first
+heads_followed : (xs ys : List Statement) → heads (xs ++ ys) ≡ followed_by (heads xs) (heads ys)
+heads_followed [] ys = refl
+heads_followed (x ∷ xs) ys = go (has_head x) (heads_followed xs ys)
   where
-    rest : m ≢ p.0 → InMetavariables ps m k
-    rest n = (i.0, past m p ps i.0 n i.1, i.2, i.3)
-
-    binders : (n : ℕ) → n ≡ domain_count p.1 → m ≡ p.0 → k ≡ n
-    binders n e q = i.3 ∙ ap domain_count (sym (found m p ps i.0 q i.1)) ∙ sym e
-
-    hit : (n : ℕ) (qs : List (ℕ × Statement)) (e : Expression) (a : Arguments) → m ≡ p.0 → k ≡ n → instance_of (p ∷ qs) (with_body n e a) m k ≡ Some e
-    hit n qs e a q r = ap₂ (λ b c. cond (b && c) (Some e) (instance_of qs a m k)) (eq-eqb m p.0 q) (eq-eqb k n r)
-
-    not_both : IsEquation p.1 → m ≡ p.0 → {P : Type 0} → P
-    not_both e q {P} = absurd (clash p.1 (subst IsObject (sym (found m p ps i.0 q i.1)) i.2) e)
-      where
-        clash : (b : Statement) → IsObject b → IsEquation b → ⊥
-        clash b o e = Rattle.ft_laws.proofs.Commute.not_both b o e
-
-    go : (t : Bool) → FitsPremises (p ∷ ps) (cond t (with_body (domain_count x) (head x) (heads xs)) (dummy (domain_count x) (heads xs)))
-        → (FitsPremises ps (heads xs) → InMetavariables ps m k → instance_of (ps ++ qs) (heads (xs ++ ys)) m k ≡ instance_of ps (heads xs) m k)
-        → instance_of (p ∷ (ps ++ qs)) (cond t (with_body (domain_count x) (head x) (heads (xs ++ ys))) (dummy (domain_count x) (heads (xs ++ ys)))) m k ≡ instance_of (p ∷ ps) (cond t (with_body (domain_count x) (head x) (heads xs)) (dummy (domain_count x) (heads xs))) m k
-    go true f ih = by_test (instance_of (p ∷ (ps ++ qs)) (with_body (domain_count x) (head x) (heads (xs ++ ys))) m k ≡ instance_of (p ∷ ps) (with_body (domain_count x) (head x) (heads xs)) m k) m p.0
-        (λ q. hit (domain_count x) (ps ++ qs) (head x) (heads (xs ++ ys)) q (binders (domain_count x) f.0 q) ∙ sym (hit (domain_count x) ps (head x) (heads xs) q (binders (domain_count x) f.0 q)))
-        (λ n. instance_past m (domain_count x) k p (ps ++ qs) (head x) (heads (xs ++ ys)) n ∙ ih f.2 (rest n) ∙ sym (instance_past m (domain_count x) k p ps (head x) (heads xs) n))
-    go false f ih = by_test (instance_of (ps ++ qs) (heads (xs ++ ys)) m k ≡ instance_of ps (heads xs) m k) m p.0
-        (λ q. not_both f.1 q)
-        (λ n. ih f.2 (rest n))
+    go : (t : Bool) → heads (xs ++ ys) ≡ followed_by (heads xs) (heads ys)
+        → cond t (with_body (domain_count x) (head x) (heads (xs ++ ys))) (dummy (domain_count x) (heads (xs ++ ys)))
+        ≡ followed_by (cond t (with_body (domain_count x) (head x) (heads xs)) (dummy (domain_count x) (heads xs))) (heads ys)
+    go true e = ap (with_body (domain_count x) (head x)) e
+    go false e = ap (dummy (domain_count x)) e
 
 -- what is derived over the premises so far has one instance
 pub instance_so_far : (T : List Rule) (ps qs : List (ℕ × Statement)) (xs ys : List Statement) (b : Statement) → FitsPremises ps (heads xs) → Prim T ps [] b → at_arguments (ps ++ qs) (heads (xs ++ ys)) b ≡ at_arguments ps (heads xs) b
-instance_so_far T ps qs xs ys b f p = act_statement_agree b free free (instance_of (ps ++ qs) (heads (xs ++ ys))) (instance_of ps (heads xs))
-    (AllOfStatement_mono b (Fine ps []) (λ k. MentionsOnly (λ v. free v ≡ free v) (λ m k. instance_of (ps ++ qs) (heads (xs ++ ys)) m k ≡ instance_of ps (heads xs) m k)) zero
-    (λ k e u. MentionsOnly_mono e (InVariables []) (λ v. free v ≡ free v) (InMetavariables ps) (λ m k. instance_of (ps ++ qs) (heads (xs ++ ys)) m k ≡ instance_of ps (heads xs) m k) (λ v h. refl) (λ m k h. inst_so_far ps qs xs ys m k f h) u.1)
-    (scope T (sequent ps [] b) p))
+instance_so_far T ps qs xs ys b f p = ap (λ z. at_arguments (ps ++ qs) z b) (heads_followed xs ys) ∙ statement_followed T ps qs (heads xs) (heads ys) b f p
 
 -- one more argument fits
 fits_last : (ps : List (ℕ × Statement)) (xs : List Statement) (p : ℕ × Statement) (x : Statement) (i : ℕ → ℕ → Option Expression) → FitsPremises ps (heads xs) → fits x (act_statement free i p.1) ≡ true → FitsPremises (ps ++ (p ∷ [])) (heads (xs ++ (x ∷ [])))

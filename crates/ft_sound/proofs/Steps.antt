@@ -10,11 +10,11 @@ use Rattle.ft_theory.specs.Steps.{sequents, Step, Trees, Prim}
 use Rattle.ft_laws.proofs.Steps.{do_for_type}
 use Rattle.ft_items.specs.Sets.{Atom, union, unions, Within}
 use Rattle.ft_items.specs.Item.{by_var, by_generic, by_meta, by_metacong, by_abs, by_subst, by_substeq, by_refl, by_sym, by_trans, by_conv, by_conveq, by_left, by_right, by_typeof, by_domain, by_boundary, by_widen, by_btype, by_bterm, by_beqty, by_beqtm, by_rule, by_rulewith, by_inst, by_cong, by_convprem, by_convback, by_arg, by_natural, by_metainst, Stated}
-use Rattle.ft_items.specs.Store.{Assertion, Annotation, Declared, Store, nth, each, entry_named, variable_named, metavariable_named, rule_named, Resolved, with_one, with_two, with_three, with_four, resolve, boundaries_in, annotations_in, Derivable}
+use Rattle.ft_items.specs.Store.{Assertion, Annotation, Declared, Store, nth, each, entry_named, variable_named, metavariable_named, rule_named, Resolved, with_one, with_two, with_three, with_four, resolve, boundaries_in, annotations_in, Derivable, Declarations}
 use Rattle.ft_items.specs.Rows.{statements, sets, conclusion, result_set}
 use Rattle.ft_items.specs.Rows as row
 use Rattle.ft_items.proofs.SetLemmas.{union_left, union_right}
-use Rattle.ft_sound.proofs.Valid.{Valid, AllValid, WellFormed, sound_rules, scoped_rules, proper_empty, proper_union, proper_unions, up, up_all}
+use Rattle.ft_sound.proofs.Valid.{Valid, AllValid, WellFormed, WellFormedStore, sound_rules, scoped_rules, proper_empty, proper_union, proper_unions, up, up_all}
 use Rattle.ft_sound.proofs.Structural as structural
 use Rattle.ft_sound.proofs.Structural.{from_when}
 use Rattle.ft_sound.proofs.RuleRows as rules
@@ -23,19 +23,19 @@ use Rattle.ft_sound.proofs.InstanceRows.{AllDeclared}
 use Rattle.ft_sound.proofs.InstanceRows as instances
 
 -- what a step names is valid, declared, or a rule of the theory
-abbrev pub IsVariable : Store → ℕ × Annotation → Type 0
+abbrev pub IsVariable : Declarations → ℕ × Annotation → Type 0
 IsVariable W v = look_up W.variables v.0 ≡ Some v.1
 
-abbrev pub IsMetavariable : Store → ℕ × Declared → Type 0
+abbrev pub IsMetavariable : Declarations → ℕ × Declared → Type 0
 IsMetavariable W m = nth W.metavariables m.0 ≡ Some m.1
 
-abbrev pub IsRule : Store → ℕ × Rule → Type 0
+abbrev pub IsRule : Declarations → ℕ × Rule → Type 0
 IsRule W r = rule_at W.rules r.0 ≡ Some r.1
 
-abbrev pub IsValid : Store → Assertion → Type 0
+abbrev pub IsValid : Declarations → Assertion → Type 0
 IsValid W p = Valid W p.statement p.set
 
-abbrev pub Parts : (W : Store) → WellFormed W → Resolved → Type 0
+abbrev pub Parts : (W : Declarations) → WellFormed W → Resolved → Type 0
 Parts W F (by_var v) = IsVariable W v
 Parts W F (by_generic m) = IsMetavariable W m
 Parts W F (by_meta m ps) = IsMetavariable W m × AllValid W ps
@@ -90,7 +90,7 @@ some_4 : {A B C D E : Type 0} (P : E → Type 0) (f : A → B → C → D → E)
 some_4 P f None p q r s e h = none_some e
 some_4 P f (Some a) p q r s e h = some_3 P (f a) p q r s e (h a refl)
 
-module _ (W : Store) (F : WellFormed W) where
+module _ (W : Declarations) where
   is_variable : (v : ℕ) (a : ℕ × Annotation) → variable_named W v ≡ Some a → IsVariable W a
   is_variable v a e = go (look_up W.variables v) refl e
     where
@@ -112,15 +112,7 @@ module _ (W : Store) (F : WellFormed W) where
       go None q e = none_some e
       go (Some R) q e = subst (IsRule W) (same_Some (r, R) a e) q
 
-  all_valid : (ps : List ℕ) (as' : List Assertion) → each (entry_named W) ps ≡ Some as' → AllValid W as'
-  all_valid [] as' e = subst (AllValid W) (same_Some [] as' e) tt
-  all_valid (p ∷ ps) as' e = go (entry_named W p) refl (each (entry_named W) ps) e (all_valid ps)
-    where
-      go : (o : Option Assertion) → entry_named W p ≡ o → (os : Option (List Assertion)) → option_and_then (λ b. option_map (λ bs. b ∷ bs) os) o ≡ Some as' → ((bs : List Assertion) → os ≡ Some bs → AllValid W bs) → AllValid W as'
-      go None q os e ih = none_some e
-      go (Some a) q None e ih = none_some e
-      go (Some a) q (Some bs) e ih = subst (AllValid W) (same_Some (a ∷ bs) as' e) (F.entries p a q, ih bs refl)
-
+module _ (W : Declarations) (F : WellFormed W) where
   pub all_declared : (ms : List ℕ) (ds : List (ℕ × Declared)) → each (metavariable_named W) ms ≡ Some ds → AllDeclared W F ds
   all_declared [] ds e = subst (AllDeclared W F) (same_Some [] ds e) tt
   all_declared (m ∷ ms) ds e = go (metavariable_named W m) refl (each (metavariable_named W) ms) e (all_declared ms)
@@ -128,7 +120,20 @@ module _ (W : Store) (F : WellFormed W) where
       go : (o : Option (ℕ × Declared)) → metavariable_named W m ≡ o → (os : Option (List (ℕ × Declared))) → option_and_then (λ b. option_map (λ bs. b ∷ bs) os) o ≡ Some ds → ((bs : List (ℕ × Declared)) → os ≡ Some bs → AllDeclared W F bs) → AllDeclared W F ds
       go None q os e ih = none_some e
       go (Some a) q None e ih = none_some e
-      go (Some a) q (Some bs) e ih = subst (AllDeclared W F) (same_Some (a ∷ bs) ds e) (is_metavariable m a q, ih bs refl)
+      go (Some a) q (Some bs) e ih = subst (AllDeclared W F) (same_Some (a ∷ bs) ds e) (is_metavariable W m a q, ih bs refl)
+
+module _ (W : Store) (F : WellFormedStore W) where
+  abbrev D : Declarations
+  D = W.declarations
+
+  all_valid : (ps : List ℕ) (as' : List Assertion) → each (entry_named W) ps ≡ Some as' → AllValid D as'
+  all_valid [] as' e = subst (AllValid D) (same_Some [] as' e) tt
+  all_valid (p ∷ ps) as' e = go (entry_named W p) refl (each (entry_named W) ps) e (all_valid ps)
+    where
+      go : (o : Option Assertion) → entry_named W p ≡ o → (os : Option (List Assertion)) → option_and_then (λ b. option_map (λ bs. b ∷ bs) os) o ≡ Some as' → ((bs : List Assertion) → os ≡ Some bs → AllValid D bs) → AllValid D as'
+      go None q os e ih = none_some e
+      go (Some a) q None e ih = none_some e
+      go (Some a) q (Some bs) e ih = subst (AllValid D) (same_Some (a ∷ bs) as' e) (F.entries p a q, ih bs refl)
 
   abbrev N : ℕ → Option Assertion
   N p = entry_named W p
@@ -137,14 +142,14 @@ module _ (W : Store) (F : WellFormed W) where
   Ns ps = each (entry_named W) ps
 
   abbrev P : Resolved → Type 0
-  P s = Parts W F s
+  P s = Parts D F.declarations s
 
-  pub resolved : (s : Stated) (r : Resolved) → resolve W s ≡ Some r → Parts W F r
-  resolved (by_var v) r e = some_1 P by_var (variable_named W v) r e (λ a i. is_variable v a i)
-  resolved (by_generic m) r e = some_1 P by_generic (metavariable_named W m) r e (λ a i. is_metavariable m a i)
-  resolved (by_meta m ps) r e = some_2 P by_meta (metavariable_named W m) (Ns ps) r e (λ a i b j. (is_metavariable m a i, all_valid ps b j))
-  resolved (by_metacong m ps) r e = some_2 P by_metacong (metavariable_named W m) (Ns ps) r e (λ a i b j. (is_metavariable m a i, all_valid ps b j))
-  resolved (by_abs v p) r e = some_2 P by_abs (variable_named W v) (N p) r e (λ a i b j. (is_variable v a i, F.entries p b j))
+  pub resolved : (s : Stated) (r : Resolved) → resolve W s ≡ Some r → Parts D F.declarations r
+  resolved (by_var v) r e = some_1 P by_var (variable_named D v) r e (λ a i. is_variable D v a i)
+  resolved (by_generic m) r e = some_1 P by_generic (metavariable_named D m) r e (λ a i. is_metavariable D m a i)
+  resolved (by_meta m ps) r e = some_2 P by_meta (metavariable_named D m) (Ns ps) r e (λ a i b j. (is_metavariable D m a i, all_valid ps b j))
+  resolved (by_metacong m ps) r e = some_2 P by_metacong (metavariable_named D m) (Ns ps) r e (λ a i b j. (is_metavariable D m a i, all_valid ps b j))
+  resolved (by_abs v p) r e = some_2 P by_abs (variable_named D v) (N p) r e (λ a i b j. (is_variable D v a i, F.entries p b j))
   resolved (by_subst p q) r e = some_2 P by_subst (N p) (N q) r e (λ a i b j. (F.entries p a i, F.entries q b j))
   resolved (by_substeq p q) r e = some_2 P by_substeq (N p) (N q) r e (λ a i b j. (F.entries p a i, F.entries q b j))
   resolved (by_refl p) r e = some_1 P by_refl (N p) r e (F.entries p)
@@ -162,16 +167,17 @@ module _ (W : Store) (F : WellFormed W) where
   resolved (by_bterm p) r e = some_1 P by_bterm (N p) r e (F.entries p)
   resolved (by_beqty p q) r e = some_2 P by_beqty (N p) (N q) r e (λ a i b j. (F.entries p a i, F.entries q b j))
   resolved (by_beqtm p q t) r e = some_3 P by_beqtm (N p) (N q) (N t) r e (λ a i b j c k. (F.entries p a i, F.entries q b j, F.entries t c k))
-  resolved (by_rule n ps) r e = some_2 P by_rule (rule_named W n) (Ns ps) r e (λ a i b j. (is_rule n a i, all_valid ps b j))
-  resolved (by_rulewith n p ps) r e = some_3 P by_rulewith (rule_named W n) (N p) (Ns ps) r e (λ a i b j c k. (is_rule n a i, F.entries p b j, all_valid ps c k))
-  resolved (by_inst n ps) r e = some_2 P by_inst (rule_named W n) (Ns ps) r e (λ a i b j. (is_rule n a i, all_valid ps b j))
-  resolved (by_cong n ps es) r e = some_3 P by_cong (rule_named W n) (Ns ps) (Ns es) r e (λ a i b j c k. (is_rule n a i, all_valid ps b j, all_valid es c k))
-  resolved (by_convprem n ps es q) r e = some_4 P by_convprem (rule_named W n) (Ns ps) (Ns es) (N q) r e (λ a i b j c k d l. (is_rule n a i, all_valid ps b j, all_valid es c k, F.entries q d l))
-  resolved (by_convback n ps es q) r e = some_4 P by_convback (rule_named W n) (Ns ps) (Ns es) (N q) r e (λ a i b j c k d l. (is_rule n a i, all_valid ps b j, all_valid es c k, F.entries q d l))
+  resolved (by_rule n ps) r e = some_2 P by_rule (rule_named D n) (Ns ps) r e (λ a i b j. (is_rule D n a i, all_valid ps b j))
+  resolved (by_rulewith n p ps) r e = some_3 P by_rulewith (rule_named D n) (N p) (Ns ps) r e (λ a i b j c k. (is_rule D n a i, F.entries p b j, all_valid ps c k))
+  resolved (by_inst n ps) r e = some_2 P by_inst (rule_named D n) (Ns ps) r e (λ a i b j. (is_rule D n a i, all_valid ps b j))
+  resolved (by_cong n ps es) r e = some_3 P by_cong (rule_named D n) (Ns ps) (Ns es) r e (λ a i b j c k. (is_rule D n a i, all_valid ps b j, all_valid es c k))
+  resolved (by_convprem n ps es q) r e = some_4 P by_convprem (rule_named D n) (Ns ps) (Ns es) (N q) r e (λ a i b j c k d l. (is_rule D n a i, all_valid ps b j, all_valid es c k, F.entries q d l))
+  resolved (by_convback n ps es q) r e = some_4 P by_convback (rule_named D n) (Ns ps) (Ns es) (N q) r e (λ a i b j c k d l. (is_rule D n a i, all_valid ps b j, all_valid es c k, F.entries q d l))
   resolved (by_arg i p) r e = some_1 P (by_arg i) (N p) r e (F.entries p)
   resolved (by_natural p) r e = some_1 P by_natural (N p) r e (F.entries p)
-  resolved (by_metainst p ms qs) r e = some_3 P by_metainst (N p) (each (metavariable_named W) ms) (Ns qs) r e (λ a i b j c k. (F.entries p a i, all_declared ms b j, all_valid qs c k))
+  resolved (by_metainst p ms qs) r e = some_3 P by_metainst (N p) (each (metavariable_named D) ms) (Ns qs) r e (λ a i b j c k. (F.entries p a i, all_declared D F.declarations ms b j, all_valid qs c k))
 
+module _ (W : Declarations) (F : WellFormed W) where
   abbrev M : List Atom → List (ℕ × Statement)
   M S = boundaries_in W S
 

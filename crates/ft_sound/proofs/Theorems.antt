@@ -8,40 +8,40 @@ use Rattle.ft_theory.specs.Statements.{is_type, plain}
 use Rattle.ft_theory.specs.Rules.{look_up}
 use Rattle.ft_items.specs.Sets.{Atom, met, var, precedes, Has, Within, Ascending}
 use Rattle.ft_items.specs.Item.{Name, Entry, Item, variable, metavariable, rule, entry, shown}
-use Rattle.ft_items.specs.Store.{Assertion, Annotation, Declared, Store, nth, each, entry_named, metavariable_named, add_variable, add_metavariable, add_rule, add, add_all, empty_store, store_of}
+use Rattle.ft_items.specs.Store.{Assertion, Annotation, Declared, Store, nth, each, entry_named, metavariable_named, add_variable, add_metavariable, add_rule, add, add_all, empty_store, store_of, Declarations, declared_by, MemberHolds, MembersHold}
 use Rattle.ft_items.specs.Good.{Reject, equal_names, is_new, reason_in, reason, AllowedIn, GoodAfter, Good, Counts, counts, Accepted, Rejected, found_at, first_rejected, verdict_by}
-use Rattle.ft_sound.specs.Soundness.{EntriesDerivable, MemberHolds, MembersHold, ContextsWellFormed, AtomsInSet, HasItsSet, SetsClosed, RulesFinitary, Differs, AllDiffer, NamesDiffer, AllowedWithoutReason, AcceptedAreGood, GoodAreAccepted, RejectedIsFirst, FirstIsRejected, NoReasonIsGood, AcceptedAreDerivable}
+use Rattle.ft_sound.specs.Soundness.{EntriesDerivable, ContextsWellFormed, AtomsInSet, HasItsSet, SetsClosed, RulesFinitary, Differs, AllDiffer, NamesDiffer, AllowedWithoutReason, AcceptedAreGood, GoodAreAccepted, RejectedIsFirst, FirstIsRejected, NoReasonIsGood, AcceptedAreDerivable}
 use Rattle.ft_items.proofs.SetLemmas.{precedes_trans, irreflexive, all_after}
-use Rattle.ft_sound.proofs.Valid.{Declares, Proper, Valid, WellFormed, scoped_rules, up, mentions}
+use Rattle.ft_sound.proofs.Valid.{Declares, Proper, Valid, WellFormed, WellFormedStore, scoped_rules, up, mentions}
 use Rattle.ft_items.proofs.Lists.{good_split}
 use Rattle.ft_sound.proofs.Good.{entry_valid}
 use Rattle.ft_sound.proofs.Reasons.{no_reason, allowed, well_formed_add, well_formed_all, well_formed_empty}
 
 -- the store before an entry, and the entry in it
 abbrev pub Before : Store → Entry → Type 0
-Before W e = WellFormed W × AllowedIn W (entry e)
+Before W e = WellFormedStore W × AllowedIn W (entry e)
 
 before_entry : (items before after : List Item) (e : Entry) → Good items → items ≡ before ++ (entry e ∷ after) → Before (store_of before) e
 before_entry items before after e g p =
     let r : GoodAfter empty_store before × AllowedIn (store_of before) (entry e) = good_split empty_store before (entry e) after (subst (GoodAfter empty_store) p g) in
     (well_formed_all empty_store well_formed_empty before r.0, r.1)
 
-valid_entry : (W : Store) (e : Entry) → Before W e → Valid W e.statement e.set
+valid_entry : (W : Store) (e : Entry) → Before W e → Valid W.declarations e.statement e.set
 valid_entry W e b = entry_valid W b.0 e (no_reason W b.0 (entry e) b.1)
 
 pub entries_derivable : EntriesDerivable
 entries_derivable items g before after e p = (valid_entry (store_of before) e (before_entry items before after e g p)).derivable
 
 pub atoms_in_set : AtomsInSet
-atoms_in_set items g before after e p = mentions (store_of before) e.statement e.set (entries_derivable items g before after e p)
+atoms_in_set items g before after e p = mentions (declared_by before) e.statement e.set (entries_derivable items g before after e p)
 
 pub sets_closed : SetsClosed
 sets_closed items g before after e p a k = go a (r.0) r.1 r.2
   where
-    r : (R : List Atom) × Declares (store_of before) a R × Within R e.set
+    r : (R : List Atom) × Declares (declared_by before) a R × Within R e.set
     r = (valid_entry (store_of before) e (before_entry items before after e g p)).proper.closed a k
 
-    go : (a : Atom) (R : List Atom) → Declares (store_of before) a R → Within R e.set → HasItsSet (store_of before) e.set a
+    go : (a : Atom) (R : List Atom) → Declares (declared_by before) a R → Within R e.set → HasItsSet (declared_by before) e.set a
     go (met m) R d w = (d.0, d.1, subst (λ z. Within z e.set) (sym d.2) w)
     go (var v) R d w = (d.0, d.1, subst (λ z. Within z e.set) (sym d.2) w)
 
@@ -49,7 +49,7 @@ pub allowed_without_reason : AllowedWithoutReason
 allowed_without_reason items g i = (no_reason (store_of items) (well_formed_all empty_store well_formed_empty items g) i, allowed (store_of items) i)
 
 pub rules_finitary : RulesFinitary
-rules_finitary items g k = (well_formed_all empty_store well_formed_empty items g).finitary k
+rules_finitary items g k = (well_formed_all empty_store well_formed_empty items g).declarations.finitary k
 
 -- the context of a set, in order
 in_front : (done S : List Atom) (a c : Atom) → Ascending (done ++ (a ∷ S)) → Has c (done ++ (a ∷ S)) → precedes c a ≡ true → Has c done
@@ -62,7 +62,7 @@ has_middle : (done S : List Atom) (a : Atom) → Has a (done ++ (a ∷ S))
 has_middle [] S a = inl refl
 has_middle (b ∷ done) S a = inr (has_middle done S a)
 
-member_holds : (W : Store) → WellFormed W → (done S : List Atom) (a : Atom) → Proper W (done ++ (a ∷ S)) → MemberHolds W done a
+member_holds : (W : Declarations) → WellFormed W → (done S : List Atom) (a : Atom) → Proper W (done ++ (a ∷ S)) → MemberHolds W done a
 member_holds W F done S (met m) p =
     let r : (R : List Atom) × Declares W (met m) R × Within R (done ++ (met m ∷ S)) = p.closed (met m) (has_middle done S (met m)) in (
       r.1.0,
@@ -88,14 +88,14 @@ member_holds W F done S (var v) p =
     earlier (met n) d q k = refl
     earlier (var w) d q k = lt-ltb w v ((F.variables v d q).1 w k)
 
-members_hold : (W : Store) → WellFormed W → (done S : List Atom) → Proper W (done ++ S) → MembersHold W done S
+pub members_hold : (W : Declarations) → WellFormed W → (done S : List Atom) → Proper W (done ++ S) → MembersHold W done S
 members_hold W F done [] p = tt
 members_hold W F done (a ∷ S) p = (member_holds W F done S a p, members_hold W F (done ++ (a ∷ [])) S (subst (Proper W) (sym (append_assoc done (a ∷ []) S)) p))
 
 pub contexts_well_formed : ContextsWellFormed
 contexts_well_formed items g before after e p =
     let b : Before (store_of before) e = before_entry items before after e g p in
-    members_hold (store_of before) b.0 [] e.set (valid_entry (store_of before) e b).proper
+    members_hold (declared_by before) b.0.declarations [] e.set (valid_entry (store_of before) e b).proper
 
 -- names
 equal_names_self : (n : Name) → equal_names n n ≡ true
@@ -115,10 +115,10 @@ all_differ_last (m ∷ ns) n d h =
     let k : (not (equal_names m n) ≡ true) × (is_new ns n ≡ true) = and_parts (not (equal_names m n)) (is_new ns n) h in
     (differs_last m ns n d.0 (name_differs m n (not-true (equal_names m n) k.0)), all_differ_last ns n d.1 k.1)
 
-abbrev NamesFine : Store → Type 0
+abbrev NamesFine : Declarations → Type 0
 NamesFine W = AllDiffer W.names × (length W.names ≡ length W.rules)
 
-names_rule : (W : Store) (n : Name) (os : Option (List (ℕ × Declared))) (o : Option Assertion) → NamesFine W → is_new W.names n ≡ true → NamesFine (add_rule W n os o)
+names_rule : (W : Declarations) (n : Name) (os : Option (List (ℕ × Declared))) (o : Option Assertion) → NamesFine W → is_new W.names n ≡ true → NamesFine (add_rule W n os o)
 names_rule W n None o f h = f
 names_rule W n (Some ms) None f h = f
 names_rule W n (Some ms) (Some p) f h = (all_differ_last W.names n f.0 h, longer)
@@ -126,22 +126,22 @@ names_rule W n (Some ms) (Some p) f h = (all_differ_last W.names n f.0 h, longer
     longer : length (add_rule W n (Some ms) (Some p)).names ≡ length (add_rule W n (Some ms) (Some p)).rules
     longer = simp length-append (omega (arith, f.1))
 
-names_variable : (W : Store) (v : ℕ) (n : Name) (o : Option Assertion) → NamesFine W → NamesFine (add_variable W v n o)
+names_variable : (W : Declarations) (v : ℕ) (n : Name) (o : Option Assertion) → NamesFine W → NamesFine (add_variable W v n o)
 names_variable W v n None f = f
 names_variable W v n (Some p) f = f
 
-names_metavariable : (W : Store) (n : Name) (o : Option Assertion) → NamesFine W → NamesFine (add_metavariable W n o)
+names_metavariable : (W : Declarations) (n : Name) (o : Option Assertion) → NamesFine W → NamesFine (add_metavariable W n o)
 names_metavariable W n None f = f
 names_metavariable W n (Some p) f = f
 
-names_add : (W : Store) (i : Item) → NamesFine W → AllowedIn W i → NamesFine (add W i)
-names_add W (variable v n p) f h = names_variable W v n (entry_named W p) f
-names_add W (metavariable n p) f h = names_metavariable W n (entry_named W p) f
-names_add W (rule n ms p) f h = names_rule W n (each (metavariable_named W) ms) (entry_named W p) f h.0
+names_add : (W : Store) (i : Item) → NamesFine W.declarations → AllowedIn W i → NamesFine (add W i).declarations
+names_add W (variable v n p) f h = names_variable W.declarations v n (entry_named W p) f
+names_add W (metavariable n p) f h = names_metavariable W.declarations n (entry_named W p) f
+names_add W (rule n ms p) f h = names_rule W.declarations n (each (metavariable_named W.declarations) ms) (entry_named W p) f h.0
 names_add W (entry e) f h = f
 names_add W (shown p) f h = f
 
-names_all : (W : Store) (items : List Item) → NamesFine W → GoodAfter W items → NamesFine (add_all W items)
+names_all : (W : Store) (items : List Item) → NamesFine W.declarations → GoodAfter W items → NamesFine (add_all W items).declarations
 names_all W [] f g = f
 names_all W (i ∷ items) f g = names_all (add W i) items (names_add W i f g.0) g.1
 
@@ -157,7 +157,7 @@ none_good W k (i ∷ items) h = go (reason_in W i) refl h (none_good (add W i) (
     go None q h ih = (allowed W i q, ih h)
     go (Some why) q h ih = none_some (sym h)
 
-good_none : (W : Store) → WellFormed W → (k : ℕ) (items : List Item) → GoodAfter W items → first_rejected W k items ≡ None
+good_none : (W : Store) → WellFormedStore W → (k : ℕ) (items : List Item) → GoodAfter W items → first_rejected W k items ≡ None
 good_none W F k [] g = refl
 good_none W F k (i ∷ items) g = ap (λ o. found_at k o (first_rejected (add W i) (suc k) items)) (no_reason W F i g.0) ∙ good_none (add W i) (well_formed_add W F i g.0) (suc k) items g.1
 
@@ -177,7 +177,7 @@ some_first W k (i ∷ items) r e = go (reason_in W i) refl e (some_first (add W 
         let p : (k, w) ≡ r = same_Some (k, w) r e in
         ([], i, items, refl, omega (arith, ap (λ (z : ℕ × Reject). z.0) p), tt, q ∙ ap (λ (z : ℕ × Reject). Some z.1) p)
 
-first_some : (W : Store) → WellFormed W → (k : ℕ) (before after : List Item) (i : Item) (why : Reject) → GoodAfter W before → reason_in (add_all W before) i ≡ Some why → first_rejected W k (before ++ (i ∷ after)) ≡ Some (length before + k, why)
+first_some : (W : Store) → WellFormedStore W → (k : ℕ) (before after : List Item) (i : Item) (why : Reject) → GoodAfter W before → reason_in (add_all W before) i ≡ Some why → first_rejected W k (before ++ (i ∷ after)) ≡ Some (length before + k, why)
 first_some W F k [] after i why g e = ap (λ o. found_at k o (first_rejected (add W i) (suc k) after)) e ∙ ap (λ n. Some (n, why)) (omega arith)
 first_some W F k (j ∷ before) after i why g e =
     ap (λ o. found_at k o (first_rejected (add W j) (suc k) (before ++ (i ∷ after)))) (no_reason W F j g.0)

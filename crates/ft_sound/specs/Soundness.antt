@@ -2,43 +2,33 @@
 -- and what the verdict tells.
 -- After the soundness of context-free theories in Haselwarter and Bauer, "Finitary type theories with and without contexts".
 use Rattle.std.specs.Prelude.{ℕ, Some, None, ◌≡◌, ◌≢◌, ◌↔◌, List, [], ◌∷◌, ◌++◌, length}
-use Rattle.ft_theory.specs.Statements.{is_type, plain, StatementMentionsOnly}
+use Rattle.ft_theory.specs.Statements.{StatementMentionsOnly}
 use Rattle.ft_theory.specs.Rules.{look_up}
 use Rattle.ft_theory.specs.Derivability.{FinitaryUpTo}
 use Rattle.ft_items.specs.Sets.{Atom, met, var, Has, Within}
 use Rattle.ft_items.specs.Item.{Name, Entry, Item, entry}
-use Rattle.ft_items.specs.Store.{Annotation, Declared, Store, nth, Derivable, store_of}
+use Rattle.ft_items.specs.Store.{Annotation, Declared, nth, Derivable, Declarations, declared_by, WellFormedContext}
 use Rattle.ft_items.specs.Good.{Reject, reason, Allowed, Good, Counts, counts, Accepted, Rejected, verdict}
 
--- P holds of each entry of the list, with the store of the items before it
-abbrev pub EachEntry : (Store → Entry → Type 0) → List Item → Type 0
-EachEntry P items = (before after : List Item) (e : Entry) → items ≡ before ++ (entry e ∷ after) → P (store_of before) e
+-- P holds of each entry of the list, with the declarations of the items before it
+abbrev pub EachEntry : (Declarations → Entry → Type 0) → List Item → Type 0
+EachEntry P items = (before after : List Item) (e : Entry) → items ≡ before ++ (entry e ∷ after) → P (declared_by before) e
 
 -- In a good list the sequent of each entry is derivable by primitive steps, over the rules before the entry.
 abbrev pub EntriesDerivable : Type 0
 EntriesDerivable = (items : List Item) → Good items → EachEntry (λ W e. Derivable W e.statement e.set) items
 
--- a member of a context is declared, and its boundary or its type is derivable over the members done before it
-abbrev pub MemberHolds : Store → List Atom → Atom → Type 0
-MemberHolds W done (met m) = (d : Declared) × (nth W.metavariables m ≡ Some d) × Derivable W d.boundary done
-MemberHolds W done (var v) = (d : Annotation) × (look_up W.variables v ≡ Some d) × Derivable W (plain (is_type d.annotation)) done
-
--- each of these members holds over those done before it
-abbrev pub MembersHold : Store → List Atom → List Atom → Type 0
-MembersHold W done [] = Unit {0}
-MembersHold W done (a ∷ S) = MemberHolds W done a × MembersHold W (done ++ (a ∷ [])) S
-
 -- In a good list the context of each entry is well formed: its metavariables first and then its variables, by number, each
 -- holds over those before it.
 abbrev pub ContextsWellFormed : Type 0
-ContextsWellFormed = (items : List Item) → Good items → EachEntry (λ W e. MembersHold W [] e.set) items
+ContextsWellFormed = (items : List Item) → Good items → EachEntry (λ W e. WellFormedContext W e.set) items
 
 -- In a good list the statement of each entry mentions only atoms of its set.
 abbrev pub AtomsInSet : Type 0
 AtomsInSet = (items : List Item) → Good items → EachEntry (λ W e. StatementMentionsOnly (λ v. Has (var v) e.set) (λ m k. Has (met m) e.set) e.statement) items
 
 -- the atom is declared, and the set of its boundary or type is within the set
-abbrev pub HasItsSet : Store → List Atom → Atom → Type 0
+abbrev pub HasItsSet : Declarations → List Atom → Atom → Type 0
 HasItsSet W S (met m) = (d : Declared) × (nth W.metavariables m ≡ Some d) × Within d.set S
 HasItsSet W S (var v) = (d : Annotation) × (look_up W.variables v ≡ Some d) × Within d.set S
 
@@ -48,7 +38,7 @@ SetsClosed = (items : List Item) → Good items → EachEntry (λ W e. (a : Atom
 
 -- The rules of a good list form a finitary theory, whichever kinds of wide step are allowed.
 abbrev pub RulesFinitary : Type 0
-RulesFinitary = (items : List Item) → Good items → (k : ℕ) → FinitaryUpTo k (store_of items).rules
+RulesFinitary = (items : List Item) → Good items → (k : ℕ) → FinitaryUpTo k (declared_by items).rules
 
 -- the name differs from each of the others
 abbrev pub Differs : Name → List Name → Type 0
@@ -62,7 +52,7 @@ AllDiffer (n ∷ ns) = Differs n ns × AllDiffer ns
 
 -- In a good list each rule has a name, and the names differ.
 abbrev pub NamesDiffer : Type 0
-NamesDiffer = (items : List Item) → Good items → AllDiffer (store_of items).names × (length (store_of items).names ≡ length (store_of items).rules)
+NamesDiffer = (items : List Item) → Good items → AllDiffer (declared_by items).names × (length (declared_by items).names ≡ length (declared_by items).rules)
 
 -- After a good list an item is allowed exactly where there is no reason against it.
 abbrev pub AllowedWithoutReason : Type 0

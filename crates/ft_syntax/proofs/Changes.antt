@@ -1,5 +1,5 @@
 -- What a change does to a variable and to an application, and that a depth past all numbers makes no difference.
-use Rattle.std.proofs.Common.{◌≡◌, ◌≢◌, ℕ, zero, suc, ◌+◌, ◌-◌, ◌^◌, ◌<◌, ◌≤◌, min, List, [], ◌∷◌, map, true, false, cond, nat_eq, nat_le, ◌⊎◌, inl, inr, Option, Some, None, option_map, refl, sym, ap, ap₂, ◌∙◌, subst, arith}
+use Rattle.std.proofs.Common.{◌≡◌, ◌≢◌, ℕ, zero, suc, ◌+◌, ◌-◌, ◌^◌, ◌<◌, ◌≤◌, min, List, [], ◌∷◌, map, true, false, nat_eq, nat_le, ◌⊎◌, inl, inr, Option, Some, None, option_map, refl, sym, ap, ap₂, ◌∙◌, subst, arith}
 use Rattle.std.proofs.lemmas.Bool.Decides.{eqb_tells, leb_tells}
 use Rattle.ft_common.proofs.Choices.{if_same, if_other}
 use Rattle.ft_theory.specs.Expressions.{Expression, bound, free, symbol, meta, Arguments, no_arguments, with_body, dummy, Terms, no_terms, also, under_binder, under_binders, rename, rename_arguments, rename_terms, act, act_arguments, act_terms, body_or, in_place_of, open_at, open_arguments, open_terms, close_at, close_arguments, close_terms}
@@ -239,10 +239,10 @@ cut_same ts c k e f n = go (leb_tells k (2 ^ 64 - 1)) n
 pub cut_tree : (ts : List Expression) (c : Change) (k l : ℕ) (e r : Expression) → l ≡ min k (2 ^ 64 - 1) → IsSmall e → r ≡ changed ts c l e → IsSmall r → r ≡ changed ts c k e
 cut_tree ts c k l e r h s q t =
     let q' : r ≡ changed ts c (min k (2 ^ 64 - 1)) e = q ∙ ap (λ m. changed ts c m e) h in
-    q' ∙ cut_same ts c k e s.numbers (inl (subst NumbersFit q' t.numbers))
+    q' ∙ cut_same ts c k e s.kept.2 (inl (subst NumbersFit q' t.kept.2))
 
 pub cut_refused : (ts : List Expression) (c : Change) (k l : ℕ) (e : Expression) → l ≡ min k (2 ^ 64 - 1) → IsSmall e → (IsSmall (changed ts c l e) → ⊥) → IsSmall (changed ts c k e) → ⊥
-cut_refused ts c k l e h s n t = n (subst IsSmall (sym (ap (λ m. changed ts c m e) h ∙ cut_same ts c k e s.numbers (inr t.numbers))) t)
+cut_refused ts c k l e h s n t = n (subst IsSmall (sym (ap (λ m. changed ts c m e) h ∙ cut_same ts c k e s.kept.2 (inr t.kept.2))) t)
 
 -- the same, of a change that is known by an equation
 pub opened_there : (ts : List Expression) (c : Change) (t k i : ℕ) → c ≡ Open t → i ≡ k → changed ts c k (bound i) ≡ tree ts t
@@ -282,7 +282,7 @@ pub raised_past : (ts : List Expression) (c : Change) (n k i : ℕ) → c ≡ Ra
 raised_past ts c n k i h l = ap (λ d. changed ts d k (bound i)) h ∙ raise_past ts n k i l
 
 pub small_bound : (e : Expression) (i : ℕ) → e ≡ bound i → 2 ^ 64 ≤ i → IsSmall e → ⊥
-small_bound e i h l s = let n : suc i < 2 ^ 64 = subst NumbersFit h s.numbers in omega arith
+small_bound e i h l s = let n : suc i < 2 ^ 64 = subst NumbersFit h s.kept.2 in omega arith
 
 -- the body of an argument
 pub cut_body : (ts us : List Expression) (c : Change) (k l e r : ℕ) (b : Option ℕ) → b ≡ Some e → l ≡ min k (2 ^ 64 - 1) → IsSmall (tree ts e) → tree us r ≡ changed ts c l (tree ts e) → IsSmall (tree us r) →

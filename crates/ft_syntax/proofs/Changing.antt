@@ -1,5 +1,5 @@
 -- The loop over the arguments of an application, each of which is done something to.
-use Rattle.std.proofs.Common.{◌≡◌, ℕ, zero, suc, ◌+◌, ◌*◌, ◌<◌, ◌≤◌, List, [], ◌∷◌, ◌++◌, length, get_or, take, map, Option, Some, None, option_map, refl, sym, ap, ap₂, ◌∙◌, subst, arith, append_assoc, length-append}
+use Rattle.std.proofs.Common.{◌≡◌, ℕ, zero, suc, ◌+◌, ◌*◌, ◌<◌, ◌≤◌, List, [], ◌∷◌, ◌++◌, length, get_or, take, map, Option, Some, None, option_map, refl, sym, ap, ap₂, ◌∙◌, subst, arith}
 use Rattle.std.proofs.Math.Seq.{take-suc}
 use Rattle.std.proofs.lemmas.List.{map-append}
 use Rattle.ft_theory.specs.Expressions.{Expression, substitute, in_place_of, open_at}
@@ -63,7 +63,7 @@ fits_kept f (Meta m) ps a k g = terms_kept f ps k g
 
 -- each body of small arguments is small
 small_first : (p : Argument) (ps : List Argument) → AreSmall (p ∷ ps) → IsSmallBody p.1
-small_first (n, Some e) ps s = record { low = omega (arith, s.low); short = omega (arith, s.short); numbers = s.numbers.1 }
+small_first (n, Some e) ps s = record { kept = (omega (arith, s.low), omega (arith, s.short), s.numbers.1) }
 small_first (n, None) ps s = tt
 
 small_rest : (p : Argument) (ps : List Argument) → AreSmall (p ∷ ps) → AreSmall ps

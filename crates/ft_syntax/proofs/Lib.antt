@@ -1,4 +1,10 @@
+pub mod Chained
+pub mod Spelling
+pub mod Crowding
 pub mod Tables
+pub mod Different
+pub mod Finding
+pub mod Adding
 pub mod Seen
 pub mod Parts
 pub mod Measures
@@ -11,3 +17,4 @@ pub mod Planting
 pub mod Instantiating
 pub mod Copying
 pub mod Sameness
+pub mod AreSmall

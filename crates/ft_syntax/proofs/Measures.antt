@@ -28,7 +28,7 @@ measured_some_cons ts d z n e rest all m l s =
     record {
       depth_is = grind (arith, m.depth_is);
       size_is = omega (arith, m.size_is);
-      to = λ f. m.to (l, s.numbers, f);
+      to = λ f. m.to (l, s.kept.2, f);
       from = λ f. (m.from f).2;
       below = m.below.1;
     }

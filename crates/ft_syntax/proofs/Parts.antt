@@ -1,6 +1,6 @@
 -- An expression is its node applied to its arguments.
 use Rattle.std.proofs.Common.{◌≡◌, suc, ◌+◌, max, List, [], ◌∷◌, Some, None, refl, sym, ap, ap₂, subst, arith}
-use Rattle.ft_theory.specs.Expressions.{Expression, bound, free, symbol, meta, Arguments, no_arguments, with_body, dummy, Terms, no_terms, also}
+use Rattle.ft_theory.specs.Expressions.{Expression, bound, free, symbol, meta, Terms, no_terms, also}
 use Rattle.ft_theory.specs.Small.{depth, depth_of_arguments, depth_of_terms, size, size_of_arguments, size_of_terms, NumbersFit, NumbersFitInArguments, NumbersFitInTerms, IsSmall}
 use Rattle.ft_syntax.specs.Arguments.{Argument, node_of, list_of_arguments, list_of_terms, arguments_of, as_arguments, as_terms, applied, AreTerms, FitsNode, IsApplication}
 use Rattle.ft_syntax.specs.Laws.{arguments_listed, terms_listed}
@@ -114,8 +114,8 @@ numbers_of_applied (Meta m) ps f h = numbers_of_terms ps f h
 
 pub small_applied : (h : Node) (ps : List Argument) → IsApplication h → FitsNode h ps → AreSmall ps → IsSmall (applied h ps)
 small_applied h ps a f s =
-    record { low = omega (arith, s.low, depth_applied h ps f); short = omega (arith, s.short, size_applied h ps f); numbers = numbers_applied h ps a f s.numbers }
+    record { kept = (omega (arith, s.low, depth_applied h ps f), omega (arith, s.short, size_applied h ps f), numbers_applied h ps a f s.numbers) }
 
 pub small_arguments : (h : Node) (ps : List Argument) → FitsNode h ps → IsSmall (applied h ps) → AreSmall ps
 small_arguments h ps f s =
-    record { low = omega (arith, s.low, depth_applied h ps f); short = omega (arith, s.short, size_applied h ps f); numbers = numbers_of_applied h ps f s.numbers }
+    record { low = omega (arith, s.kept.0, depth_applied h ps f); short = omega (arith, s.kept.1, size_applied h ps f); numbers = numbers_of_applied h ps f s.kept.2 }

@@ -60,7 +60,7 @@ plug_body_refused ts xs k l j b e q s p =
 some_terms : (ts : List Expression) (xs : List (Option ℕ)) → (a : Terms) × AreTermsOf ts xs a
 some_terms ts [] = (no_terms, tt)
 some_terms ts (Some e ∷ xs) = (also (tree ts e) (some_terms ts xs).0, (refl, (some_terms ts xs).1))
-some_terms ts (None ∷ xs) = (also (bound (2 ^ 64)) (some_terms ts xs).0, ((λ s. large s.numbers), (some_terms ts xs).1))
+some_terms ts (None ∷ xs) = (also (bound (2 ^ 64)) (some_terms ts xs).0, ((λ s. large s.kept.2), (some_terms ts xs).1))
   where
     large : suc (2 ^ 64) < 2 ^ 64 → ⊥
     large l = omega arith

@@ -124,7 +124,7 @@ mutual
 
 small_raised : (e : Expression) (k : ℕ) → IsSmall (rename (λ i. i + k) e) → IsSmall e
 small_raised e k s =
-    record { low = omega (arith, s.low, depth-rename e (λ i. i + k)); short = omega (arith, s.short, size-rename e (λ i. i + k)); numbers = numbers-rename e (λ i. i + k) (λ i. omega arith) s.numbers }
+    record { kept = (omega (arith, s.kept.0, depth-rename e (λ i. i + k)), omega (arith, s.kept.1, size-rename e (λ i. i + k)), numbers-rename e (λ i. i + k) (λ i. omega arith) s.kept.2) }
 
 -- a substitution below binders
 lifts_within : (k : ℕ) (s : ℕ → Expression) (i : ℕ) → i < k → lifts k s i ≡ bound i
@@ -277,4 +277,4 @@ cut_planted a k l e h s = go (leb_tells k (2 ^ 64 - 1))
   where
     go : ((nat_le k (2 ^ 64 - 1) ≡ true) × (k ≤ 2 ^ 64 - 1)) ⊎ ((nat_le k (2 ^ 64 - 1) ≡ false) × (2 ^ 64 - 1 < k)) → planted a l e ≡ planted a k e
     go (inl q) = ap (λ m. planted a m e) (omega (arith, q.1, h))
-    go (inr q) = far_planted e a l k (omega (arith, q.1, h)) (omega (arith, q.1)) s.numbers
+    go (inr q) = far_planted e a l k (omega (arith, q.1, h)) (omega (arith, q.1)) s.kept.2

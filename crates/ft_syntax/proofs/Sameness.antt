@@ -1,5 +1,5 @@
 -- What `==` tells of arguments.
-use Rattle.std.proofs.Common.{◌≡◌, List, map, ◌∙◌, ℕ, Bool, true, false, ◌&&◌, nat_eq, Option, Some, None, sym, ap, ap₂, refl}
+use Rattle.std.proofs.Common.{◌≡◌, List, map, ◌∙◌, ℕ, true, false, ◌&&◌, nat_eq, Option, Some, None, sym, ap, ap₂}
 use Rattle.std.specs.Bool.{Decides}
 use Rattle.std.proofs.lemmas.Bool.{eqb-true, eq-eqb, and_parts}
 use Rattle.std.proofs.lemmas.Option.{none-some, same_Some}

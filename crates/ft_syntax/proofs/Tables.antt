@@ -1,5 +1,5 @@
 -- Laws of tables.
-use Rattle.std.proofs.Common.{◌≡◌, ℕ, zero, suc, ◌+◌, ◌<◌, List, [], ◌∷◌, ◌++◌, length, get_or, map, Option, Some, None, option_map, refl, sym, ap, ap₂, ◌∙◌, subst, arith, length-append, append_assoc, append-nil, add-zero, slice_get, take, drop, ◌-◌, ◌≤◌}
+use Rattle.std.proofs.Common.{◌≡◌, ℕ, zero, suc, ◌+◌, ◌<◌, List, [], ◌∷◌, ◌++◌, length, get_or, map, Some, option_map, refl, sym, ap, ap₂, ◌∙◌, subst, arith, length-append, append_assoc, append-nil, add-zero, slice_get, take, drop, ◌-◌, ◌≤◌}
 use Rattle.std.proofs.lemmas.Option.{slice_get_read, slice_get-map, same_Some}
 use Rattle.std.proofs.lemmas.List.{length-map, length-drop, take-append-le, drop-append-le}
 use Rattle.std.proofs.Math.Seq.{drop-append_seam, take-length}
@@ -15,14 +15,14 @@ use Rattle.ft_syntax.specs.declared.syntax.Node.{Node}
 use Rattle.ft_syntax.specs.declared.table.Row.{Row}
 
 -- the arguments of a row stay where others are put behind them
-own_append : (parts more : List Arg) (r : Row) → r.first ≤ r.end → r.end ≤ length parts → own (parts ++ more) r ≡ own parts r
+pub own_append : (parts more : List Arg) (r : Row) → r.first ≤ r.end → r.end ≤ length parts → own (parts ++ more) r ≡ own parts r
 own_append parts more r o t =
     let n : r.first ≤ length parts = omega arith in
     let left : length (drop r.first parts) ≡ length parts - r.first = length-drop r.first parts in
     ap (take (r.end - r.first)) (drop-append-le r.first parts more n) ∙ take-append-le (r.end - r.first) (drop r.first parts) more (omega arith)
 
 -- the arguments that were put last
-own_last : (parts args : List Arg) (r : Row) → r.first ≡ length parts → r.end ≡ length (parts ++ args) → own (parts ++ args) r ≡ args
+pub own_last : (parts args : List Arg) (r : Row) → r.first ≡ length parts → r.end ≡ length (parts ++ args) → own (parts ++ args) r ≡ args
 own_last parts args r f e =
     let n : r.end - r.first ≡ length args = omega (arith, length-append parts args) in
     ap₂ (λ k i. take k (drop i (parts ++ args))) n f ∙ ap (take (length args)) (drop-append_seam parts args) ∙ take-length args
@@ -172,6 +172,9 @@ row_at parts ts (d ∷ rs) (suc e) r g h =
 
 row_with : (parts : List Arg) (rs : List Row) (e : ℕ) (r : Row) → AreGoodRows parts [] rs → e < length rs → r ≡ get_or rs e r → IsRowWith parts (trees_after parts [] rs) e r
 row_with parts rs e r g l h = subst (λ k. IsRowWith parts (trees_after parts [] rs) k r) (omega arith) (row_at parts [] rs e r g (slice_get_read rs (length rs) e r refl l h))
+
+pub row_got : (parts : List Arg) (rs : List Row) (e : ℕ) (r : Row) → AreGoodRows parts [] rs → slice_get rs e ≡ Some r → IsRowWith parts (trees_after parts [] rs) e r
+row_got parts rs e r g h = subst (λ k. IsRowWith parts (trees_after parts [] rs) k r) (omega arith) (row_at parts [] rs e r g h)
 
 pub row_of : (parts : List Arg) (rs : List Row) (e : ℕ) (r : Row) → AreGoodRows parts [] rs → e < length rs → r ≡ get_or rs e r → IsRow (trees_after parts [] rs) e r
 row_of parts rs e r g l h = (row_with parts rs e r g l h).row

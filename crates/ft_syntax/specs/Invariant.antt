@@ -1,9 +1,12 @@
--- The rows of a table: each names earlier rows, and its tree is small. The arguments of all rows lie in one list.
-use Rattle.std.specs.Prelude.{ℕ, ◌<◌, ◌≡◌, List, [], ◌∷◌, ◌++◌, map, length, ◌≤◌, slice_range}
+-- The rows of a table: each names earlier rows, and its tree is small and that of no other. The arguments of all rows lie in
+-- one list.
+use Rattle.std.specs.Prelude.{ℕ, ◌<◌, ◌≡◌, List, [], ◌∷◌, ◌++◌, map, length, ◌≤◌, slice_range, slice_get, Option, Some}
 use Rattle.ft_theory.specs.Expressions.{Expression}
 use Rattle.ft_theory.specs.Small.{depth, size, IsSmall}
 use Rattle.ft_syntax.specs.Arguments.{node_of, arguments_of, applied, FitsNode, IsApplication}
-use Rattle.ft_syntax.specs.Table.{tree, argument_in, ArgumentsBelow}
+use Rattle.ft_syntax.specs.Table.{tree, argument_in, ArgumentsBelow, AreDifferent}
+use Rattle.ft_syntax.specs.Chains.{IsFound}
+use Rattle.ft_syntax.specs.declared.crowded.Crowded.{Crowded}
 use Rattle.ft_syntax.specs.declared.syntax.Arg.{Arg}
 use Rattle.ft_syntax.specs.declared.table.Row.{Row}
 
@@ -33,6 +36,17 @@ pub record IsGoodRow (parts : List Arg) (ts : List Expression) (r : Row) : Type 
 abbrev pub AreGoodRows : List Arg → List Expression → List Row → Type 0
 AreGoodRows parts ts [] = Unit {0}
 AreGoodRows parts ts (r ∷ rs) = IsGoodRow parts ts r × AreGoodRows parts (ts ++ row_tree parts ts r ∷ []) rs
+
+-- each row is found by its mark or by its spelling
+pub record AreFound (parts : List Arg) (rows : List Row) (ms : List (Option ℕ)) (c : Crowded) : Type 0 where
+  pub as_many : length ms ≡ length rows
+  pub found : (p : ℕ) (r : Row) → slice_get rows p ≡ Some r → IsFound ms c p r.node (own parts r)
+
+-- a table: its rows are good, each tree has one row, and this one is found
+pub record IsTable (parts : List Arg) (rows : List Row) (ms : List (Option ℕ)) (c : Crowded) : Type 0 where
+  pub good : AreGoodRows parts [] rows
+  pub different : AreDifferent (trees_after parts [] rows)
+  pub found : AreFound parts rows ms c
 
 -- the arguments of the expression at a place
 pub record HasArguments (ts : List Expression) (e : ℕ) (xs : List Arg) : Type 0 where

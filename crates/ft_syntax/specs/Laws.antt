@@ -7,7 +7,7 @@ use Rattle.std.proofs.Math.Path.{fun_ext}
 use Rattle.std.proofs.lemmas.List.{append-nil, append_assoc, length-append, get_or_append_left}
 use Rattle.ft_theory.specs.Expressions.{Expression, bound, Arguments, no_arguments, with_body, dummy, Terms, no_terms, also}
 use Rattle.ft_syntax.specs.Arguments.{list_of_arguments, list_of_terms, as_arguments, as_terms}
-use Rattle.ft_syntax.specs.Table.{tree, Extends, argument_in, arguments_in, terms_in, BodyBelow, ArgumentsBelow, AllBelow}
+use Rattle.ft_syntax.specs.Table.{tree, Extends, argument_in, BodyBelow, ArgumentsBelow, AllBelow}
 use Rattle.ft_syntax.specs.Instances.{body_for, instance_in, PairsBelow}
 use Rattle.ft_syntax.specs.declared.syntax.Arg.{Arg}
 

@@ -1,6 +1,7 @@
 pub mod Code
 pub mod Arguments
 pub mod Table
+pub mod Chains
 pub mod Invariant
 pub mod Measures
 pub mod Changes

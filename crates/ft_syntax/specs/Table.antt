@@ -1,5 +1,5 @@
 -- What is seen of a table of expressions: the list of its trees, each named by its place.
-use Rattle.std.specs.Prelude.{ℕ, ◌≡◌, ◌<◌, Option, Some, None, List, [], ◌∷◌, ◌++◌, map, option_map, slice_index_or}
+use Rattle.std.specs.Prelude.{ℕ, ◌≡◌, ◌≢◌, ◌<◌, Option, Some, None, List, [], ◌∷◌, ◌++◌, map, length, option_map, slice_index_or}
 use Rattle.ft_theory.specs.Expressions.{Expression, bound, Arguments, Terms, no_terms, also}
 use Rattle.ft_syntax.specs.Arguments.{Argument, as_arguments}
 use Rattle.ft_syntax.specs.declared.syntax.Arg.{Arg}
@@ -11,6 +11,14 @@ tree ts e = slice_index_or ts e (bound 0)
 -- the second table goes on from the first: the earlier trees are as they were
 abbrev pub Extends : List Expression → List Expression → Type 0
 Extends ts us = (more : List Expression) × (us ≡ ts ++ more)
+
+-- the trees of the table are pairwise different, so that each has one number
+pub record AreDifferent (ts : List Expression) : Type 0 where
+  pub same : (d e : ℕ) → d < length ts → e < length ts → tree ts d ≡ tree ts e → d ≡ e
+
+-- the expression is no tree of the table
+pub record IsNew (ts : List Expression) (t : Expression) : Type 0 where
+  pub none : (e : ℕ) → e < length ts → tree ts e ≢ t
 
 -- the argument whose body is a tree of the table
 abbrev pub argument_in : List Expression → Arg → Argument

@@ -3,9 +3,11 @@
 
 mod change;
 mod copy;
+mod crowded;
+mod index;
 mod instance;
 mod instantiate;
-mod recent;
+mod marks;
 mod syntax;
 mod table;
 

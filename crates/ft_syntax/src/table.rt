@@ -1,15 +1,18 @@
 //! The table: rows, each of which names earlier rows.
 
-ghost use Rattle.std.specs.Prelude.{◌≡◌, ℕ, ◌+◌, ◌-◌, ◌<◌, ◌≤◌, ◌++◌, [], ◌∷◌, List, Some, length, map, slice_get, IfOk, IfErr, IfSome, IfNone, IsTrue, IsFalse, ◌↔◌};
+ghost use Rattle.std.specs.Prelude.{◌≡◌, ℕ, ◌+◌, ◌-◌, ◌<◌, ◌≤◌, ◌++◌, [], ◌∷◌, List, Some, length, map, slice_get, IfOk, IfErr, IfSome, IfNone, OnOk, OnErr, IsTrue, IsFalse, ◌↔◌};
 ghost use Rattle.ft_theory.specs.Expressions.{bound, free, symbol, meta, Without};
 ghost use Rattle.ft_theory.specs.Small.{IsSmall, depth, size};
 ghost use Rattle.ft_syntax.specs.Arguments.{node_of, arguments_of, applied, FitsNode, IsApplication};
-ghost use Rattle.ft_syntax.specs.Table.{tree, Extends, argument_in, arguments_in, terms_in, BodyBelow, ArgumentsBelow, AllBelow, term_argument};
+ghost use Rattle.ft_syntax.specs.Table.{tree, Extends, AreDifferent, IsNew, argument_in, arguments_in, terms_in, BodyBelow, ArgumentsBelow, AllBelow, term_argument};
 ghost use Rattle.ft_syntax.specs.Invariant.{HasArguments, IsApplied};
+ghost use Rattle.ft_syntax.specs.Chains.{spelled, IsNoted, KeepsOthers};
 ghost use Rattle.ft_syntax.specs.Measures.{greatest_depth, total_size, AreSmall};
 ghost use Rattle.ft_syntax.specs.declared.syntax.SynFault.TheVariants.{TooBig, Memory};
 
-use crate::recent::{Recent, mark_of};
+use crate::crowded::Crowded;
+use crate::index::Index;
+use crate::marks::{mark_of, spelling_of};
 use crate::syntax::{Arg, E, Node, SynFault};
 use ft_base::limits::{MAX_BINDERS, MAX_DEPTH, MAX_SIZE};
 use std::alloc::{AllocError, Global};
@@ -25,14 +28,16 @@ struct Row {
     size: u64,
 }
 
-/// A table of expressions, to which expressions are added and from which none is taken. A call that forms an expression answers
+/// A table of expressions, to which expressions are added and from which none is taken. An expression has one number in it, which
+/// is answered whenever it is formed. A call that forms an expression answers
 /// `TooBig` exactly where this is not small (its depth at most 1,000, its size at most 65,536, its numbers below their types'
 /// ends), and `Memory` where memory is refused. The earlier expressions are as before in either case.
 #[derive(Drop)]
 pub struct Terms {
     rows: Vec<Row>,
     parts: Vec<Arg>,
-    recent: Recent,
+    index: Index,
+    crowded: Crowded,
     alloc: Global,
 }
 
@@ -45,29 +50,40 @@ impl Model for Terms {
 
     ghost coded = { coded_expressions };
 
-    ghost use Rattle.ft_syntax.specs.Invariant.{trees_after, AreGoodRows};
+    ghost use Rattle.ft_syntax.specs.Invariant.{trees_after, IsTable};
 
     ghost view = { λ t. trees_after t.parts.items [] t.rows.items };
 
-    ghost invariant = { λ t. AreGoodRows t.parts.items [] t.rows.items };
+    ghost invariant = { λ t. IsTable t.parts.items t.rows.items t.index t.crowded };
 }
 
 impl Terms {
     /// An empty table. It takes no memory.
+    #[tactic(auto, using(crate::proofs::Adding::table_none))]
     pub fn new(alloc: Global) -> Terms
         ensures { result ≡ [] }
     {
         Terms {
             rows: Vec::new(alloc),
             parts: Vec::new(alloc),
-            recent: Recent::new(alloc),
+            index: Index::new(alloc),
+            crowded: Crowded::new(alloc),
             alloc,
         }
     }
 
     // Adds a row, whose depth and size are these.
-    #[tactic(auto, using(crate::proofs::Tables::trees_pushed, crate::proofs::Tables::rows_pushed, crate::proofs::Tables::trees_kept, crate::proofs::Tables::rows_kept, crate::proofs::Tables::length_trees))]
-    fn push(&mut self, node: Node, args: &[Arg], depth: u64, size: u64) -> Result<E, SynFault>
+    #[tactic(auto, using(crate::proofs::Tables::trees_pushed, crate::proofs::Tables::trees_kept, crate::proofs::Tables::length_trees, crate::proofs::Adding::table_pushed, crate::proofs::Adding::table_kept, crate::proofs::Adding::taken, crate::proofs::Crowding::keeps_same))]
+    fn push(
+        &mut self,
+        mark: u64,
+        node: Node,
+        args: &[Arg],
+        depth: u64,
+        size: u64,
+    ) -> Result<E, SynFault>
+        requires mark { mark ≡ Rattle.ft_syntax.specs.Chains.mark node args.now }
+        requires new { IsNew self.old (applied node (map (argument_in self.old) args.now)) }
         requires below { ArgumentsBelow (length self.old) args.now }
         requires fits { FitsNode node (map (argument_in self.old) args.now) }
         requires depth_is { depth ≡ Rattle.ft_theory.specs.Small.depth (applied node (map (argument_in self.old) args.now)) }
@@ -92,6 +108,20 @@ impl Terms {
         if self.rows.push(row).is_err() {
             return Err(SynFault::Memory);
         }
+        if note(
+            self.alloc,
+            &mut self.index,
+            &mut self.crowded,
+            number,
+            mark,
+            node,
+            args,
+        )
+        .is_err()
+        {
+            self.rows.pop();
+            return Err(SynFault::Memory);
+        }
         Ok(E::at(number))
     }
 
@@ -105,52 +135,54 @@ impl Terms {
         &self.parts[row.first..row.end]
     }
 
-    // A row that is remembered, where it has this node and these arguments.
-    #[tactic(auto, using(crate::proofs::Tables::length_trees, crate::proofs::Tables::tree_of_parts))]
-    fn remembered(&self, mark: u64, node: Node, args: &[Arg]) -> Option<E>
-        ensures within { IfSome result (λ e. e < length self.now) }
-        ensures tree { IfSome result (λ e. tree self.now e ≡ applied node (map (argument_in self.now) args.now)) }
-        ensures small { IfSome result (λ e. IsSmall (tree self.now e)) }
+    // Whether the expression is that of a node with its arguments.
+    #[tactic(auto, using(crate::proofs::Different::is_row, crate::proofs::Different::no_row))]
+    fn is_row(&self, e: E, node: Node, args: &[Arg]) -> bool
+        requires within { e < length self.now }
+        requires below { ArgumentsBelow (length self.now) args.now }
+        requires fits { FitsNode node (map (argument_in self.now) args.now) }
+        ensures { IsTrue result ↔ (tree self.now e ≡ applied node (map (argument_in self.now) args.now)) }
     {
-        let place = self.recent.place(mark)?;
-        if place >= self.rows.len() {
-            return None;
+        let _ = &self.rows;
+        if self.node(e) != node {
+            return false;
         }
-        let e = E::at(place);
-        if self.node(e) == node && are_same(self.listed(e), args) {
-            Some(e)
-        } else {
-            None
+        are_same(self.listed(e), args)
+    }
+
+    // The row of a node with its arguments, where it is there.
+    #[tactic(auto, using(crate::proofs::Finding::look_start, crate::proofs::Finding::look_within, crate::proofs::Finding::look_marked, crate::proofs::Finding::look_more, crate::proofs::Finding::look_falls, crate::proofs::Finding::misses_all, crate::proofs::Finding::misses_none, crate::proofs::Finding::misses_past, crate::proofs::Finding::misses_other, crate::proofs::Finding::none_found))]
+    fn found(&self, mark: u64, node: Node, args: &[Arg]) -> Result<Option<E>, AllocError>
+        requires mark { mark ≡ Rattle.ft_syntax.specs.Chains.mark node args.now }
+        requires below { ArgumentsBelow (length self.now) args.now }
+        requires fits { FitsNode node (map (argument_in self.now) args.now) }
+        ensures some { IfOk result (λ r. IfSome r (λ e. (e < length self.now) × (tree self.now e ≡ applied node (map (argument_in self.now) args.now)))) }
+        ensures none { IfOk result (λ r. IfNone r (IsNew self.now (applied node (map (argument_in self.now) args.now)))) }
+    {
+        let mut at = self.index.last(mark);
+        'looking: while let Some(place) = at {
+            if self.is_row(E::at(place), node, args) {
+                return Ok(Some(E::at(place)));
+            }
+            at = self.index.before(place, mark);
+        }
+        if self.crowded.is_empty() {
+            return Ok(None);
+        }
+        let spelling = spelling_of(self.alloc, node, args)?;
+        match self.crowded.place(&spelling) {
+            Some(place) if place < self.rows.len() => {
+                if self.is_row(E::at(place), node, args) {
+                    return Ok(Some(E::at(place)));
+                }
+                Ok(None)
+            }
+            _ => Ok(None),
         }
     }
 
-    // The expression of a node with its arguments, whose depth and size are these.
-    #[tactic(auto, using(crate::proofs::Tables::extends_last, crate::specs::Laws::extends_same, crate::proofs::Tables::tree_last, crate::proofs::Tables::length_last))]
-    fn row(
-        &mut self,
-        mark: u64,
-        node: Node,
-        args: &[Arg],
-        depth: u64,
-        size: u64,
-    ) -> Result<E, SynFault>
-        requires below { ArgumentsBelow (length self.old) args.now }
-        requires fits { FitsNode node (map (argument_in self.old) args.now) }
-        requires depth_is { depth ≡ Rattle.ft_theory.specs.Small.depth (applied node (map (argument_in self.old) args.now)) }
-        requires size_is { size ≡ Rattle.ft_theory.specs.Small.size (applied node (map (argument_in self.old) args.now)) }
-        requires small { IsSmall (applied node (map (argument_in self.old) args.now)) }
-        ensures within { IfOk result (λ e. e < length self.new) }
-        ensures tree { IfOk result (λ e. tree self.new e ≡ applied node (map (argument_in self.old) args.now)) }
-        ensures goes_on { Extends self.old self.new }
-        ensures memory { IfErr result (λ f. f ≡ Memory) }
-    {
-        let e = self.push(node, args, depth, size)?;
-        self.recent.note(mark, e.place());
-        Ok(e)
-    }
-
-    // A variable: the row that is remembered for it, or a new one.
-    #[tactic(auto, using(crate::specs::Laws::extends_same))]
+    // A variable: its row, or a new one.
+    #[tactic(auto, using(crate::specs::Laws::extends_same, crate::proofs::Tables::extends_last, crate::proofs::Tables::tree_last, crate::proofs::Tables::length_last))]
     fn variable(&mut self, node: Node) -> Result<E, SynFault>
         requires fits { FitsNode node [] }
         requires depth_is { 1 ≡ Rattle.ft_theory.specs.Small.depth (applied node []) }
@@ -162,9 +194,9 @@ impl Terms {
         ensures memory { IfErr result (λ f. f ≡ Memory) }
     {
         let mark = mark_of(node, &[]);
-        match self.remembered(mark, node, &[]) {
+        match self.found(mark, node, &[])? {
             Some(e) => Ok(e),
-            None => self.row(mark, node, &[], 1, 1),
+            None => self.push(mark, node, &[], 1, 1),
         }
     }
 
@@ -208,12 +240,14 @@ impl Terms {
         ensures too_big { IfErr result (λ f. f ≡ TooBig → IsSmall (applied node (map (argument_in self.old) args.now)) → ⊥) }
     {
         let mark = mark_of(node, args);
-        if let Some(e) = self.remembered(mark, node, args) {
+        if let Some(e) = self.found(mark, node, args)? {
+            // a tree of the table is small
+            let _ = self.depth(e);
             return Ok(e);
         }
         match self.measure(args) {
             None => Err(SynFault::TooBig),
-            Some((depth, size)) => self.row(mark, node, args, depth + 1, size + 1),
+            Some((depth, size)) => self.push(mark, node, args, depth + 1, size + 1),
         }
     }
 
@@ -262,6 +296,13 @@ impl Terms {
         ensures small { IsSmall (tree self.now e) }
     {
         self.rows[e.place()].size
+    }
+
+    /// Each expression of a table is small. It takes no memory.
+    pub fn are_small(&self)
+        ensures { (e : ℕ) → e < length self.now → IsSmall (tree self.now e) }
+    {
+        let _rows = self.rows.len();
     }
 
     /// The expression without its arguments. It takes no memory.
@@ -355,43 +396,21 @@ impl Terms {
         self.apply(node, &list)
     }
 
-    /// Whether two expressions are the same. It takes no memory.
-    #[cycle(equality)]
-    #[tactic(auto, using(crate::proofs::Lists::same_start, crate::proofs::Lists::same_more, crate::proofs::Lists::same_trees, crate::proofs::Lists::other_counts, crate::proofs::Lists::other_arguments, crate::proofs::Lists::bodies_in, crate::proofs::Lists::measure_falls))]
+    /// Whether two expressions are the same, which is told by their numbers. It takes no memory.
+    #[tactic(auto, using(crate::proofs::Different::one_number))]
     pub fn equal_expr(&self, a: E, b: E) -> bool
         requires { (a < length self.now) × (b < length self.now) }
         ensures { IsTrue result ↔ (tree self.now a ≡ tree self.now b) }
     {
-        if a == b {
-            return true;
-        }
-        let first = self.listed(a);
-        let second = self.listed(b);
-        if self.node(a) != self.node(b) || first.len() != second.len() {
-            return false;
-        }
-        for i in 0..first.len() {
-            if !self.equal_argument(first[i], second[i]) {
-                return false;
-            }
-        }
-        true
+        let _ = &self.rows;
+        a == b
     }
 
-    // Whether two arguments are the same.
-    #[cycle(equality)]
-    fn equal_argument(&self, x: Arg, y: Arg) -> bool
-        requires { BodyBelow (length self.now) x.body × BodyBelow (length self.now) y.body }
-        ensures { IsTrue result ↔ (argument_in self.now x ≡ argument_in self.now y) }
+    /// Each expression of the table has one number. It does nothing.
+    pub fn has_one_number_each(&self)
+        ensures { AreDifferent self.now }
     {
-        if x.binders != y.binders {
-            return false;
-        }
-        match (x.body, y.body) {
-            (None, None) => true,
-            (Some(a), Some(b)) => self.equal_expr(a, b),
-            _ => false,
-        }
+        let _ = &self.rows;
     }
 
     /// Whether the free variable `v` is mentioned. It takes no memory.
@@ -417,9 +436,36 @@ impl Terms {
     }
 }
 
+// Notes a row: by its mark, or by its spelling where the bucket of its mark is full.
+#[tactic(auto, using(crate::proofs::Adding::noted_marked, crate::proofs::Adding::noted_spelled, crate::proofs::Crowding::keeps_same, crate::proofs::Crowding::keeps_as))]
+fn note(
+    alloc: Global,
+    index: &mut Index,
+    crowded: &mut Crowded,
+    place: usize,
+    mark: u64,
+    node: Node,
+    args: &[Arg],
+) -> Result<(), AllocError>
+    requires place { place ≡ length index.old }
+    requires mark { mark ≡ Rattle.ft_syntax.specs.Chains.mark node args.now }
+    ensures ok { OnOk result (IsNoted index.old index.new crowded.new place node args.now) }
+    ensures err { OnErr result (index.new ≡ index.old) }
+    ensures others { KeepsOthers crowded.old crowded.new (spelled node args.now) }
+{
+    if !index.is_crowded(mark) {
+        index.note(Some(mark))?;
+        return Ok(());
+    }
+    let spelling = spelling_of(alloc, node, args)?;
+    crowded.put(spelling, place)?;
+    index.note(None)?;
+    Ok(())
+}
+
 // Whether the arguments are the same.
 fn are_same(x: &[Arg], y: &[Arg]) -> bool
-    ensures { IsTrue result → x.now ≡ y.now }
+    ensures { IsTrue result ↔ (x.now ≡ y.now) }
 {
     x == y
 }

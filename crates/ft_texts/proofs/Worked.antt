@@ -21,10 +21,10 @@ unfolding encode_utf8
 text_is_ascii = refl
 
 type_small : IsSmall Nat
-type_small = record { low = omega arith; short = omega arith; numbers = tt }
+type_small = record { kept = (omega arith, omega arith, tt) }
 
 zero_small : IsSmall O
-zero_small = record { low = omega arith; short = omega arith; numbers = tt }
+zero_small = record { kept = (omega arith, omega arith, tt) }
 
 pub worked_text : WorkedText
 worked_text = (

@@ -39,46 +39,79 @@ abbrev mutual
   size_of_terms no_terms = 0
   size_of_terms (also t a) = size t + size_of_terms a
 
--- each bound number is below 2 ^ 64 - 1, and no argument has 2 ^ 32 binders or more
+-- The limits of small expressions: the greatest depth, the greatest size, the number that is never reached by the successor of a
+-- bound number, and the one that is never reached by the number of an argument's binders.
+abbrev pub max_depth : ℕ
+max_depth = 1000
+
+abbrev pub max_size : ℕ
+max_size = 65536
+
+abbrev pub number_end : ℕ
+number_end = 2 ^ 64
+
+abbrev pub binder_end : ℕ
+binder_end = 2 ^ 32
+
+-- A limit on numbers: none, that one is at most another or below it, or all of two or of three limits.
+pub data Limit : Type 0 where
+  no_limit : Limit
+  at_most : ℕ → ℕ → Limit
+  below : ℕ → ℕ → Limit
+  both : Limit → Limit → Limit
+  all_three : Limit → Limit → Limit → Limit
+
+-- the limit is kept
+abbrev pub IsKept : Limit → Type 0
+IsKept no_limit = Unit {0}
+IsKept (at_most m n) = m ≤ n
+IsKept (below m n) = m < n
+IsKept (both k l) = IsKept k × IsKept l
+IsKept (all_three k l m) = IsKept k × IsKept l × IsKept m
+
+-- the test that it is
+abbrev pub is_kept : Limit → Bool
+is_kept no_limit = true
+is_kept (at_most m n) = nat_le m n
+is_kept (below m n) = nat_lt m n
+is_kept (both k l) = is_kept k && is_kept l
+is_kept (all_three k l m) = is_kept k && is_kept l && is_kept m
+
+-- the limits of the bound numbers and of the arguments' binders in an expression
 abbrev mutual
-  pub NumbersFit : Expression → Type 0
-  NumbersFit (bound i) = suc i < 2 ^ 64
-  NumbersFit (free v) = Unit {0}
-  NumbersFit (symbol s a) = NumbersFitInArguments a
-  NumbersFit (meta m a) = NumbersFitInTerms a
+  pub number_limits : Expression → Limit
+  number_limits (bound i) = below (suc i) number_end
+  number_limits (free v) = no_limit
+  number_limits (symbol s a) = number_limits_of_arguments a
+  number_limits (meta m a) = number_limits_of_terms a
 
-  pub NumbersFitInArguments : Arguments → Type 0
-  NumbersFitInArguments no_arguments = Unit {0}
-  NumbersFitInArguments (with_body n e a) = (n < 2 ^ 32) × NumbersFit e × NumbersFitInArguments a
-  NumbersFitInArguments (dummy n a) = (n < 2 ^ 32) × NumbersFitInArguments a
+  pub number_limits_of_arguments : Arguments → Limit
+  number_limits_of_arguments no_arguments = no_limit
+  number_limits_of_arguments (with_body n e a) =
+      all_three (below n binder_end) (number_limits e) (number_limits_of_arguments a)
+  number_limits_of_arguments (dummy n a) = both (below n binder_end) (number_limits_of_arguments a)
 
-  pub NumbersFitInTerms : Terms → Type 0
-  NumbersFitInTerms no_terms = Unit {0}
-  NumbersFitInTerms (also t a) = NumbersFit t × NumbersFitInTerms a
+  pub number_limits_of_terms : Terms → Limit
+  number_limits_of_terms no_terms = no_limit
+  number_limits_of_terms (also t a) = both (number_limits t) (number_limits_of_terms a)
 
--- An expression is small where its depth is at most 1,000, its size at most 65,536, and its numbers fit.
+-- An expression is small where its depth, its size and its numbers keep their limits.
+abbrev pub limits : Expression → Limit
+limits e = all_three (at_most (depth e) max_depth) (at_most (size e) max_size) (number_limits e)
+
 pub record IsSmall (e : Expression) : Type 0 where
-  pub low : depth e ≤ 1000
-  pub short : size e ≤ 65536
-  pub numbers : NumbersFit e
+  pub kept : IsKept (limits e)
 
--- the test that the numbers fit
-abbrev mutual
-  pub numbers_fit : Expression → Bool
-  numbers_fit (bound i) = nat_lt (suc i) (2 ^ 64)
-  numbers_fit (free v) = true
-  numbers_fit (symbol s a) = numbers_fit_in_arguments a
-  numbers_fit (meta m a) = numbers_fit_in_terms a
-
-  pub numbers_fit_in_arguments : Arguments → Bool
-  numbers_fit_in_arguments no_arguments = true
-  numbers_fit_in_arguments (with_body n e a) = nat_lt n (2 ^ 32) && numbers_fit e && numbers_fit_in_arguments a
-  numbers_fit_in_arguments (dummy n a) = nat_lt n (2 ^ 32) && numbers_fit_in_arguments a
-
-  pub numbers_fit_in_terms : Terms → Bool
-  numbers_fit_in_terms no_terms = true
-  numbers_fit_in_terms (also t a) = numbers_fit t && numbers_fit_in_terms a
-
--- the test that an expression is small
+-- the test that it is small
 abbrev pub is_small : Expression → Bool
-is_small e = nat_le (depth e) 1000 && nat_le (size e) 65536 && numbers_fit e
+is_small e = is_kept (limits e)
+
+-- the numbers of an expression, of arguments and of terms keep their limits
+abbrev pub NumbersFit : Expression → Type 0
+NumbersFit e = IsKept (number_limits e)
+
+abbrev pub NumbersFitInArguments : Arguments → Type 0
+NumbersFitInArguments a = IsKept (number_limits_of_arguments a)
+
+abbrev pub NumbersFitInTerms : Terms → Type 0
+NumbersFitInTerms a = IsKept (number_limits_of_terms a)

@@ -1,8 +1,8 @@
 -- The words of a call.
 use Rattle.std.proofs.Common.{◌≡◌, ◌∙◌, sym, ap, ℕ, ◌<◌, ◌≤◌, List, [], ◌∷◌, length, get_or, map, codes, refl, arith}
-use Rattle.ft_top.specs.declared.words.Job.{Job}
-use Rattle.ft_top.specs.declared.words.Job.TheVariants as job
-use Rattle.ft_top.specs.Words.{word_of, IsAsked}
+use Rattle.ft_answers.specs.declared.words.Job.{Job}
+use Rattle.ft_answers.specs.declared.words.Job.TheVariants as job
+use Rattle.ft_answers.specs.Words.{word_of, IsAsked}
 
 -- a list of one element is that element
 one_element : {A : Type 0} (xs : List A) (x : A) → length xs ≡ 1 → x ≡ get_or xs 0 x → xs ≡ x ∷ []

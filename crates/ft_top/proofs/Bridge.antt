@@ -9,14 +9,15 @@ use Rattle.ft_items.specs.Texts.{IsTextOf}
 use Rattle.ft_items.specs.Faults.{Fault, HasFault}
 use Rattle.ft_sound.specs.Soundness.{EntriesDerivable, GoodAreAccepted, AcceptedAreDerivable}
 use Rattle.ft_texts.specs.Laws.{Visible, AtMostOneList, TextHasNoFault, AtMostOneFault}
-use Rattle.ft_applications.specs.declared.syntax.Command.{Command}
-use Rattle.ft_applications.specs.Grammar.{AreCommands}
-use Rattle.ft_applications.specs.Events.{Event, events}
-use Rattle.ft_applications.specs.Transcript.{IsPlainSource, IsTranscript, text_of, status_of}
-use Rattle.ft_applications.specs.Histories.{IsDerivationOf, IsStepOfApplications, AllOfApplications}
-use Rattle.ft_check.specs.Built.{is_built, AllBuilt, verdict_built, BuiltIsVerdict, AcceptedIsAccepted}
-use Rattle.ft_top.specs.Verdicts.{IsVerdict, verdict_line, verdict_status, fault_line}
-use Rattle.ft_top.specs.Exports.{IsExport}
+use Rattle.ft_applications_meaning.specs.declared.syntax.Command.{Command}
+use Rattle.ft_applications_meaning.specs.Grammar.{AreCommands}
+use Rattle.ft_applications_meaning.specs.Events.{Event, events}
+use Rattle.ft_applications_meaning.specs.Transcript.{IsPlainSource, IsTranscript, text_of, status_of}
+use Rattle.ft_applications_meaning.specs.Histories.{IsDerivationOf}
+use Rattle.ft_run.specs.Steps.{IsStepOfApplications, AllOfApplications}
+use Rattle.ft_verdicts.specs.Built.{is_built, AllBuilt, verdict_built, BuiltIsVerdict, AcceptedIsAccepted}
+use Rattle.ft_verdicts.specs.Verdicts.{IsVerdict, verdict_line, verdict_status, fault_line}
+use Rattle.ft_answers.specs.Exports.{IsExport}
 use Rattle.ft_top.specs.Laws.{IsAccepted, Headline, AcceptedIsDerivable, OneVerdict}
 use Rattle.ft_top.proofs.Stating.{shown_derivable}
 
@@ -26,7 +27,7 @@ step_is_built (by_bterm p) h = refl
 step_is_built (by_rule r ps) h = refl
 step_is_built _ h = absurd h
 
-all_built : (items : List Item) → AllOfApplications items → AllBuilt items
+pub all_built : (items : List Item) → AllOfApplications items → AllBuilt items
 all_built [] h = tt
 all_built (variable v n p ∷ items) h = absurd h.0
 all_built (metavariable n p ∷ items) h = (tt, all_built items h.1)
@@ -34,12 +35,12 @@ all_built (rule n ms p ∷ items) h = (tt, all_built items h.1)
 all_built (entry e ∷ items) h = (step_is_built e.step h.0.0, all_built items h.1)
 all_built (shown p ∷ items) h = (tt, all_built items h.1)
 
--- a good list of this language is accepted by `check`
-accepted_by_check : BuiltIsVerdict → GoodAreAccepted → (text : List ℕ) (items : List Item) → IsTextOf is_name_token text items → Good items → AllOfApplications items
-    → IsVerdict text (verdict_line (Accepted (counts items))) 0
+-- a good list of built steps is accepted by `check`
+pub accepted_by_check : BuiltIsVerdict → GoodAreAccepted → (text : List ℕ) (items : List Item) → IsTextOf is_name_token text items → Good items → AllBuilt items
+    → IsVerdict is_name_token text (verdict_line (Accepted (counts items))) 0
 accepted_by_check built good text items t g a =
-    let v : verdict_built items ≡ Accepted (counts items) = built items (all_built items a) ∙ good items g in
-    subst (λ v. IsVerdict text (verdict_line v) (verdict_status v)) v (IsVerdict.of_items items t)
+    let v : verdict_built items ≡ Accepted (counts items) = built items a ∙ good items g in
+    subst (λ v. IsVerdict is_name_token text (verdict_line v) (verdict_status v)) v (IsVerdict.of_items items t)
 
 -- tokens are those of one list of commands
 abbrev pub OneTree : Type 0
@@ -51,7 +52,7 @@ one_run one bytes cs ds es fs s t h k =
 
 exported : OneTree → BuiltIsVerdict → GoodAreAccepted → EntriesDerivable → (bytes : List ℕ) (cs : List Command) (es : List Event) → IsPlainSource bytes cs → events [] cs ≡ Some es
     → (text : List ℕ) (n : ℕ) → IsExport bytes text n → (n ≡ status_of es) × IsAccepted text es
-exported one built good derivable bytes cs es s h text n (IsExport.of_run ds fs items t s' k d a x) =
+exported one built good derivable bytes cs es s h text n (IsExport.of_run ds fs items t s' k d x) =
     let same : fs ≡ es = one_run one bytes ds cs fs es s' s k h in (
       ap status_of same,
       record {
@@ -60,7 +61,8 @@ exported one built good derivable bytes cs es s h text n (IsExport.of_run ds fs 
         derivation = subst (λ es. IsDerivationOf items es) same d;
         shown = shown_derivable derivable items es (subst (λ es. IsDerivationOf items es) same d);
         derivable = derivable items d.good;
-        accepted = accepted_by_check built good t items x d.good a;
+        accepted = good items d.good;
+        line = accepted_by_check built good t items x d.good;
       },
     )
 exported one built good derivable bytes cs es s h text n (IsExport.of_another none) = absurd (none cs es s h)

@@ -1,18 +1,18 @@
 -- What is known after the call of a job.
 use Rattle.std.proofs.Common.{◌≡◌, ◌∙◌, sym, ap, refl, subst, ℕ, ◌<◌, ◌≤◌, ◌⊎◌, List, [], length, Option, Some, IfSome, arith, inl, inr}
-use Rattle.ft_outside.specs.Outside.{Rose, Appends, AppendsPrefix, IsAtEnd}
-use Rattle.ft_applications.specs.declared.syntax.Command.{Command}
-use Rattle.ft_applications.specs.Events.{Event, events}
-use Rattle.ft_applications.specs.Transcript.{IsPlainSource, IsTranscript, AllDerivable, shown_in, not_yet_line}
-use Rattle.ft_top.specs.declared.words.Job.{Job}
-use Rattle.ft_top.specs.declared.words.Job.TheVariants as job
-use Rattle.ft_top.specs.declared.status.Status.{Status}
-use Rattle.ft_top.specs.declared.status.Status.TheVariants as status
-use Rattle.ft_top.specs.Words.{IsAsked, limit, ReadsSource}
-use Rattle.ft_top.specs.Statuses.{IsStatus, IsOfInput, IsReadWhole, IsOverLimit, Ends, HasNoFault, read_line, too_long_line, line_for, number_of}
-use Rattle.ft_top.specs.Exports.{IsExport, BreaksOff}
-use Rattle.ft_top.specs.Answer.{IsText, IsAnswer, IsBroken}
-use Rattle.ft_top.specs.Calls.{IsNotBuilt, ShowsDerivable, IsOfBytes, IsBegun, IsLeft, IsCall}
+use Rattle.ft_streams.specs.Streams.{Rose, Appends, AppendsPrefix, IsAtEnd}
+use Rattle.ft_applications_meaning.specs.declared.syntax.Command.{Command}
+use Rattle.ft_applications_meaning.specs.Events.{Event, events}
+use Rattle.ft_applications_meaning.specs.Transcript.{IsPlainSource, IsTranscript, AllDerivable, shown_in, not_yet_line}
+use Rattle.ft_answers.specs.declared.words.Job.{Job}
+use Rattle.ft_answers.specs.declared.words.Job.TheVariants as job
+use Rattle.ft_answers.specs.declared.status.Status.{Status}
+use Rattle.ft_answers.specs.declared.status.Status.TheVariants as status
+use Rattle.ft_answers.specs.Words.{IsAsked, limit, ReadsSource}
+use Rattle.ft_answers.specs.Statuses.{IsStatus, IsOfInput, IsReadWhole, IsOverLimit, Ends, HasNoFault, read_line, too_long_line, line_for, number_of}
+use Rattle.ft_answers.specs.Exports.{IsExport, BreaksOff}
+use Rattle.ft_answers.specs.Answer.{IsText, IsAnswer, IsBroken}
+use Rattle.ft_top.specs.Calls.{IsNotBuilt, ShowsDerivable, IsKnown, IsOfBytes, IsBegun, IsLeft, IsCall}
 use Rattle.ft_top.proofs.Asking.{one_job}
 use Rattle.ft_top.proofs.Numbers.{Excludes, excluded, of_file}
 
@@ -144,7 +144,7 @@ told_of words bs {j = j} {left = left} asked told (IsCall.of_another r q h e) =
     let known = of_told (λ bytes. (length bytes ≤ limit j) × IsNotBuilt bytes) left bs told h in
     inr (told_ends words bs _ _ _ _ _ _ _ (IsAnswer.of_input j asked known.0 (line_for j not_yet_line) 7 (another_text j bs r known.1)) e)
 told_of words bs {j = j} {left = left} asked told (IsCall.of_text s text i e h k w) =
-    let known = of_told (λ bytes. (length bytes ≤ limit j) × IsText j bytes text (number_of s) × (ReadsSource j → ShowsDerivable bytes)) left bs told h in
+    let known = of_told (IsKnown j text s) left bs told h in
     inr (inl (text, (number_of s, (IsAnswer.of_input j asked known.0 text (number_of s) known.1, k, w))))
 told_of words bs {j = j} {left = left} {faults = faults} {later = later} {before = before} {after = after} asked told (IsCall.of_break k h) =
     let known = of_told (λ bytes. (length bytes ≤ limit j) × IsBegun j bytes before after × (ReadsSource j → ShowsDerivable bytes)) left bs told h in
@@ -165,7 +165,7 @@ writes_of bs given after' {j = j} {left = left} told within quiet calm rose (IsC
     inr (line_for j not_yet_line, (7, (another_text j bs r known.1, p.0, p.1)))
 writes_of bs given after' told within quiet calm rose (IsCall.of_another r q h (inr p)) = absurd (calm (rose p.0))
 writes_of bs given after' {j = j} {left = left} told within quiet calm rose (IsCall.of_text s text i e h k w) =
-    let known = of_told (λ bytes. (length bytes ≤ limit j) × IsText j bytes text (number_of s) × (ReadsSource j → ShowsDerivable bytes)) left bs told h in
+    let known = of_told (IsKnown j text s) left bs told h in
     inr (text, (number_of s, (known.1, k, w)))
 writes_of bs given after' told within quiet calm rose (IsCall.of_break k h) = absurd (calm (rose k))
 writes_of bs given after' told within quiet calm rose (IsCall.of_memory k h) = inl k
@@ -190,7 +190,7 @@ derived_of bs told z reads (IsCall.of_length o h (inr p)) = absurd (neither z p.
 derived_of bs {j = j} {left = left} told z reads (IsCall.of_another r q h e) =
     λ cs es s k. absurd ((of_told (λ bytes. (length bytes ≤ limit j) × IsNotBuilt bytes) left bs told h).1 cs es s k)
 derived_of bs {j = j} {left = left} told z reads (IsCall.of_text s text i e h k w) =
-    (of_told (λ bytes. (length bytes ≤ limit j) × IsText j bytes text (number_of s) × (ReadsSource j → ShowsDerivable bytes)) left bs told h).2 reads
+    (of_told (IsKnown j text s) left bs told h).2 reads
 derived_of bs {j = j} {left = left} {before = before} {after = after} told z reads (IsCall.of_break k h) =
     (of_told (λ bytes. (length bytes ≤ limit j) × IsBegun j bytes before after × (ReadsSource j → ShowsDerivable bytes)) left bs told h).2 reads
 derived_of bs told z reads (IsCall.of_memory k h) = absurd (neither z k (λ e. absurd (omega (arith, e))) (λ e. absurd (omega (arith, e))))
@@ -206,7 +206,7 @@ begun_of bs {j = j} {left = left} told four reads within quiet (IsCall.of_length
 begun_of bs {j = j} {left = left} told four reads within quiet (IsCall.of_another r q h e) =
     λ cs es s k. absurd ((of_told (λ bytes. (length bytes ≤ limit j) × IsNotBuilt bytes) left bs told h).1 cs es s k)
 begun_of bs {j = j} {left = left} told four reads within quiet (IsCall.of_text s text i e h k w) =
-    (of_told (λ bytes. (length bytes ≤ limit j) × IsText j bytes text (number_of s) × (ReadsSource j → ShowsDerivable bytes)) left bs told h).2 reads
+    (of_told (IsKnown j text s) left bs told h).2 reads
 begun_of bs {j = j} {left = left} {before = before} {after = after} told four reads within quiet (IsCall.of_break k h) =
     (of_told (λ bytes. (length bytes ≤ limit j) × IsBegun j bytes before after × (ReadsSource j → ShowsDerivable bytes)) left bs told h).2 reads
 begun_of bs told four reads within quiet (IsCall.of_memory k h) = absurd (omega (arith, k, four))

@@ -3,27 +3,33 @@ use Rattle.std.proofs.Common.{◌≡◌, ◌∙◌, sym, ap, refl, subst, ℕ, �
 use Rattle.ft_common.proofs.Options.{none_some, one_value}
 use Rattle.ft_base.specs.Names.{is_name_token}
 use Rattle.ft_items.specs.Item.{Item}
+use Rattle.ft_items.specs.Good.{counts}
+use Rattle.ft_verdicts.specs.Built.{BuiltIsVerdict}
 use Rattle.ft_items.specs.Texts.{IsTextOf, text_of as file_of}
-use Rattle.ft_outside.specs.Outside.{Appends, AppendsPrefix, IsAtEnd}
+use Rattle.ft_sound.specs.Soundness.{GoodAreAccepted}
+use Rattle.ft_streams.specs.Streams.{Appends, AppendsPrefix, IsAtEnd}
 use Rattle.ft_applications.specs.declared.fault.Fault.{Fault}
 use Rattle.ft_applications.specs.declared.fault.Fault.TheVariants as fault
-use Rattle.ft_applications.specs.declared.syntax.Command.{Command}
-use Rattle.ft_applications.specs.Events.{Event, events}
-use Rattle.ft_applications.specs.Transcript.{IsPlainSource, IsTranscript, AllDerivable, shown_in, text_of, status_of, not_yet_line}
-use Rattle.ft_applications.specs.Histories.{IsDerivationOf, AllOfApplications}
+use Rattle.ft_applications_meaning.specs.declared.syntax.Command.{Command}
+use Rattle.ft_applications_meaning.specs.Events.{Event, events}
+use Rattle.ft_applications_meaning.specs.Transcript.{IsPlainSource, IsTranscript, AllDerivable, shown_in, text_of, status_of, not_yet_line}
+use Rattle.ft_applications_meaning.specs.Histories.{IsDerivationOf}
+use Rattle.ft_run.specs.Steps.{AllOfApplications}
 use Rattle.ft_run.specs.declared.session.Ending.{Ending}
 use Rattle.ft_run.specs.declared.session.Ending.TheVariants as ending
 use Rattle.ft_run.specs.Running.{ending_status}
-use Rattle.ft_top.specs.declared.words.Job.{Job}
-use Rattle.ft_top.specs.declared.words.Job.TheVariants as job
-use Rattle.ft_top.specs.declared.status.Status.{Status}
-use Rattle.ft_top.specs.declared.status.Status.TheVariants as status
-use Rattle.ft_top.specs.Words.{limit, ReadsSource}
-use Rattle.ft_top.specs.Statuses.{IsOfInput, IsCauseOfReading, Ends, read_line, too_long_line, line_for, line_of, number_of, status_of_running}
-use Rattle.ft_top.specs.Verdicts.{IsVerdict}
-use Rattle.ft_top.specs.Exports.{IsExport, BreaksOff}
-use Rattle.ft_top.specs.Answer.{IsText}
-use Rattle.ft_top.specs.Calls.{IsNotBuilt, ShowsDerivable, IsRun, WritesFile, IsCause, IsOfBytes, IsBegun, IsLeft, IsCall}
+use Rattle.ft_answers.specs.declared.words.Job.{Job}
+use Rattle.ft_answers.specs.declared.words.Job.TheVariants as job
+use Rattle.ft_answers.specs.declared.status.Status.{Status}
+use Rattle.ft_answers.specs.declared.status.Status.TheVariants as status
+use Rattle.ft_answers.specs.Words.{limit, ReadsSource}
+use Rattle.ft_answers.specs.Statuses.{IsOfInput, Ends, read_line, too_long_line, line_for, line_of, number_of}
+use Rattle.ft_top.specs.Causes.{IsCauseOfReading, status_of_running}
+use Rattle.ft_verdicts.specs.Verdicts.{IsVerdict}
+use Rattle.ft_answers.specs.Exports.{IsExport, BreaksOff}
+use Rattle.ft_answers.specs.Answer.{IsText}
+use Rattle.ft_top.specs.Calls.{IsNotBuilt, ShowsDerivable, IsRun, WritesFile, IsCause, IsKnown, IsOfBytes, IsBegun, IsLeft, IsCall}
+use Rattle.ft_top.proofs.Bridge.{all_built, accepted_by_check}
 
 -- what follows from what is known of the bytes
 if_some : (P Q : List ℕ → Type 0) (o : Option (List ℕ)) → ((bs : List ℕ) → P bs → Q bs) → IfSome o P → IfSome o Q
@@ -99,14 +105,14 @@ transcript_of bs text items status r =
 pub run_text : (left : Option (List ℕ)) (text : List ℕ) (items : List Item) (s : Status) (status : ℕ) → number_of s ≡ status → RanInput job.Run left text items status → IsOfBytes job.Run left text s
 run_text left text items s status number h =
     if_some (λ bytes. (length bytes ≤ limit job.Run) × IsRun bytes text items status × ShowsDerivable bytes)
-    (λ bytes. (length bytes ≤ limit job.Run) × IsTranscript bytes text (number_of s) × (ReadsSource job.Run → ShowsDerivable bytes)) left
-    (λ bs k. (k.0, subst (λ n. IsTranscript bs text n) (sym number) (transcript_of bs text items status k.1), λ _. k.2)) h
+    (IsKnown job.Run text s) left
+    (λ bs k. (k.0, subst (λ n. IsTranscript bs text n) (sym number) (transcript_of bs text items status k.1), λ _. k.2, tt)) h
 
 -- the verdict on a file
-pub check_text : (left : Option (List ℕ)) (v text : List ℕ) (s : Status) → IfSome left (λ bytes. bytes ≡ v) → length v ≤ limit job.Check → IsVerdict v text (number_of s) → IsOfBytes job.Check left text s
+pub check_text : (left : Option (List ℕ)) (v text : List ℕ) (s : Status) → IfSome left (λ bytes. bytes ≡ v) → length v ≤ limit job.Check → IsVerdict is_name_token v text (number_of s) → IsOfBytes job.Check left text s
 check_text left v text s same within h =
-    if_some (λ bytes. bytes ≡ v) (λ bytes. (length bytes ≤ limit job.Check) × IsVerdict bytes text (number_of s) × (ReadsSource job.Check → ShowsDerivable bytes)) left
-    (λ bs e. subst (λ bytes. (length bytes ≤ limit job.Check) × IsVerdict bytes text (number_of s) × (ReadsSource job.Check → ShowsDerivable bytes)) (sym e) (within, h, λ r. absurd r)) same
+    if_some (λ bytes. bytes ≡ v) (IsKnown job.Check text s) left
+    (λ bs e. subst (IsKnown job.Check text s) (sym e) (within, h, λ r. absurd r, tt)) same
 
 -- Ends of a call.
 
@@ -129,7 +135,7 @@ pub finished : (j : Job) (left rest : Option (List ℕ)) (taken taken' faults la
 finished j left rest taken taken' faults later before after n s text out begins i e h same (inl p) =
     IsCall.of_text s text i e h p.0 (subst (λ t. Appends before t after) same p.1)
 finished j left rest taken taken' faults later before after n s text out begins i e h same (inr p) =
-    IsCall.of_break p.0 (if_some (λ bytes. (length bytes ≤ limit j) × IsText j bytes text (number_of s) × (ReadsSource j → ShowsDerivable bytes))
+    IsCall.of_break p.0 (if_some (IsKnown j text s)
     (λ bytes. (length bytes ≤ limit j) × IsBegun j bytes before after × (ReadsSource j → ShowsDerivable bytes)) left
     (λ bs k. (k.0, begins bs text (number_of s) k.1 (subst (λ t. AppendsPrefix before t after) same p.1), k.2)) h)
 
@@ -161,7 +167,7 @@ export_of : (bs text : List ℕ) (items : List Item) (status n : ℕ) → n ≡ 
     → IsExport bs (encode_utf8_all (file_of items)) n
 export_of bs text items status n same r t =
     subst (λ n. IsExport bs (encode_utf8_all (file_of items)) n) (sym (same ∙ r.ending))
-    (IsExport.of_run r.commands r.done items (encode_utf8_all (file_of items)) r.source r.built r.derivation r.steps t)
+    (IsExport.of_run r.commands r.done items (encode_utf8_all (file_of items)) r.source r.built r.derivation t)
 
 breaks_off : (bs text : List ℕ) (items : List Item) (status : ℕ) (before after : Option (List ℕ)) → IsRun bs text items status → AppendsPrefix before (encode_utf8_all (file_of items)) after → BreaksOff bs before after
 breaks_off bs text items status before after r p = record {
@@ -171,25 +177,29 @@ breaks_off bs text items status before after r p = record {
   source = r.source;
   built = r.built;
   derivation = r.derivation;
-  steps = r.steps;
   front = p;
 }
 
 -- where the derivation is exported, or a beginning of it
-pub exported : (left rest : Option (List ℕ)) (taken taken' faults later : ℕ) (before after : Option (List ℕ)) (n : ℕ) (text : List ℕ) (items : List Item) (e : Ending)
+pub exported : BuiltIsVerdict → GoodAreAccepted → (left rest : Option (List ℕ)) (taken taken' faults later : ℕ) (before after : Option (List ℕ)) (n : ℕ) (text : List ℕ) (items : List Item) (e : Ending)
     → IsAtEnd rest → RanInput job.Export left text items (ending_status e) → WritesFile items (ending_status e) n before after
     → IsCall job.Export left rest taken taken' faults later before after n
-exported left rest taken taken' faults later before after n text items e end h (inl w) =
+exported built good left rest taken taken' faults later before after n text items e end h (inl w) =
     let s = status_of_ending e in
     IsCall.of_text s.0 (encode_utf8_all (file_of items)) s.1 end
     (if_some (λ bytes. (length bytes ≤ limit job.Export) × IsRun bytes text items (ending_status e) × ShowsDerivable bytes)
-    (λ bytes. (length bytes ≤ limit job.Export) × IsExport bytes (encode_utf8_all (file_of items)) (number_of s.0) × (ReadsSource job.Export → ShowsDerivable bytes)) left
-    (λ bs k. (k.0, export_of bs text items (ending_status e) (number_of s.0) s.2 k.1 w.1, λ _. k.2)) h) (w.0 ∙ sym s.2) w.2
-exported left rest taken taken' faults later before after n text items e end h (inr (inl k, p)) =
+    (IsKnown job.Export (encode_utf8_all (file_of items)) s.0) left
+    (λ bs k. (
+      k.0,
+      export_of bs text items (ending_status e) (number_of s.0) s.2 k.1 w.1,
+      λ _. k.2,
+      (counts items, accepted_by_check built good (encode_utf8_all (file_of items)) items w.1 k.1.derivation.good (all_built items k.1.steps)),
+    )) h) (w.0 ∙ sym s.2) w.2
+exported built good left rest taken taken' faults later before after n text items e end h (inr (inl k, p)) =
     IsCall.of_break k (if_some (λ bytes. (length bytes ≤ limit job.Export) × IsRun bytes text items (ending_status e) × ShowsDerivable bytes)
     (λ bytes. (length bytes ≤ limit job.Export) × BreaksOff bytes before after × (ReadsSource job.Export → ShowsDerivable bytes)) left
     (λ bs q. (q.0, breaks_off bs text items (ending_status e) before after q.1 p, λ _. q.2)) h)
-exported left rest taken taken' faults later before after n text items e end h (inr (inr k, p)) =
+exported built good left rest taken taken' faults later before after n text items e end h (inr (inr k, p)) =
     IsCall.of_memory k (inr (if_some (λ bytes. (length bytes ≤ limit job.Export) × IsRun bytes text items (ending_status e) × ShowsDerivable bytes)
     (λ bytes. (length bytes ≤ limit job.Export) × BreaksOff bytes before after) left
     (λ bs q. (q.0, breaks_off bs text items (ending_status e) before after q.1 p)) h))

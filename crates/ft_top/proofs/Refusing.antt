@@ -1,10 +1,10 @@
 -- Calls whose words ask for no job.
 use Rattle.std.proofs.Common.{◌≡◌, ◌∙◌, sym, ℕ, ◌⊎◌, List, Option, arith, inl, inr}
-use Rattle.ft_outside.specs.Outside.{Appends}
-use Rattle.ft_top.specs.declared.status.Status.TheVariants as status
-use Rattle.ft_top.specs.Words.{IsNoJob}
-use Rattle.ft_top.specs.Statuses.{IsStatus, IsReadWhole, Ends, usage_line}
-use Rattle.ft_top.specs.Answer.{IsAnswer, IsBroken}
+use Rattle.ft_streams.specs.Streams.{Appends}
+use Rattle.ft_answers.specs.declared.status.Status.TheVariants as status
+use Rattle.ft_answers.specs.Words.{IsNoJob}
+use Rattle.ft_answers.specs.Statuses.{IsStatus, IsReadWhole, Ends, usage_line}
+use Rattle.ft_answers.specs.Answer.{IsAnswer, IsBroken}
 use Rattle.ft_top.proofs.Numbers.{excluded}
 use Rattle.ft_top.proofs.Calling.{Told}
 

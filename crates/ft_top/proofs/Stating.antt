@@ -5,13 +5,13 @@ use Rattle.ft_theory.specs.Rules.{Rule}
 use Rattle.ft_theory.specs.Steps.{Prim}
 use Rattle.ft_laws.proofs.DerivationLaws.{law_longer_theory_primitive}
 use Rattle.ft_items.specs.Item.{Name, Item, Entry, variable, metavariable, rule, entry, shown}
-use Rattle.ft_items.specs.Store.{Assertion, Declared, Store, Derivable, nth, each, entry_named, metavariable_named, add_variable, add_metavariable, add_rule, add, add_all, empty_store, store_of}
+use Rattle.ft_items.specs.Store.{Assertion, Declared, Store, Derivable, nth, each, entry_named, metavariable_named, add_variable, add_metavariable, add_rule, add, add_all, empty_store, Declarations}
 use Rattle.ft_items.specs.Good.{Good}
 use Rattle.ft_sound.specs.Soundness.{EachEntry, EntriesDerivable}
-use Rattle.ft_applications.specs.Building.{theory}
-use Rattle.ft_applications.specs.Events.{Event, accepts, repeats, shows, run_of}
-use Rattle.ft_applications.specs.Histories.{Told, declares, states, told_rule, told_shown, told_by, told_from, told_in, IsDerivationOf}
-use Rattle.ft_applications.specs.Transcript.{AllDerivable, theses, shown_in}
+use Rattle.ft_applications_meaning.specs.Building.{theory}
+use Rattle.ft_applications_meaning.specs.Events.{Event, accepts, repeats, shows, run_of}
+use Rattle.ft_applications_meaning.specs.Histories.{Told, declares, states, told_rule, told_shown, told_by, told_from, told_in, IsDerivationOf}
+use Rattle.ft_applications_meaning.specs.Transcript.{AllDerivable, theses, shown_in}
 
 -- what an entry that rests on nothing asserts is derivable over the rules
 abbrev Holds : List Rule → Assertion → Type 0
@@ -36,7 +36,7 @@ hold_longer T U [] h = tt
 hold_longer T U (a ∷ as') h = (λ e. law_longer_theory_primitive T U [] [] a.statement (h.0 e), hold_longer T U as' h.1)
 
 -- an entry that is derivable in its sequent
-held : (W : Store) (e : Entry) → Derivable W e.statement e.set → Holds W.rules (record { statement = e.statement; set = e.set })
+held : (W : Declarations) (e : Entry) → Derivable W e.statement e.set → Holds W.rules (record { statement = e.statement; set = e.set })
 held W e d same = subst (λ S. Derivable W e.statement S) same d
 
 -- each entry is derivable over what is before it
@@ -45,10 +45,10 @@ EachAfter W [] = Unit {0}
 EachAfter W (variable v n p ∷ items) = EachAfter (add W (variable v n p)) items
 EachAfter W (metavariable n p ∷ items) = EachAfter (add W (metavariable n p)) items
 EachAfter W (rule n ms p ∷ items) = EachAfter (add W (rule n ms p)) items
-EachAfter W (entry e ∷ items) = Derivable W e.statement e.set × EachAfter (add W (entry e)) items
+EachAfter W (entry e ∷ items) = Derivable W.declarations e.statement e.set × EachAfter (add W (entry e)) items
 EachAfter W (shown p ∷ items) = EachAfter (add W (shown p)) items
 
-each_from : (W : Store) (items : List Item) → ((front after : List Item) (e : Entry) → items ≡ front ++ (entry e ∷ after) → Derivable (add_all W front) e.statement e.set) → EachAfter W items
+each_from : (W : Store) (items : List Item) → ((front after : List Item) (e : Entry) → items ≡ front ++ (entry e ∷ after) → Derivable (add_all W front).declarations e.statement e.set) → EachAfter W items
 each_from W [] h = tt
 each_from W (variable v n p ∷ items) h = each_from (add W (variable v n p)) items (λ front after e k. h (variable v n p ∷ front) after e (ap (λ js. variable v n p ∷ js) k))
 each_from W (metavariable n p ∷ items) h = each_from (add W (metavariable n p)) items (λ front after e k. h (metavariable n p ∷ front) after e (ap (λ js. metavariable n p ∷ js) k))
@@ -78,29 +78,29 @@ shown_stands : (T : List Rule) (o : Option Assertion) → ((a : Assertion) → o
 shown_stands T None h = tt
 shown_stands T (Some a) h = (h a refl, tt)
 
-after_variable : (W : Store) (v : ℕ) (n : Name) (o : Option Assertion) → AllHold W.rules W.entries → AllHold (add_variable W v n o).rules (add_variable W v n o).entries
-after_variable W v n None h = h
-after_variable W v n (Some a) h = h
+after_variable : (W : Declarations) (es : List Assertion) (v : ℕ) (n : Name) (o : Option Assertion) → AllHold W.rules es → AllHold (add_variable W v n o).rules es
+after_variable W es v n None h = h
+after_variable W es v n (Some a) h = h
 
-after_metavariable : (W : Store) (n : Name) (o : Option Assertion) → AllHold W.rules W.entries → AllHold (add_metavariable W n o).rules (add_metavariable W n o).entries
-after_metavariable W n None h = h
-after_metavariable W n (Some a) h = h
+after_metavariable : (W : Declarations) (es : List Assertion) (n : Name) (o : Option Assertion) → AllHold W.rules es → AllHold (add_metavariable W n o).rules es
+after_metavariable W es n None h = h
+after_metavariable W es n (Some a) h = h
 
-after_rule : (W : Store) (n : Name) (os : Option (List (ℕ × Declared))) (o : Option Assertion) → AllHold W.rules W.entries → AllHold (add_rule W n os o).rules (add_rule W n os o).entries
-after_rule W n None o h = h
-after_rule W n (Some ms) None h = h
-after_rule W n (Some ms) (Some a) h = hold_longer W.rules _ W.entries h
+after_rule : (W : Declarations) (es : List Assertion) (n : Name) (os : Option (List (ℕ × Declared))) (o : Option Assertion) → AllHold W.rules es → AllHold (add_rule W n os o).rules es
+after_rule W es n None o h = h
+after_rule W es n (Some ms) None h = h
+after_rule W es n (Some ms) (Some a) h = hold_longer W.rules _ es h
 
-told_stand : (W : Store) (items : List Item) → AllHold W.rules W.entries → EachAfter W items → AllStand (told_from W items)
+told_stand : (W : Store) (items : List Item) → AllHold W.declarations.rules W.entries → EachAfter W items → AllStand (told_from W items)
 told_stand W [] h d = tt
-told_stand W (variable v n p ∷ items) h d = told_stand (add W (variable v n p)) items (after_variable W v n (entry_named W p) h) d
-told_stand W (metavariable n p ∷ items) h d = told_stand (add W (metavariable n p)) items (after_metavariable W n (entry_named W p) h) d
+told_stand W (variable v n p ∷ items) h d = told_stand (add W (variable v n p)) items (after_variable W.declarations W.entries v n (entry_named W p) h) d
+told_stand W (metavariable n p ∷ items) h d = told_stand (add W (metavariable n p)) items (after_metavariable W.declarations W.entries n (entry_named W p) h) d
 told_stand W (rule n ms p ∷ items) h d =
-    stand_append (told_by W (rule n ms p)) (told_from (add W (rule n ms p)) items) (rule_stands n (each (metavariable_named W) ms) (entry_named W p))
-    (told_stand (add W (rule n ms p)) items (after_rule W n (each (metavariable_named W) ms) (entry_named W p) h) d)
-told_stand W (entry e ∷ items) h d = told_stand (add W (entry e)) items (hold_one_more W.rules W.entries _ h (held W e d.0)) d.1
+    stand_append (told_by W (rule n ms p)) (told_from (add W (rule n ms p)) items) (rule_stands n (each (metavariable_named W.declarations) ms) (entry_named W p))
+    (told_stand (add W (rule n ms p)) items (after_rule W.declarations W.entries n (each (metavariable_named W.declarations) ms) (entry_named W p) h) d)
+told_stand W (entry e ∷ items) h d = told_stand (add W (entry e)) items (hold_one_more W.declarations.rules W.entries _ h (held W.declarations e d.0)) d.1
 told_stand W (shown p ∷ items) h d =
-    stand_append (told_by W (shown p)) (told_from (add W (shown p)) items) (shown_stands W.rules (entry_named W p) (λ a e. hold_named W.rules W.entries p a h e))
+    stand_append (told_by W (shown p)) (told_from (add W (shown p)) items) (shown_stands W.declarations.rules (entry_named W p) (λ a e. hold_named W.declarations.rules W.entries p a h e))
     (told_stand (add W (shown p)) items h d)
 
 told_derivable : (es : List Event) → AllStand (told_in es) → AllDerivable (theses es)

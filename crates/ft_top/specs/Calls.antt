@@ -3,20 +3,24 @@ use Rattle.std.specs.Prelude.{ℕ, ◌≡◌, ◌<◌, ◌≤◌, ◌⊎◌, Lis
 use Rattle.std.specs.Str.{encode_utf8_all}
 use Rattle.ft_base.specs.Names.{is_name_token}
 use Rattle.ft_items.specs.Item.{Item}
+use Rattle.ft_items.specs.Good.{Counts, Accepted}
 use Rattle.ft_items.specs.Texts.{IsTextOf, text_of as file_of}
-use Rattle.ft_outside.specs.Outside.{Rose, Appends, AppendsPrefix, IsAtEnd}
-use Rattle.ft_applications.specs.declared.syntax.Command.{Command}
-use Rattle.ft_applications.specs.Events.{Event, events}
-use Rattle.ft_applications.specs.Histories.{IsDerivationOf, AllOfApplications}
-use Rattle.ft_applications.specs.Transcript.{IsPlainSource, AllDerivable, shown_in, text_of, status_of, not_yet_line}
-use Rattle.ft_top.specs.declared.words.Job.{Job}
-use Rattle.ft_top.specs.declared.words.Job.TheVariants as job
-use Rattle.ft_top.specs.declared.status.Status.{Status}
-use Rattle.ft_top.specs.declared.status.Status.TheVariants as status
-use Rattle.ft_top.specs.Words.{limit, ReadsSource}
-use Rattle.ft_top.specs.Statuses.{IsOfInput, IsCauseOfReading, IsOverLimit, Ends, read_line, too_long_line, line_for, number_of}
-use Rattle.ft_top.specs.Exports.{BreaksOff}
-use Rattle.ft_top.specs.Answer.{IsText}
+use Rattle.ft_verdicts.specs.Verdicts.{IsVerdict, verdict_line}
+use Rattle.ft_streams.specs.Streams.{Rose, Appends, AppendsPrefix, IsAtEnd}
+use Rattle.ft_applications_meaning.specs.declared.syntax.Command.{Command}
+use Rattle.ft_applications_meaning.specs.Events.{Event, events}
+use Rattle.ft_applications_meaning.specs.Histories.{IsDerivationOf}
+use Rattle.ft_run.specs.Steps.{AllOfApplications}
+use Rattle.ft_applications_meaning.specs.Transcript.{IsPlainSource, AllDerivable, shown_in, text_of, status_of, not_yet_line}
+use Rattle.ft_answers.specs.declared.words.Job.{Job}
+use Rattle.ft_answers.specs.declared.words.Job.TheVariants as job
+use Rattle.ft_answers.specs.declared.status.Status.{Status}
+use Rattle.ft_answers.specs.declared.status.Status.TheVariants as status
+use Rattle.ft_answers.specs.Words.{limit, ReadsSource}
+use Rattle.ft_answers.specs.Statuses.{IsOfInput, IsOverLimit, Ends, read_line, too_long_line, line_for, number_of}
+use Rattle.ft_top.specs.Causes.{IsCauseOfReading}
+use Rattle.ft_answers.specs.Exports.{BreaksOff}
+use Rattle.ft_answers.specs.Answer.{IsText}
 
 -- the bytes are the source of no commands that are built
 abbrev pub IsNotBuilt : List ℕ → Type 0
@@ -48,9 +52,19 @@ abbrev pub IsCause : Job → Option (List ℕ) → Option (List ℕ) → ℕ →
 IsCause j left rest taken taken' faults later status.Syntax = ReadsSource j × IsAtEnd rest × IfSome left (λ bytes. (length bytes ≤ limit j) × IsNotBuilt bytes)
 IsCause j left rest taken taken' faults later s = IsCauseOfReading j left taken taken' faults later s
 
--- what is known of an input that was read whole, with the text and the status for it
+-- `check` accepts the text, where it is exported
+abbrev pub IsAcceptedExport : Job → List ℕ → Type 0
+IsAcceptedExport job.Export text = (c : Counts) × IsVerdict is_name_token text (verdict_line (Accepted c)) 0
+IsAcceptedExport _ text = Unit {0}
+
+-- What is known of the bytes of an input that was read whole, with the text and the status for it: the text is that of the job, what a
+-- source shows is derivable, and `check` accepts an export.
+abbrev pub IsKnown : Job → List ℕ → Status → List ℕ → Type 0
+IsKnown j text s bytes = (length bytes ≤ limit j) × IsText j bytes text (number_of s) × (ReadsSource j → ShowsDerivable bytes) × IsAcceptedExport j text
+
+-- and so where the source tells its bytes
 abbrev pub IsOfBytes : Job → Option (List ℕ) → List ℕ → Status → Type 0
-IsOfBytes j left text s = IfSome left (λ bytes. (length bytes ≤ limit j) × IsText j bytes text (number_of s) × (ReadsSource j → ShowsDerivable bytes))
+IsOfBytes j left text s = IfSome left (IsKnown j text s)
 
 -- a beginning of the text for the bytes was written
 abbrev pub IsBegun : Job → List ℕ → Option (List ℕ) → Option (List ℕ) → Type 0

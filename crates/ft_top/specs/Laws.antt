@@ -3,26 +3,27 @@ use Rattle.std.specs.Prelude.{ℕ, ◌≡◌, List, [], Some}
 use Rattle.ft_base.specs.Names.{is_name_token}
 use Rattle.ft_items.specs.Item.{Item, Entry}
 use Rattle.ft_items.specs.Store.{Derivable}
-use Rattle.ft_items.specs.Good.{Counts, counts, Accepted}
+use Rattle.ft_items.specs.Good.{Counts, counts, Accepted, verdict}
 use Rattle.ft_items.specs.Texts.{IsTextOf}
 use Rattle.ft_sound.specs.Soundness.{EachEntry}
-use Rattle.ft_applications.specs.declared.syntax.Command.{Command}
-use Rattle.ft_applications.specs.Events.{Event, events}
-use Rattle.ft_applications.specs.Transcript.{IsPlainSource, IsTranscript, AllDerivable, shown_in, text_of, status_of}
-use Rattle.ft_applications.specs.Histories.{IsDerivationOf}
-use Rattle.ft_check.specs.Built.{verdict_built}
-use Rattle.ft_top.specs.Verdicts.{IsVerdict, verdict_line}
-use Rattle.ft_top.specs.Exports.{IsExport}
+use Rattle.ft_applications_meaning.specs.declared.syntax.Command.{Command}
+use Rattle.ft_applications_meaning.specs.Events.{Event, events}
+use Rattle.ft_applications_meaning.specs.Transcript.{IsPlainSource, IsTranscript, AllDerivable, shown_in, text_of, status_of}
+use Rattle.ft_applications_meaning.specs.Histories.{IsDerivationOf}
+use Rattle.ft_verdicts.specs.Built.{AllBuilt, verdict_built}
+use Rattle.ft_verdicts.specs.Verdicts.{IsVerdict, verdict_line}
+use Rattle.ft_answers.specs.Exports.{IsExport}
 
--- The bytes are the text of a derivation of these events: each of its entries is derivable, and so is each thesis shown; and
--- `check` accepts it with its counts.
+-- The bytes are the text of a derivation of these events: each of its entries is derivable, and so is each thesis shown. Its verdict
+-- is accepted with its counts, and that is what `check` writes where each of its steps is built.
 pub record IsAccepted (text : List ℕ) (es : List Event) : Type 0 where
   pub items : List Item
   pub written : IsTextOf is_name_token text items
   pub derivation : IsDerivationOf items es
   pub shown : AllDerivable (shown_in es)
   pub derivable : EachEntry (λ W e. Derivable W e.statement e.set) items
-  pub accepted : IsVerdict text (verdict_line (Accepted (counts items))) 0
+  pub accepted : verdict items ≡ Accepted (counts items)
+  pub line : AllBuilt items → IsVerdict is_name_token text (verdict_line (Accepted (counts items))) 0
 
 -- A source whose commands are built has the transcript of its events, and what is exported of it has the same status and is
 -- accepted.
@@ -36,4 +37,4 @@ AcceptedIsDerivable = (items : List Item) (c : Counts) → verdict_built items �
 
 -- A file has at most one verdict.
 abbrev pub OneVerdict : Type 0
-OneVerdict = (bytes line other : List ℕ) (n m : ℕ) → IsVerdict bytes line n → IsVerdict bytes other m → (line ≡ other) × (n ≡ m)
+OneVerdict = (bytes line other : List ℕ) (n m : ℕ) → IsVerdict is_name_token bytes line n → IsVerdict is_name_token bytes other m → (line ≡ other) × (n ≡ m)

@@ -1,7 +1,3 @@
-pub mod Words
-pub mod Statuses
-pub mod Verdicts
-pub mod Exports
-pub mod Answer
+pub mod Causes
 pub mod Calls
 pub mod Laws

@@ -8,27 +8,27 @@ ghost use Rattle.ft_items.specs.Good.{Reject, Counts, Accepted, Rejected};
 ghost use Rattle.ft_items.specs.Texts.{IsTextOf};
 ghost use Rattle.ft_items.specs.Faults.{Fault, HasFault};
 ghost use Rattle.ft_sound.specs.Soundness.{EachEntry};
-ghost use Rattle.ft_outside.specs.Outside.{Rose, Appends, IsAtEnd};
-ghost use Rattle.ft_applications.specs.Events.{Event, events};
-ghost use Rattle.ft_applications.specs.Transcript.{IsPlainSource, AllDerivable, shown_in};
-ghost use Rattle.ft_applications.specs.declared.syntax.Command.{Command as Tree};
-ghost use Rattle.ft_check.specs.Built.{verdict_built};
-ghost use Rattle.ft_top.specs.declared.words.Job.{Job as Asked};
-ghost use Rattle.ft_top.specs.declared.words.Job.TheVariants as asked;
-ghost use Rattle.ft_top.specs.Words.{IsAsked, IsNoJob, ReadsSource, limit};
-ghost use Rattle.ft_top.specs.Verdicts.{IsVerdict, verdict_line};
-ghost use Rattle.ft_top.specs.Exports.{IsExport, BreaksOff};
-ghost use Rattle.ft_top.specs.Statuses.{IsStatus, IsReadWhole, IsOverLimit, Ends, HasNoFault, usage_line, read_line};
-ghost use Rattle.ft_top.specs.Answer.{IsText, IsAnswer, IsBroken};
+ghost use Rattle.ft_streams.specs.Streams.{Rose, Appends, IsAtEnd};
+ghost use Rattle.ft_applications_meaning.specs.Events.{Event, events};
+ghost use Rattle.ft_applications_meaning.specs.Transcript.{IsPlainSource, AllDerivable, shown_in};
+ghost use Rattle.ft_applications_meaning.specs.declared.syntax.Command.{Command as Tree};
+ghost use Rattle.ft_verdicts.specs.Built.{verdict_built};
+ghost use Rattle.ft_answers.specs.declared.words.Job.{Job as Asked};
+ghost use Rattle.ft_answers.specs.declared.words.Job.TheVariants as asked;
+ghost use Rattle.ft_answers.specs.Words.{IsAsked, IsNoJob, ReadsSource, limit};
+ghost use Rattle.ft_verdicts.specs.Verdicts.{IsVerdict, verdict_line};
+ghost use Rattle.ft_answers.specs.Exports.{IsExport, BreaksOff};
+ghost use Rattle.ft_answers.specs.Statuses.{IsStatus, IsReadWhole, IsOverLimit, Ends, HasNoFault, usage_line, read_line};
+ghost use Rattle.ft_answers.specs.Answer.{IsText, IsAnswer, IsBroken};
 ghost use Rattle.ft_top.specs.Calls.{IsCall};
 
 use crate::checking::check;
 use crate::exporting::export;
-use crate::laws::{accepted_is_derivable, headline};
+use crate::laws::accepted_is_derivable;
 use crate::running::run;
-use crate::status::Status;
-use crate::words::{Job, job_of};
+use crate::words::job_of;
 use crate::writing::stop;
+use ft_answers::{Job, Status};
 use ft_outside::{Sink, Source};
 use std::alloc::Global;
 
@@ -83,7 +83,7 @@ pub fn top<I: Source, O: Sink>(alloc: Global, words: &[String], input: &mut I, o
 
     // What was exported is a derivation that `check` accepts.
     ensures exported { (result ≡ 0) ⊎ (result ≡ 9) → IsAsked (map string_bytes words.now) asked.Export → (bytes : List ℕ) → I.left input.old ≡ Some bytes
-        → (text : List ℕ) × (IsExport bytes text result × Appends (O.written output.old) text (O.written output.new) × ((c : Counts) × IsVerdict text (verdict_line (Accepted c)) 0)) }
+        → (text : List ℕ) × (IsExport bytes text result × Appends (O.written output.old) text (O.written output.new) × ((c : Counts) × IsVerdict is_name_token text (verdict_line (Accepted c)) 0)) }
 
     // What a verdict tells of the file.
     ensures accepted { result ≡ 0 → IsAsked (map string_bytes words.now) asked.Check → (bytes : List ℕ) → I.left input.old ≡ Some bytes
@@ -92,7 +92,6 @@ pub fn top<I: Source, O: Sink>(alloc: Global, words: &[String], input: &mut I, o
         → (items : List Item) × ((k : ℕ) × ((why : Reject) × (IsTextOf is_name_token bytes items × (verdict_built items ≡ Rejected k why)))) }
     ensures filed { result ≡ 16 → (bytes : List ℕ) → I.left input.old ≡ Some bytes → (fault : Fault) × HasFault is_name_token bytes fault }
 {
-    headline();
     accepted_is_derivable();
     match job_of(words) {
         Some(job) => answer(alloc, job, input, output),

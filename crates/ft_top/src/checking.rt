@@ -1,19 +1,19 @@
 //! The job `check`.
 
 ghost use Rattle.std.specs.Prelude.{◌≡◌, List, ℕ, IfOk, OnOk, IfErr};
-ghost use Rattle.ft_outside.specs.Outside.{Rose, IsAtEnd};
-ghost use Rattle.ft_top.specs.declared.words.Job.TheVariants as asked;
+ghost use Rattle.ft_streams.specs.Streams.{Rose, IsAtEnd};
+ghost use Rattle.ft_answers.specs.declared.words.Job.TheVariants as asked;
 ghost use Rattle.ft_base.specs.Names.{is_name_token};
 ghost use Rattle.ft_items.specs.Texts.{IsTextOf};
-ghost use Rattle.ft_top.specs.Verdicts.{IsVerdict};
-ghost use Rattle.ft_top.specs.Statuses.{IsOfInput, number_of};
+ghost use Rattle.ft_verdicts.specs.Verdicts.{IsVerdict};
+ghost use Rattle.ft_answers.specs.Statuses.{IsOfInput, number_of};
 ghost use Rattle.ft_top.specs.Calls.{IsCause, IsOfBytes, IsCall};
 
 use crate::reading::read_input;
-use crate::status::Status;
+use crate::statuses::of_memory;
 use crate::verdicts::{fault_text, status_for, verdict_text};
-use crate::words::Job;
 use crate::writing::{Written, finish, stop};
+use ft_answers::{Job, Status};
 use ft_base::Memory;
 use ft_check::check_items;
 use ft_outside::{Sink, Source};
@@ -24,7 +24,7 @@ use std::alloc::Global;
 // The verdict on the items of a file.
 #[tactic(auto, using(crate::proofs::Filing::items_text))]
 fn judge_items(alloc: Global, items: &StatedItems) -> Result<Written, Memory>
-    ensures text { (bytes : List ℕ) → IsTextOf is_name_token bytes items.now.items → IfOk result (λ w. IsVerdict bytes w.text (number_of w.status)) }
+    ensures text { (bytes : List ℕ) → IsTextOf is_name_token bytes items.now.items → IfOk result (λ w. IsVerdict is_name_token bytes w.text (number_of w.status)) }
     ensures status { IfOk result (λ w. IsOfInput asked.Check w.status) }
 {
     let verdict = check_items(alloc, items)?;
@@ -37,7 +37,7 @@ fn judge_items(alloc: Global, items: &StatedItems) -> Result<Written, Memory>
 // The verdict on the file of the bytes, or its fault.
 #[tactic(auto, using(crate::proofs::Filing::form_text, crate::proofs::Filing::version_text))]
 fn judge(alloc: Global, bytes: &[u8]) -> Result<Written, Memory>
-    ensures text { IfOk result (λ w. IsVerdict bytes.now w.text (number_of w.status)) }
+    ensures text { IfOk result (λ w. IsVerdict is_name_token bytes.now w.text (number_of w.status)) }
     ensures status { IfOk result (λ w. IsOfInput asked.Check w.status) }
 {
     match read_items(alloc, bytes) {
@@ -62,7 +62,7 @@ fn verdict<I: Source>(alloc: Global, input: &mut I) -> Result<Written, Status>
     ensures cause { IfErr result (λ s. IsCause asked.Check (I.left input.old) (I.left input.new) (I.taken input.old) (I.taken input.new) (I.faults input.old) (I.faults input.new) s) }
 {
     let bytes = read_input(alloc, Job::Check, input)?;
-    Ok(judge(alloc, &bytes)?)
+    judge(alloc, &bytes).map_err(of_memory)
 }
 
 /// Reads a derivation file and writes the verdict on it. The answer is the number of a status.

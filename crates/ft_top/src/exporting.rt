@@ -3,18 +3,20 @@
 ghost use Rattle.std.specs.Prelude.{◌≡◌, ◌⊎◌, encode_utf8_all};
 ghost use Rattle.ft_base.specs.Names.{is_name_token};
 ghost use Rattle.ft_items.specs.Texts.{IsTextOf, text_of as file_of};
-ghost use Rattle.ft_outside.specs.Outside.{Rose, Appends, AppendsPrefix};
+ghost use Rattle.ft_streams.specs.Streams.{Rose, Appends, AppendsPrefix};
 ghost use Rattle.ft_run.specs.Running.{ending_status};
-ghost use Rattle.ft_top.specs.declared.words.Job.TheVariants as asked;
-ghost use Rattle.ft_top.specs.Statuses.{number_of};
+ghost use Rattle.ft_answers.specs.declared.words.Job.TheVariants as asked;
+ghost use Rattle.ft_answers.specs.Statuses.{number_of};
 ghost use Rattle.ft_top.specs.Calls.{IsCall, WritesFile};
 
+use crate::laws::built_verdict;
 use crate::running::{run_input, status_for};
-use crate::status::Status;
-use crate::words::Job;
+use crate::statuses::number;
+use ft_answers::{Job, Status};
 use ft_export::{WriteErr, write_derivation};
 use ft_outside::{Sink, Source};
 use ft_run::Run;
+use ft_sound::verdict_is_exact;
 use std::alloc::Global;
 
 // Writes the derivation of a run, and answers the status of the run; or why it was not written whole.
@@ -23,9 +25,9 @@ fn write_run<O: Sink>(alloc: Global, run: &Run, output: &mut O) -> u8
     ensures rose { result ≡ 4 → Rose (O.faults output.old) (O.faults output.new) }
 {
     match write_derivation(alloc, run.session.kernel(), output) {
-        Ok(()) => status_for(run.ending).number(),
-        Err(WriteErr::Fault) => Status::WriteFault.number(),
-        Err(WriteErr::Memory) => Status::Memory.number(),
+        Ok(()) => number(status_for(run.ending)),
+        Err(WriteErr::Fault) => number(Status::WriteFault),
+        Err(WriteErr::Memory) => number(Status::Memory),
     }
 }
 
@@ -34,8 +36,10 @@ pub(crate) fn export<I: Source, O: Sink>(alloc: Global, input: &mut I, output: &
     ensures called { IsCall asked.Export (I.left input.old) (I.left input.new) (I.taken input.old) (I.taken input.new) (I.faults input.old) (I.faults input.new) (O.written output.old) (O.written output.new) result }
     ensures rose { result ≡ 4 → Rose (O.faults output.old) (O.faults output.new) }
 {
+    built_verdict();
+    verdict_is_exact();
     match run_input(alloc, Job::Export, input) {
         Ok(ran) => write_run(alloc, &ran.run, output),
-        Err(status) => status.number(),
+        Err(status) => number(status),
     }
 }

@@ -1,6 +1,6 @@
 //! Laws of transcripts, derivations and verdicts.
 
-ghost use Rattle.ft_check.specs.Built.{BuiltIsVerdict};
+ghost use Rattle.ft_verdicts.specs.Built.{BuiltIsVerdict};
 ghost use Rattle.ft_top.specs.Laws.{Headline, AcceptedIsDerivable, OneVerdict};
 
 use ft_applications::at_most_one_tree;

@@ -7,12 +7,10 @@ mod exporting;
 mod laws;
 mod reading;
 mod running;
-mod status;
+mod statuses;
 mod verdicts;
 mod words;
 mod writing;
 
 pub use call::top;
 pub use laws::{accepted_is_derivable, built_verdict, headline, one_verdict};
-pub use status::Status;
-pub use words::Job;

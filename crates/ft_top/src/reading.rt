@@ -1,12 +1,13 @@
 //! The input of a job.
 
 ghost use Rattle.std.specs.Prelude.{◌≡◌, ◌≤◌, length, IfOk, OnOk, IfErr, IfSome};
-ghost use Rattle.ft_outside.specs.Outside.{IsAtEnd};
-ghost use Rattle.ft_top.specs.Words.{limit};
-ghost use Rattle.ft_top.specs.Statuses.{IsCauseOfReading};
+ghost use Rattle.ft_streams.specs.Streams.{IsAtEnd};
+ghost use Rattle.ft_answers.specs.Words.{limit};
+ghost use Rattle.ft_top.specs.Causes.{IsCauseOfReading};
 
-use crate::status::Status;
-use crate::words::Job;
+use crate::statuses::of_reading;
+use crate::words::most_bytes;
+use ft_answers::{Job, Status};
 use ft_outside::{Source, read_source};
 use std::alloc::Global;
 
@@ -21,5 +22,5 @@ pub(crate) fn read_input<I: Source>(
     ensures end { OnOk result (IsAtEnd (I.left input.new)) }
     ensures cause { IfErr result (λ s. IsCauseOfReading job (I.left input.old) (I.taken input.old) (I.taken input.new) (I.faults input.old) (I.faults input.new) s) }
 {
-    Ok(read_source(alloc, input, job.limit())?)
+    read_source(alloc, input, most_bytes(job)).map_err(of_reading)
 }

@@ -1,18 +1,18 @@
 //! The run of a source, and the job `run`.
 
 ghost use Rattle.std.specs.Prelude.{◌≡◌, ◌≤◌, List, length, IfOk, OnOk, IfErr, IsErrOf, IfSome};
-ghost use Rattle.ft_outside.specs.Outside.{Rose, IsAtEnd};
+ghost use Rattle.ft_streams.specs.Streams.{Rose, IsAtEnd};
 ghost use Rattle.ft_applications.specs.declared.fault.Fault.TheVariants as fault;
 ghost use Rattle.ft_run.specs.Running.{ending_status};
-ghost use Rattle.ft_top.specs.declared.words.Job.TheVariants as asked;
-ghost use Rattle.ft_top.specs.Words.{limit, ReadsSource};
-ghost use Rattle.ft_top.specs.Statuses.{IsOfInput, number_of};
+ghost use Rattle.ft_answers.specs.declared.words.Job.TheVariants as asked;
+ghost use Rattle.ft_answers.specs.Words.{limit, ReadsSource};
+ghost use Rattle.ft_answers.specs.Statuses.{IsOfInput, number_of};
 ghost use Rattle.ft_top.specs.Calls.{IsRun, IsNotBuilt, ShowsDerivable, IsCause, IsOfBytes, IsCall};
 
 use crate::reading::read_input;
-use crate::status::Status;
-use crate::words::Job;
+use crate::statuses::of_running;
 use crate::writing::{Written, finish, stop};
+use ft_answers::{Job, Status};
 use ft_applications::{Fault, read_source as read_commands};
 use ft_base::Text;
 use ft_outside::{Sink, Source};
@@ -58,7 +58,7 @@ pub(crate) fn run_input<I: Source>(alloc: Global, job: Job, input: &mut I) -> Re
     ensures cause { IfErr result (λ s. IsCause job (I.left input.old) (I.left input.new) (I.taken input.old) (I.taken input.new) (I.faults input.old) (I.faults input.new) s) }
 {
     let bytes = read_input(alloc, job, input)?;
-    Ok(run_bytes(alloc, &bytes)?)
+    run_bytes(alloc, &bytes).map_err(of_running)
 }
 
 // The transcript of the source that comes in.

@@ -2,14 +2,14 @@
 
 ghost use Rattle.std.specs.Prelude.{◌≡◌, ◌++◌, codes, decimal, OnOk, IfOk};
 ghost use Rattle.ft_items.specs.Good.{Accepted, Rejected};
-ghost use Rattle.ft_applications.specs.Transcript.{line_feed};
+ghost use Rattle.ft_applications_meaning.specs.Transcript.{line_feed};
 ghost use Rattle.ft_check.specs.Rejects.{reason_of};
 ghost use Rattle.ft_check.specs.Verdicts.{verdict_of};
-ghost use Rattle.ft_top.specs.declared.words.Job.TheVariants as asked;
-ghost use Rattle.ft_top.specs.Statuses.{IsOfInput, number_of};
-ghost use Rattle.ft_top.specs.Verdicts.{reason_word, verdict_line, verdict_status};
+ghost use Rattle.ft_answers.specs.declared.words.Job.TheVariants as asked;
+ghost use Rattle.ft_answers.specs.Statuses.{IsOfInput, number_of};
+ghost use Rattle.ft_verdicts.specs.Verdicts.{reason_word, verdict_line, verdict_status};
 
-use crate::status::Status;
+use ft_answers::Status;
 use ft_base::{Memory, Text};
 use ft_check::{Reject, Verdict};
 use std::alloc::Global;

@@ -1,31 +1,19 @@
 //! What the words of a call ask for.
 
 ghost use Rattle.std.specs.Prelude.{◌≡◌, map, string_bytes, IfSome, IfNone};
-ghost use Rattle.ft_top.specs.declared.words.Job.{Job as Asked};
-ghost use Rattle.ft_top.specs.Words.{IsAsked, IsNoJob, limit, word_of};
+ghost use Rattle.ft_answers.specs.declared.words.Job.{Job as Asked};
+ghost use Rattle.ft_answers.specs.Words.{IsAsked, IsNoJob, limit, word_of};
 
+use ft_answers::Job;
 use ft_base::limits::{MAX_DERIVATION_BYTES, MAX_SOURCE_BYTES};
 
-/// What the program is asked for.
-#[derive(Clone, Copy, Debug, PartialEq, Eq)]
-pub enum Job {
-    /// A source is run, and its transcript is written.
-    Run,
-    /// A source is run, and the derivation of what was done is written.
-    Export,
-    /// A derivation file is read, and the verdict on it is written.
-    Check,
-}
-
-impl Job {
-    /// The most bytes that are read.
-    pub(crate) fn limit(self) -> usize
-        ensures { result ≡ limit self }
-    {
-        match self {
-            Job::Run | Job::Export => MAX_SOURCE_BYTES as usize,
-            Job::Check => MAX_DERIVATION_BYTES as usize,
-        }
+/// The most bytes that the job reads.
+pub(crate) fn most_bytes(job: Job) -> usize
+    ensures { result ≡ limit job }
+{
+    match job {
+        Job::Run | Job::Export => MAX_SOURCE_BYTES as usize,
+        Job::Check => MAX_DERIVATION_BYTES as usize,
     }
 }
 

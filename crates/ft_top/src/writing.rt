@@ -1,10 +1,11 @@
 //! Texts that are written, and the ends of a call.
 
 ghost use Rattle.std.specs.Prelude.{◌≡◌, ◌⊎◌};
-ghost use Rattle.ft_outside.specs.Outside.{Rose};
-ghost use Rattle.ft_top.specs.Statuses.{Ends, line_of, number_of};
+ghost use Rattle.ft_streams.specs.Streams.{Rose};
+ghost use Rattle.ft_answers.specs.Statuses.{Ends, line_of, number_of};
 
-use crate::status::Status;
+use crate::statuses::{line, number};
+use ft_answers::Status;
 use ft_base::Text;
 use ft_outside::{Failed, Sink, write_all};
 
@@ -22,8 +23,8 @@ pub(crate) fn finish<O: Sink>(output: &mut O, text: &[u8], status: Status) -> u8
     ensures rose { result ≡ 4 → Rose (O.faults output.old) (O.faults output.new) }
 {
     match write_all(output, text) {
-        Ok(()) => status.number(),
-        Err(Failed) => Status::WriteFault.number(),
+        Ok(()) => number(status),
+        Err(Failed) => number(Status::WriteFault),
     }
 }
 
@@ -36,7 +37,7 @@ pub(crate) fn stop<O: Sink>(output: &mut O, status: Status) -> u8
     ensures same { result ≡ 17 → O.written output.new ≡ O.written output.old }
 {
     match status {
-        Status::Memory => status.number(),
-        _ => finish(output, status.line(), status),
+        Status::Memory => number(status),
+        _ => finish(output, line(status), status),
     }
 }

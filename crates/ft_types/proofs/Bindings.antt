@@ -7,7 +7,7 @@ use Rattle.ft_grammar.specs.declared.syntax.Pattern.{Pattern as AnyPattern}
 use Rattle.ft_grammar.specs.declared.syntax.Pattern.TheVariants as any
 use Rattle.ft_meaning.proofs.Written.{pattern_Symbol}
 use Rattle.ft_meaning.specs.Trees.{ValueType, judgement, boundary, unit, bool, pair, list, option, Pattern, cons_pattern, some_pattern, none_pattern, nil_pattern, pair_pattern, symbol_pattern, pattern, patterns}
-use Rattle.ft_meaning.specs.Typing.{Scope, Bindings, bindings, all_bindings, Unbound, fault_at, meant_by, ensure_arity, pattern_count, wanted}
+use Rattle.ft_meaning.specs.Typing.{Scope, Bindings, bindings, all_bindings, Unbound, fault_at, meant_by, ensure_arity, pattern_count, ensure_type}
 use Rattle.ft_types.specs.declared.fault.TypeWhy.TheVariants as why
 use Rattle.ft_types.specs.declared.fault.TypeFault.{TypeFault as AnyFault}
 use Rattle.ft_types.specs.declared.types.KnownType.{KnownType}
@@ -73,15 +73,15 @@ assoc {C = C} {E = E} (Ok a) f g r = go (f a) (g a)
 assoc (Err e) f g r = refl
 
 bindings_symbol : (at : ℕ) (n : Named) (ps : List AnyPattern) (s : Scope) (A : ValueType) (bs : Bindings)
-    → bindings (symbol_pattern at n (patterns (map pattern ps))) s A bs ≡ (wanted at judgement A >> (symbol_wanted n (length ps) s >> all_bindings (patterns (map pattern ps)) s bs))
+    → bindings (symbol_pattern at n (patterns (map pattern ps))) s A bs ≡ (ensure_type at judgement A >> (symbol_wanted n (length ps) s >> all_bindings (patterns (map pattern ps)) s bs))
 unfolding symbol_wanted
 bindings_symbol at n ps s A bs =
-    ap (λ r. wanted at judgement A >> r)
+    ap (λ r. ensure_type at judgement A >> r)
     (assoc (meant_by s.rules n) (λ r. ensure r.is_symbol (fault_at n.at (Unbound n.name))) (λ r. ensure_arity n r.premises (pattern_count (patterns (map pattern ps)))) (all_bindings (patterns (map pattern ps)) s bs)
     ∙ ap (λ k. symbol_wanted n k s >> all_bindings (patterns (map pattern ps)) s bs) (count_patterns ps))
 
 pub symbol_fails : (p : AnyPattern) (at : ℕ) (n : Named) (ps : List AnyPattern) (k : ℕ) (s : Scope) (A : ValueType) (bs : Bindings) (e : AnyFault) → p ≡ any.Symbol at n ps
-    → wanted at judgement A ≡ Ok tt → k ≡ length ps → (e.why ≢ why.Memory → symbol_wanted n k s ≡ Err (fault_of e)) → e.why ≢ why.Memory → bindings (pattern p) s A bs ≡ Err (fault_of e)
+    → ensure_type at judgement A ≡ Ok tt → k ≡ length ps → (e.why ≢ why.Memory → symbol_wanted n k s ≡ Err (fault_of e)) → e.why ≢ why.Memory → bindings (pattern p) s A bs ≡ Err (fault_of e)
 symbol_fails p at n ps k s A bs e is w same g told =
     let h = g told in
     ap (λ q. bindings q s A bs) (ap pattern is ∙ pattern_Symbol at n ps)
@@ -89,7 +89,7 @@ symbol_fails p at n ps k s A bs e is w same g told =
     ∙ ap (λ r. r >> all_bindings (patterns (map pattern ps)) s bs) (ap (λ m. symbol_wanted n m s) (sym same) ∙ h)
 
 pub symbol_goes : (p : AnyPattern) (at : ℕ) (n : Named) (ps : List AnyPattern) (k : ℕ) (s : Scope) (A : ValueType) (bs : Bindings) → p ≡ any.Symbol at n ps
-    → wanted at judgement A ≡ Ok tt → k ≡ length ps → symbol_wanted n k s ≡ Ok tt → bindings (pattern p) s A bs ≡ all_bindings (patterns (map pattern ps)) s bs
+    → ensure_type at judgement A ≡ Ok tt → k ≡ length ps → symbol_wanted n k s ≡ Ok tt → bindings (pattern p) s A bs ≡ all_bindings (patterns (map pattern ps)) s bs
 symbol_goes p at n ps k s A bs is w same h =
     ap (λ q. bindings q s A bs) (ap pattern is ∙ pattern_Symbol at n ps)
     ∙ bindings_symbol at n ps s A bs ∙ ap (λ r. r >> (symbol_wanted n (length ps) s >> all_bindings (patterns (map pattern ps)) s bs)) w

@@ -6,7 +6,7 @@ use Rattle.ft_items.specs.Item.{Name}
 use Rattle.ft_grammar.specs.declared.syntax.Case.{Case}
 use Rattle.ft_grammar.specs.declared.syntax.OpCase.{OpCase}
 use Rattle.ft_meaning.specs.Trees.{ValueType, place, pattern, form, cases, handlers, and_case, and_handler}
-use Rattle.ft_meaning.specs.Typing.{TypeFault, Scope, type_of, type_of_cases, cases_have, handlers_have, case_scope, wanted, meant_by, ensure_new, with_value}
+use Rattle.ft_meaning.specs.Typing.{TypeFault, Scope, type_of, type_of_cases, ensure_cases, ensure_handlers, case_scope, ensure_type, meant_by, ensure_new, with_value}
 use Rattle.ft_meaning.proofs.Written.{case, handler, case_parts, handler_parts}
 use Rattle.ft_types.specs.declared.fault.TypeWhy.TheVariants as why
 use Rattle.ft_types.specs.declared.fault.TypeFault.{TypeFault as AnyFault}
@@ -28,32 +28,32 @@ stops (Err f) g k e h = let same : f ≡ e = cc in ap (λ x. Err x) same
 -- ---- cases of a match
 
 pub first_case : (c : Case) (cs : List Case) (A B : ValueType) (s : Scope) → type_of_case (pattern c.pattern) (form c.body) A s ≡ Ok B
-    → type_of_cases (cases (map case (c ∷ cs))) A s ≡ (cases_have (cases (map case cs)) A B s >> Ok B)
+    → type_of_cases (cases (map case (c ∷ cs))) A s ≡ (ensure_cases (cases (map case cs)) A B s >> Ok B)
 unfolding type_of_case
 first_case c cs A B s h =
     ap (λ q. type_of_cases (and_case q.0 q.1 (cases (map case cs))) A s) (case_parts c)
-    ∙ goes_on (case_scope (pattern c.pattern) A s) (type_of (form c.body)) (λ B. cases_have (cases (map case cs)) A B s >> Ok B) B h
+    ∙ goes_on (case_scope (pattern c.pattern) A s) (type_of (form c.body)) (λ B. ensure_cases (cases (map case cs)) A B s >> Ok B) B h
 
 pub first_case_fails : (c : Case) (cs : List Case) (A : ValueType) (s : Scope) (e : AnyFault) → (e.why ≢ why.Memory → type_of_case (pattern c.pattern) (form c.body) A s ≡ Err (fault_of e))
     → e.why ≢ why.Memory → type_of_cases (cases (map case (c ∷ cs))) A s ≡ Err (fault_of e)
 unfolding type_of_case
 first_case_fails c cs A s e g told =
     ap (λ q. type_of_cases (and_case q.0 q.1 (cases (map case cs))) A s) (case_parts c)
-    ∙ stops (case_scope (pattern c.pattern) A s) (type_of (form c.body)) (λ B. cases_have (cases (map case cs)) A B s >> Ok B) (fault_of e) (g told)
+    ∙ stops (case_scope (pattern c.pattern) A s) (type_of (form c.body)) (λ B. ensure_cases (cases (map case cs)) A B s >> Ok B) (fault_of e) (g told)
 
 pub next_case : (c : Case) (cs : List Case) (A B C : ValueType) (s : Scope) → type_of_case (pattern c.pattern) (form c.body) A s ≡ Ok C
-    → cases_have (cases (map case (c ∷ cs))) A B s ≡ (wanted (place (form c.body)) B C >> cases_have (cases (map case cs)) A B s)
+    → ensure_cases (cases (map case (c ∷ cs))) A B s ≡ (ensure_type (place (form c.body)) B C >> ensure_cases (cases (map case cs)) A B s)
 unfolding type_of_case
 next_case c cs A B C s h =
-    ap (λ q. cases_have (and_case q.0 q.1 (cases (map case cs))) A B s) (case_parts c)
-    ∙ goes_on (case_scope (pattern c.pattern) A s) (type_of (form c.body)) (λ C. wanted (place (form c.body)) B C >> cases_have (cases (map case cs)) A B s) C h
+    ap (λ q. ensure_cases (and_case q.0 q.1 (cases (map case cs))) A B s) (case_parts c)
+    ∙ goes_on (case_scope (pattern c.pattern) A s) (type_of (form c.body)) (λ C. ensure_type (place (form c.body)) B C >> ensure_cases (cases (map case cs)) A B s) C h
 
 pub next_case_fails : (c : Case) (cs : List Case) (A B : ValueType) (s : Scope) (e : AnyFault) → (e.why ≢ why.Memory → type_of_case (pattern c.pattern) (form c.body) A s ≡ Err (fault_of e))
-    → e.why ≢ why.Memory → cases_have (cases (map case (c ∷ cs))) A B s ≡ Err (fault_of e)
+    → e.why ≢ why.Memory → ensure_cases (cases (map case (c ∷ cs))) A B s ≡ Err (fault_of e)
 unfolding type_of_case
 next_case_fails c cs A B s e g told =
-    ap (λ q. cases_have (and_case q.0 q.1 (cases (map case cs))) A B s) (case_parts c)
-    ∙ stops (case_scope (pattern c.pattern) A s) (type_of (form c.body)) (λ C. wanted (place (form c.body)) B C >> cases_have (cases (map case cs)) A B s) (fault_of e) (g told)
+    ap (λ q. ensure_cases (and_case q.0 q.1 (cases (map case cs))) A B s) (case_parts c)
+    ∙ stops (case_scope (pattern c.pattern) A s) (type_of (form c.body)) (λ C. ensure_type (place (form c.body)) B C >> ensure_cases (cases (map case cs)) A B s) (fault_of e) (g told)
 
 -- ---- cases for operations
 
@@ -79,18 +79,18 @@ refuses (Err f) n g w r e h = let same : f ≡ e = cc in ap (λ x. Err x) same
 
 pub next_handler : (h : OpCase) (hs : List OpCase) (before : List Name) (B : ValueType) (s : Scope)
     → handler_has h.operation h.argument (form h.body) before B s ≡ Ok tt
-    → handlers_have (handlers (map handler (h ∷ hs))) before B s ≡ handlers_have (handlers (map handler hs)) (h.operation.name ∷ before) B s
+    → ensure_handlers (handlers (map handler (h ∷ hs))) before B s ≡ ensure_handlers (handlers (map handler hs)) (h.operation.name ∷ before) B s
 unfolding handler_has
 next_handler h hs before B s k =
-    ap (λ q. handlers_have (and_handler q.0 q.1 q.2 (handlers (map handler hs))) before B s) (handler_parts h)
-    ∙ passes (meant_by s.operations h.operation) (ensure_new h.operation before) (λ p. type_of (form h.body) (with_value h.argument.name p.0 s)) (wanted (place (form h.body)) B) (handlers_have (handlers (map handler hs)) (h.operation.name ∷ before) B s) k
+    ap (λ q. ensure_handlers (and_handler q.0 q.1 q.2 (handlers (map handler hs))) before B s) (handler_parts h)
+    ∙ passes (meant_by s.operations h.operation) (ensure_new h.operation before) (λ p. type_of (form h.body) (with_value h.argument.name p.0 s)) (ensure_type (place (form h.body)) B) (ensure_handlers (handlers (map handler hs)) (h.operation.name ∷ before) B s) k
 
 pub handler_fails : (h : OpCase) (hs : List OpCase) (before : List Name) (B : ValueType) (s : Scope) (e : AnyFault)
-    → (e.why ≢ why.Memory → handler_has h.operation h.argument (form h.body) before B s ≡ Err (fault_of e)) → e.why ≢ why.Memory → handlers_have (handlers (map handler (h ∷ hs))) before B s ≡ Err (fault_of e)
+    → (e.why ≢ why.Memory → handler_has h.operation h.argument (form h.body) before B s ≡ Err (fault_of e)) → e.why ≢ why.Memory → ensure_handlers (handlers (map handler (h ∷ hs))) before B s ≡ Err (fault_of e)
 unfolding handler_has
 handler_fails h hs before B s e k told =
-    ap (λ q. handlers_have (and_handler q.0 q.1 q.2 (handlers (map handler hs))) before B s) (handler_parts h)
-    ∙ refuses (meant_by s.operations h.operation) (ensure_new h.operation before) (λ p. type_of (form h.body) (with_value h.argument.name p.0 s)) (wanted (place (form h.body)) B) (handlers_have (handlers (map handler hs)) (h.operation.name ∷ before) B s) (fault_of e) (k told)
+    ap (λ q. ensure_handlers (and_handler q.0 q.1 q.2 (handlers (map handler hs))) before B s) (handler_parts h)
+    ∙ refuses (meant_by s.operations h.operation) (ensure_new h.operation before) (λ p. type_of (form h.body) (with_value h.argument.name p.0 s)) (ensure_type (place (form h.body)) B) (ensure_handlers (handlers (map handler hs)) (h.operation.name ∷ before) B s) (fault_of e) (k told)
 
 -- ---- the item at a place
 
@@ -109,20 +109,20 @@ pub first_at : (cs : List Case) (c : Case) (A : ValueType) (s : Scope) → c ≡
 first_at cs c A s is l = ap (λ xs. type_of_cases (cases (map case xs)) A s) (item_at cs 0 c is l)
 
 pub case_at : (cs : List Case) (i : ℕ) (c : Case) (A B : ValueType) (s : Scope) → c ≡ get_or cs i c → i < length cs
-    → cases_have (cases (map case (drop i cs))) A B s ≡ cases_have (cases (map case (c ∷ drop (i + 1) cs))) A B s
-case_at cs i c A B s is l = ap (λ xs. cases_have (cases (map case xs)) A B s) (item_at cs i c is l)
+    → ensure_cases (cases (map case (drop i cs))) A B s ≡ ensure_cases (cases (map case (c ∷ drop (i + 1) cs))) A B s
+case_at cs i c A B s is l = ap (λ xs. ensure_cases (cases (map case xs)) A B s) (item_at cs i c is l)
 
 pub handler_at : (hs : List OpCase) (i : ℕ) (h : OpCase) (before : List Name) (B : ValueType) (s : Scope) → h ≡ get_or hs i h → i < length hs
-    → handlers_have (handlers (map handler (drop i hs))) before B s ≡ handlers_have (handlers (map handler (h ∷ drop (i + 1) hs))) before B s
-handler_at hs i h before B s is l = ap (λ xs. handlers_have (handlers (map handler xs)) before B s) (item_at hs i h is l)
+    → ensure_handlers (handlers (map handler (drop i hs))) before B s ≡ ensure_handlers (handlers (map handler (h ∷ drop (i + 1) hs))) before B s
+handler_at hs i h before B s is l = ap (λ xs. ensure_handlers (handlers (map handler xs)) before B s) (item_at hs i h is l)
 
 pub handler_same : (h : OpCase) (before : List Name) (A B : ValueType) (s t : Scope) (r : Result (Unit {0}) TypeFault) → B ≡ A → t ≡ s
     → handler_has h.operation h.argument (form h.body) before B t ≡ r → handler_has h.operation h.argument (form h.body) before A s ≡ r
 handler_same h before A B s t r a b k = sym (ap (λ X. handler_has h.operation h.argument (form h.body) before X t) a ∙ ap (handler_has h.operation h.argument (form h.body) before A) b) ∙ k
 
-pub cases_same : (cs : List Case) (A B C : ValueType) (s t : Scope) (r : Result (Unit {0}) TypeFault) → B ≡ A → t ≡ s → cases_have (cases (map case cs)) B C t ≡ r
-    → cases_have (cases (map case cs)) A C s ≡ r
-cases_same cs A B C s t r a b h = sym (ap (λ X. cases_have (cases (map case cs)) X C t) a ∙ ap (cases_have (cases (map case cs)) A C) b) ∙ h
+pub cases_same : (cs : List Case) (A B C : ValueType) (s t : Scope) (r : Result (Unit {0}) TypeFault) → B ≡ A → t ≡ s → ensure_cases (cases (map case cs)) B C t ≡ r
+    → ensure_cases (cases (map case cs)) A C s ≡ r
+cases_same cs A B C s t r a b h = sym (ap (λ X. ensure_cases (cases (map case cs)) X C t) a ∙ ap (ensure_cases (cases (map case cs)) A C) b) ∙ h
 
 pub finds_ok : (o : Result ValueType TypeFault) (t : KnownType) (v w : Checking) → o ≡ Ok (type_in w.types t) → Below (length w.types) t → w.locals ≡ v.locals → Finds o (Ok t) v w
 finds_ok o t v w is below locals = (is, below, locals)

@@ -3,7 +3,7 @@ use Rattle.std.specs.Prelude.{ℕ, ◌≡◌, ◌≢◌, List, [], ◌∷◌, �
 use Rattle.ft_items.specs.Item.{Name}
 use Rattle.ft_grammar.specs.declared.syntax.Named.{Named}
 use Rattle.ft_meaning.specs.Trees.{Pattern, Form, place, ValueType, value_type}
-use Rattle.ft_meaning.specs.Typing.{Wanted, Exactly, PairOf, ListOf, OptionOf, TypeWhy, Unbound, Twice, Mismatch, Arity, TypeFault, RuleType, Scope, fault_at, meant_by, ensure_arity, ensure_new, wanted, with_value, Bindings, case_scope, type_of}
+use Rattle.ft_meaning.specs.Typing.{Wanted, Exactly, PairOf, ListOf, OptionOf, TypeWhy, Unbound, Twice, Mismatch, Arity, TypeFault, RuleType, Scope, fault_at, meant_by, ensure_arity, ensure_new, ensure_type, with_value, Bindings, case_scope, type_of}
 use Rattle.ft_equality.specs.Results.{ensure, some_or, ◌>>=◌, ◌>>◌}
 use Rattle.ft_types.specs.declared.fault.Wanted.{Wanted as AnyWanted}
 use Rattle.ft_types.specs.declared.fault.Wanted.TheVariants as any
@@ -143,7 +143,7 @@ type_of_case p e A s = case_scope p A s >>= type_of e
 
 -- a case for an operation that none of those before is for has the type
 unfoldable pub handler_has : Named → Named → Form → List Name → ValueType → Scope → Result (Unit {0}) TypeFault
-handler_has o x e before B s = meant_by s.operations o >>= λ p. ensure_new o before >> (type_of e (with_value x.name p.0 s) >>= wanted (place e) B)
+handler_has o x e before B s = meant_by s.operations o >>= λ p. ensure_new o before >> (type_of e (with_value x.name p.0 s) >>= ensure_type (place e) B)
 
 -- the name is a symbol's, and so many are given as it takes
 unfoldable pub symbol_wanted : Named → ℕ → Scope → Result (Unit {0}) TypeFault

@@ -3,7 +3,7 @@
 ghost use Rattle.std.specs.Prelude.{◌≡◌, ◌∷◌, ◌++◌, [], drop, length, IfOk, IfSome, OnOk, OnErr, option_map, is_some, ◌≤◌, ◌-◌};
 ghost use Rattle.ft_meaning.specs.Names.{named};
 ghost use Rattle.ft_meaning.specs.Trees.{value_type};
-ghost use Rattle.ft_meaning.specs.Typing.{Exactly, Unbound, Twice, Mismatch, Arity, fault_at, meant_by, ensure_arity, ensure_new, same_type, with_value, wanted as type_wanted};
+ghost use Rattle.ft_meaning.specs.Typing.{Exactly, Unbound, Twice, Mismatch, Arity, fault_at, meant_by, ensure_arity, ensure_new, same_type, with_value};
 ghost use Rattle.ft_types.specs.Types.{type_in, type_at, Below, FitsBelow};
 ghost use Rattle.ft_types.specs.Names.{listed};
 ghost use Rattle.ft_types.specs.Checking.{scope_of, with_local, with_top, with_rule, with_operation, rule_in, operation_in, renamed, ValuesBelow, wanted_of, Keeps, Says, Gives, Tests, list_wanted, option_wanted, pair_wanted, last_first};
@@ -146,9 +146,9 @@ impl Checker {
     }
 
     /// The type found is the one wanted.
-    pub fn wanted(&self, at: u64, wanted: KnownType, found: KnownType) -> Result<(), TypeFault>
+    pub fn ensure_type(&self, at: u64, wanted: KnownType, found: KnownType) -> Result<(), TypeFault>
         requires { Below (length self.now.types) wanted × Below (length self.now.types) found }
-        ensures { Tests (type_wanted at (type_in self.now.types wanted) (type_in self.now.types found)) result }
+        ensures { Tests (Rattle.ft_meaning.specs.Typing.ensure_type at (type_in self.now.types wanted) (type_in self.now.types found)) result }
     {
         if self.types.are_same(found, wanted) {
             Ok(())
@@ -158,9 +158,9 @@ impl Checker {
     }
 
     /// The type found is `judgement` or `boundary`.
-    pub fn either_wanted(&self, at: u64, found: KnownType) -> Result<(), TypeFault>
+    pub fn ensure_statement(&self, at: u64, found: KnownType) -> Result<(), TypeFault>
         requires { Below (length self.now.types) found }
-        ensures { Tests (Rattle.ft_meaning.specs.Typing.either_wanted at (type_in self.now.types found)) result }
+        ensures { Tests (Rattle.ft_meaning.specs.Typing.ensure_statement at (type_in self.now.types found)) result }
     {
         if self.types.are_same(found, KnownType::Judgement)
             || self.types.are_same(found, KnownType::Boundary)

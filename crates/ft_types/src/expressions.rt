@@ -2,8 +2,8 @@
 
 ghost use Rattle.std.specs.Prelude.{◌≡◌, ◌∷◌, [], length, map, Some, Ok, OnOk};
 ghost use Rattle.ft_meaning.specs.Trees.{form, place, pattern, pair_of, call, congruence, perform, substitution, abstraction, let_in, if_then, match_with, handle_with, cons_of, argument, one, two, none_of, nil_of, forms, cases, handlers, no_value_case, value_case_of, value_type};
-ghost use Rattle.ft_meaning.specs.CommandTyping.{is_judgement};
-ghost use Rattle.ft_meaning.specs.Typing.{with_value, type_of as type_of_form, are_judgements, type_of_cases, cases_have, handlers_have, word_type, first_wanted, word_type_of_two};
+ghost use Rattle.ft_meaning.specs.CommandTyping.{ensure_judgement};
+ghost use Rattle.ft_meaning.specs.Typing.{with_value, type_of as type_of_form, ensure_judgements, type_of_cases, ensure_cases, ensure_handlers, word_type, first_wanted, word_type_of_two};
 ghost use Rattle.ft_meaning.proofs.Written.{case, handler, value};
 ghost use Rattle.ft_types.specs.Types.{type_in, Below};
 ghost use Rattle.ft_types.specs.Checking.{scope_of, Keeps, Finds, Passes, type_of_case, handler_has, last_first};
@@ -43,16 +43,16 @@ impl Checker {
     {
         match word {
             OneForm::Left | OneForm::Right | OneForm::Typeof | OneForm::Domain => {
-                self.either_wanted(at, t)?;
+                self.ensure_statement(at, t)?;
                 Ok(KnownType::Judgement)
             }
             OneForm::Boundaryof => {
-                self.wanted(at, KnownType::Judgement, t)?;
+                self.ensure_type(at, KnownType::Judgement, t)?;
                 Ok(KnownType::Boundary)
             }
             OneForm::SomeWord => Ok(self.of_row(Row::Opt(t))?),
             OneForm::Refl | OneForm::Sym | OneForm::Natural | OneForm::Normal => {
-                self.wanted(at, KnownType::Judgement, t)?;
+                self.ensure_type(at, KnownType::Judgement, t)?;
                 Ok(KnownType::Judgement)
             }
         }
@@ -168,10 +168,10 @@ impl Checker {
     #[tactic(auto, using(crate::proofs::Rules::keeping))]
     pub fn judgement(&mut self, e: &Ast) -> Result<(), TypeFault>
         ensures keeps { Keeps self.old self.new }
-        ensures finds { Passes (is_judgement (form e.now) (scope_of self.old)) result self.old self.new }
+        ensures finds { Passes (ensure_judgement (form e.now) (scope_of self.old)) result self.old self.new }
     {
         let found = self.type_of(e)?;
-        self.wanted(place_of(e), KnownType::Judgement, found)
+        self.ensure_type(place_of(e), KnownType::Judgement, found)
     }
 
     // Each of the expressions is a judgement.
@@ -179,7 +179,7 @@ impl Checker {
     #[tactic(auto, using(crate::proofs::Rules::keeping))]
     fn judgements(&mut self, es: &[Ast]) -> Result<(), TypeFault>
         ensures keeps { Keeps self.old self.new }
-        ensures finds { Passes (are_judgements (forms (map form es.now)) (scope_of self.old)) result self.old self.new }
+        ensures finds { Passes (ensure_judgements (forms (map form es.now)) (scope_of self.old)) result self.old self.new }
     {
         for e in es {
             self.judgement(e)?;
@@ -204,10 +204,10 @@ impl Checker {
         ensures finds { Finds (type_of_form (if_then 0 (form e.now) (form f.now) (form g.now)) (scope_of self.old)) result self.old self.new }
     {
         let test = self.type_of(e)?;
-        self.wanted(place_of(e), KnownType::Bool, test)?;
+        self.ensure_type(place_of(e), KnownType::Bool, test)?;
         let first = self.type_of(f)?;
         let second = self.type_of(g)?;
-        self.wanted(place_of(g), first, second)?;
+        self.ensure_type(place_of(g), first, second)?;
         Ok(first)
     }
 
@@ -262,11 +262,11 @@ impl Checker {
     fn other_cases(&mut self, cs: &[Case], t: KnownType, wanted: KnownType) -> Result<(), TypeFault>
         requires { Below (length self.old.types) t × Below (length self.old.types) wanted }
         ensures keeps { Keeps self.old self.new }
-        ensures finds { Passes (cases_have (cases (map case cs.now)) (type_in self.old.types t) (type_in self.old.types wanted) (scope_of self.old)) result self.old self.new }
+        ensures finds { Passes (ensure_cases (cases (map case cs.now)) (type_in self.old.types t) (type_in self.old.types wanted) (scope_of self.old)) result self.old self.new }
     {
         for c in cs {
             let found = self.case(c, t)?;
-            self.wanted(place_of(c.body.get()), wanted, found)?;
+            self.ensure_type(place_of(c.body.get()), wanted, found)?;
         }
         Ok(())
     }
@@ -300,7 +300,7 @@ impl Checker {
     fn handlers(&mut self, hs: &[OpCase], t: KnownType) -> Result<(), TypeFault>
         requires { Below (length self.old.types) t }
         ensures keeps { Keeps self.old self.new }
-        ensures finds { Passes (handlers_have (handlers (map handler hs.now)) [] (type_in self.old.types t) (scope_of self.old)) result self.old self.new }
+        ensures finds { Passes (ensure_handlers (handlers (map handler hs.now)) [] (type_in self.old.types t) (scope_of self.old)) result self.old self.new }
     {
         let mut seen = Vec::new(self.allocator());
         for h in hs {
@@ -321,7 +321,7 @@ impl Checker {
         let operation = self.operation(&h.operation)?;
         new_name(&h.operation, seen)?;
         let found = self.under(&h.argument, operation.argument, h.body.get())?;
-        self.wanted(place_of(h.body.get()), t, found)
+        self.ensure_type(place_of(h.body.get()), t, found)
     }
 
     #[cycle(typing)]
@@ -331,9 +331,9 @@ impl Checker {
         ensures finds { Finds (type_of_form (abstraction 0 x.now (form e.now) (form f.now)) (scope_of self.old)) result self.old self.new }
     {
         let domain = self.type_of(e)?;
-        self.wanted(place_of(e), KnownType::Judgement, domain)?;
+        self.ensure_type(place_of(e), KnownType::Judgement, domain)?;
         let found = self.under(x, KnownType::Judgement, f)?;
-        self.either_wanted(place_of(f), found)?;
+        self.ensure_statement(place_of(f), found)?;
         Ok(found)
     }
 
@@ -346,7 +346,7 @@ impl Checker {
         let first = self.type_of(e)?;
         let rest = self.type_of(f)?;
         let list = self.of_row(Row::List(first))?;
-        self.wanted(place_of(f), list, rest)?;
+        self.ensure_type(place_of(f), list, rest)?;
         Ok(list)
     }
 
@@ -367,9 +367,9 @@ impl Checker {
         ensures finds { Finds (type_of_form (two 0 word (form e.now) (form f.now)) (scope_of self.old)) result self.old self.new }
     {
         let first = self.type_of(e)?;
-        self.wanted(place_of(e), self.first_wanted(word), first)?;
+        self.ensure_type(place_of(e), self.first_wanted(word), first)?;
         let second = self.type_of(f)?;
-        self.wanted(place_of(f), KnownType::Judgement, second)?;
+        self.ensure_type(place_of(f), KnownType::Judgement, second)?;
         self.word_of_two(word)
     }
 
@@ -392,9 +392,9 @@ impl Checker {
         self.rule(r)?;
         let list = self.of_row(Row::List(KnownType::Judgement))?;
         let first = self.type_of(e)?;
-        self.wanted(place_of(e), list, first)?;
+        self.ensure_type(place_of(e), list, first)?;
         let second = self.type_of(f)?;
-        self.wanted(place_of(f), list, second)?;
+        self.ensure_type(place_of(f), list, second)?;
         Ok(KnownType::Judgement)
     }
 
@@ -406,7 +406,7 @@ impl Checker {
     {
         let operation = self.operation(n)?;
         let found = self.type_of(e)?;
-        self.wanted(place_of(e), operation.argument, found)?;
+        self.ensure_type(place_of(e), operation.argument, found)?;
         Ok(operation.result)
     }
 
@@ -433,7 +433,7 @@ impl Checker {
         ensures finds { Finds (type_of_form (substitution 0 (form e.now) (forms (map form es.now))) (scope_of self.old)) result self.old self.new }
     {
         let t = self.type_of(e)?;
-        self.either_wanted(place_of(e), t)?;
+        self.ensure_statement(place_of(e), t)?;
         self.judgements(es)?;
         Ok(t)
     }

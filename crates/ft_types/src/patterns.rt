@@ -62,14 +62,14 @@ impl Checker {
                 self.bindings(p.get(), part, found)
             }
             Pattern::Symbol(at, n, ps) => {
-                self.wanted(*at, KnownType::Judgement, t)?;
+                self.ensure_type(*at, KnownType::Judgement, t)?;
                 self.symbol(n, ps.len() as u64)?;
                 self.parts_bindings(ps.as_slice(), found)
             }
             Pattern::Name(at, name) => self.bind_name(*at, name, t, found),
             Pattern::Wildcard(_) => Ok(()),
-            Pattern::TrueWord(at) | Pattern::FalseWord(at) => self.wanted(*at, KnownType::Bool, t),
-            Pattern::Unit(at) => self.wanted(*at, KnownType::Unit, t),
+            Pattern::TrueWord(at) | Pattern::FalseWord(at) => self.ensure_type(*at, KnownType::Bool, t),
+            Pattern::Unit(at) => self.ensure_type(*at, KnownType::Unit, t),
             Pattern::NoneWord(at) => {
                 self.option_part(*at, t)?;
                 Ok(())

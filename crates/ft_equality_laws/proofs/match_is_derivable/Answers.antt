@@ -1,4 +1,4 @@
-use Rattle.ft_equality_laws.proofs.Stores as proved
+use Rattle.ft_equality_laws.proofs.GoodLists as proved
 use Rattle.ft_equality_laws.proofs.match_is_derivable.Goals as goal
 
 pub returns : goal.returns

@@ -1,18 +1,18 @@
 use Rattle.std.proofs.Common.{take, ap}
 use Rattle.ft_items.specs.Equal.{is_thesis}
 use Rattle.ft_items.specs.Item.{by_var, by_abs, by_subst, by_substeq, by_refl, by_sym, by_left, by_right, by_typeof, by_domain, by_boundary, by_bterm, by_trans, by_conv, by_conveq, by_widen, by_beqty, by_beqtm}
-use Rattle.ft_items.specs.Store.{store_of, entry_named, variable_named, resolve}
+use Rattle.ft_items.specs.Store.{store_of, entry_named, variable_named, resolve, declared_by}
 use Rattle.ft_stated.specs.Steps.{stated_step}
 use Rattle.ft_check.specs.Entries.{entry_in}
 use Rattle.ft_check.proofs.Entering.{btype_result, one_checked, one_result, two_result, three_result, unbuilt_result, rule_result, rulewith_result}
 use Rattle.ft_check.proofs.item.check_result.Goals as goal
 
 pub returns-in-Var : goal.returns-in-Var
-returns-in-Var c = λ s g q k. one_checked (store_of (take c.args.i c.args.items.now.items)) c.args.step.now by_var (variable_named (store_of (take c.args.i c.args.items.now.items)) c.in-Var.v) (entry_in c.args.items.now.trees c.args.found) c.check_var.result s (ap (λ t. resolve (store_of (take c.args.i c.args.items.now.items)) (stated_step t)) c.in-Var.is) q
+returns-in-Var c = λ s g q k. one_checked (store_of (take c.args.i c.args.items.now.items)) c.args.step.now by_var (variable_named (declared_by (take c.args.i c.args.items.now.items)) c.in-Var.v) (entry_in c.args.items.now.trees c.args.found) c.check_var.result s (ap (λ t. resolve (store_of (take c.args.i c.args.items.now.items)) (stated_step t)) c.in-Var.is) q
     (λ d f. c.check_var.ensures d (stated_step c.args.step.now) g f)
 
 pub returns-in-Abs : goal.returns-in-Abs
-returns-in-Abs c = λ s g q k. two_result (store_of (take c.args.i c.args.items.now.items)) c.args.step.now by_abs (variable_named (store_of (take c.args.i c.args.items.now.items)) c.in-Abs.v) (entry_named (store_of (take c.args.i c.args.items.now.items)) c.in-Abs.p) (entry_in c.args.items.now.trees c.args.found) c.check_abs.result s (ap (λ t. resolve (store_of (take c.args.i c.args.items.now.items)) (stated_step t)) c.in-Abs.is) q
+returns-in-Abs c = λ s g q k. two_result (store_of (take c.args.i c.args.items.now.items)) c.args.step.now by_abs (variable_named (declared_by (take c.args.i c.args.items.now.items)) c.in-Abs.v) (entry_named (store_of (take c.args.i c.args.items.now.items)) c.in-Abs.p) (entry_in c.args.items.now.trees c.args.found) c.check_abs.result s (ap (λ t. resolve (store_of (take c.args.i c.args.items.now.items)) (stated_step t)) c.in-Abs.is) q
     (λ d b f h. c.check_abs.ensures d b (stated_step c.args.step.now) g f h)
 
 pub returns-in-Subst : goal.returns-in-Subst

@@ -1,7 +1,7 @@
 use Rattle.std.proofs.Common.{rules, ◌≡◌, ◌∙◌, ap, sym, true, false, not, take}
 use Rattle.std.specs.Prelude.{is_some, option_map}
 use Rattle.std.specs.List.{list_all}
-use Rattle.ft_items.specs.Store.{each, metavariable_named, metavariables_in, nth, store_of}
+use Rattle.ft_items.specs.Store.{each, metavariable_named, metavariables_in, nth, declared_by}
 use Rattle.ft_check.specs.Entries.{entry_in}
 use Rattle.ft_check.proofs.Naming.{room_is}
 use Rattle.ft_check.proofs.Premises.{named_all}
@@ -40,4 +40,4 @@ returns-in-Some c =
     (sym (named_all (take c.args.i c.args.items.now.items) c.args.ms.now g)
     ∙ ap (list_all (λ m. is_some (nth (metavariables_in (take c.args.i c.args.items.now.items)) m))) (sym same) ∙ sym c.are_metavariables.ensures ∙ passed)
     (sym (ap (option_map (entry_in T)) c.in-Some.is) ∙ c.entry_before.ensures.entry)
-    (λ ds h. c.against_conclusion.ensures T ds g (ap (each (metavariable_named (store_of (take c.args.i c.args.items.now.items)))) again ∙ h)))
+    (λ ds h. c.against_conclusion.ensures T ds g (ap (each (metavariable_named (declared_by (take c.args.i c.args.items.now.items)))) again ∙ h)))

@@ -4,7 +4,7 @@ use Rattle.ft_theory.specs.Expressions.{instantiate, symbol}
 use Rattle.ft_theory.specs.Statements.{Statement, map_claim, map_statement, plain, fill_goal}
 use Rattle.ft_theory.specs.Rules.{instance_of}
 use Rattle.ft_items.specs.Equal.{fit_all, heads}
-use Rattle.ft_items.specs.Store.{store_of}
+use Rattle.ft_items.specs.Store.{declared_by}
 use Rattle.ft_items.specs.Rows.{are_arguments, statements, when}
 use Rattle.ft_items.specs.Good.{reason_of_result}
 use Rattle.ft_syntax.specs.Instances.{instance_in}
@@ -33,8 +33,8 @@ returns c =
     let T = c.args.items.now.trees in
     let yes : c.in_ok-push_premises.field-0 ≡ true = search rules in
     λ R given t g k p a. IfOk-weaker c.check_conclusion.result _ _
-    (λ x e. at_these T (store_of (take c.args.i c.args.items.now.items)) c.args.rule.now R (statements given) _ _ _ (are_arguments R.1.premises (statements given)) _ _ _ _ k
-    (c.in_ok-put.ensures.instance given R.1.premises p a (ap (map (λ (x : ℕ × Statement). x.0)) k.premises ∙ numbers_are (store_of (take c.args.i c.args.items.now.items)) c.args.rule.now.metavariables.now k.declared k.are))
+    (λ x e. at_these T (declared_by (take c.args.i c.args.items.now.items)) c.args.rule.now R (statements given) _ _ _ (are_arguments R.1.premises (statements given)) _ _ _ _ k
+    (c.in_ok-put.ensures.instance given R.1.premises p a (ap (map (λ (x : ℕ × Statement). x.0)) k.premises ∙ numbers_are (declared_by (take c.args.i c.args.items.now.items)) c.args.rule.now.metavariables.now k.declared k.are))
     (c.in_ok-put.ensures.heads given p a)
     (ap (all_same T (instantiate (instance_of R.1.premises (heads (statements given))))) c.deref.ensures.value
     ∙ yes_same _ _ _ yes (c.in_ok-push_premises.ensures.same k.declared given (instantiate (instance_of R.1.premises (heads (statements given)))) g k.are p a)

@@ -1,6 +1,6 @@
 use Rattle.std.proofs.Common.{rules, suc, ◌≤◌, subst, ℕ, length, take, encode_utf8_all, add-one}
 use Rattle.ft_items.specs.Texts.{text_of}
-use Rattle.ft_outside.specs.Outside.{Appends, AppendsPrefix}
+use Rattle.ft_streams.specs.Streams.{Appends, AppendsPrefix}
 use Rattle.ft_export.proofs.Joining.{on_error}
 use Rattle.ft_export.proofs.Whole.{first_lines, fits_next, written_on, written_whole, item_on_page, end_on_page, front_of_page, stop_before_page, front_of_all}
 use Rattle.ft_export.proofs.write.write_derivation.Goals as goal

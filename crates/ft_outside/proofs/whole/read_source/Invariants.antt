@@ -1,5 +1,5 @@
 use Rattle.std.proofs.Common.{◌≤◌, ◌-◌, ◌+◌, length}
-use Rattle.ft_outside.specs.Outside.{Gives, CountsOn}
+use Rattle.ft_streams.specs.Streams.{Gives, CountsOn}
 use Rattle.ft_outside.proofs.whole.read_source.Given as goal
 
 abbrev pub invariant-reading : goal.invariant-reading

@@ -1,5 +1,5 @@
 use Rattle.std.proofs.Common.{◌≤◌, ◌-◌, length, take}
-use Rattle.ft_outside.specs.Outside.{Appends}
+use Rattle.ft_streams.specs.Streams.{Appends}
 use Rattle.ft_outside.proofs.whole.write_all.Given as goal
 
 abbrev pub invariant-loop-at : goal.invariant-loop-at

@@ -1,6 +1,6 @@
 use Rattle.std.proofs.Common.{◌≡◌, ◌∙◌, ◌++◌, ◌+◌, ◌-◌, ◌^◌, ◌<◌, sym, ap, subst, ℕ, Some, slice_get, add-one, arith, rules}
 use Rattle.std.proofs.lemmas.Result.{on_ok_weaker}
-use Rattle.ft_items.specs.Store.{store_of}
+use Rattle.ft_items.specs.Store.{declared_by}
 use Rattle.ft_syntax.specs.Arguments.{node_of, arguments_of}
 use Rattle.ft_syntax.specs.Table.{tree, argument_in}
 use Rattle.ft_print.specs.Arguments.{body_text, HasRoom}
@@ -45,7 +45,7 @@ push_arguments-push_body-requires t c =
 pub push_arguments-loop-i-preserved : goal.push_arguments-loop-i-preserved
 push_arguments-loop-i-preserved t c =
     let ts = c.args.k.now.trees in
-    let W = store_of c.args.k.now.items in
+    let W = declared_by c.args.k.now.items in
     let vs = c.args.variables.now in
     let e = c.args.e in
     let i : ℕ = c.loop-i.i in
@@ -59,7 +59,7 @@ push_arguments-loop-i-preserved t c =
 
 pub push_part-returns-in_ok-push_symbol-in-Sym : goal.push_part-returns-in_ok-push_symbol-in-Sym
 push_part-returns-in_ok-push_symbol-in-Sym t c =
-    let W = store_of c.args.k.now.items in
+    let W = declared_by c.args.k.now.items in
     let T = tree c.args.k.now.trees c.args.e in
     record {
       ok = on_ok_weaker c.push_arguments.result (symbol_written W c.args.variables.now c.args.n T c.in-Sym.s c.args.out.now c.push_symbol.new.out c.push_arguments.new.out
@@ -68,7 +68,7 @@ push_part-returns-in_ok-push_symbol-in-Sym t c =
 
 pub push_part-returns-in_ok-push_metavariable-in-Meta : goal.push_part-returns-in_ok-push_metavariable-in-Meta
 push_part-returns-in_ok-push_metavariable-in-Meta t c =
-    let W = store_of c.args.k.now.items in
+    let W = declared_by c.args.k.now.items in
     let T = tree c.args.k.now.trees c.args.e in
     record {
       ok = on_ok_weaker c.push_arguments-in-Meta.result (meta_written W c.args.variables.now c.args.n T c.in-Meta.m c.args.out.now c.push_metavariable.new.out c.push_arguments-in-Meta.new.out

@@ -1,5 +1,5 @@
 use Rattle.std.proofs.Common.{◌≡◌, ◌++◌, ◌+◌, ◌*◌, map, take}
-use Rattle.ft_items.specs.Store.{store_of}
+use Rattle.ft_items.specs.Store.{declared_by}
 use Rattle.ft_syntax.specs.Arguments.{arguments_of}
 use Rattle.ft_syntax.specs.Table.{tree}
 use Rattle.ft_print.specs.Arguments.{argument_text}
@@ -17,4 +17,4 @@ abbrev pub decreases-push_body : goal.decreases-push_body
 decreases-push_body l = body_measure l.body
 
 abbrev pub invariant-push_arguments-loop-i : goal.invariant-push_arguments-loop-i
-invariant-push_arguments-loop-i l = l.out ≡ l.fn.out ++ opened (map (argument_text (store_of l.k.items) l.variables l.n) (take l.i (arguments_of (tree l.k.trees l.e))))
+invariant-push_arguments-loop-i l = l.out ≡ l.fn.out ++ opened (map (argument_text (declared_by l.k.items) l.variables l.n) (take l.i (arguments_of (tree l.k.trees l.e))))

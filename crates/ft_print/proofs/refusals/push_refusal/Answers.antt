@@ -1,6 +1,6 @@
 use Rattle.std.proofs.Common.{ap, codes}
 use Rattle.ft_items.specs.Sets.{var}
-use Rattle.ft_items.specs.Store.{store_of}
+use Rattle.ft_items.specs.Store.{declared_by}
 use Rattle.ft_meaning.specs.Faults.{atom_text, differ_text, refusal_text}
 use Rattle.ft_calls.specs.Answers.{difference_in, refusal_in}
 use Rattle.ft_print.proofs.Joining.{two_parts}
@@ -8,7 +8,7 @@ use Rattle.ft_print.proofs.refusals.push_refusal.Goals as goal
 
 pub returns-in_ok-push_str-in-TypeDiffers : goal.returns-in_ok-push_str-in-TypeDiffers
 returns-in_ok-push_str-in-TypeDiffers c =
-    let W = store_of c.args.k.now.items in
+    let W = declared_by c.args.k.now.items in
     let ts = c.args.k.now.trees in
     record {
       ok = two_parts c.push_differ.result c.args.out.now (codes "TypeDiffers") (differ_text W (difference_in ts c.in-TypeDiffers.d)) c.push_str-in-TypeDiffers.new.self c.push_differ.new.out (refusal_text W (refusal_in ts c.args.r.now))
@@ -17,7 +17,7 @@ returns-in_ok-push_str-in-TypeDiffers c =
 
 pub returns-in_ok-push_str-in-SidesDiffer : goal.returns-in_ok-push_str-in-SidesDiffer
 returns-in_ok-push_str-in-SidesDiffer c =
-    let W = store_of c.args.k.now.items in
+    let W = declared_by c.args.k.now.items in
     let ts = c.args.k.now.trees in
     record {
       ok = two_parts c.push_differ-in-SidesDiffer.result c.args.out.now (codes "SidesDiffer") (differ_text W (difference_in ts c.in-SidesDiffer.d)) c.push_str-in-SidesDiffer.new.self c.push_differ-in-SidesDiffer.new.out (refusal_text W (refusal_in ts c.args.r.now))
@@ -26,7 +26,7 @@ returns-in_ok-push_str-in-SidesDiffer c =
 
 pub returns-in_ok-push_str-in-DependentVariable : goal.returns-in_ok-push_str-in-DependentVariable
 returns-in_ok-push_str-in-DependentVariable c =
-    let W = store_of c.args.k.now.items in
+    let W = declared_by c.args.k.now.items in
     let ts = c.args.k.now.trees in
     record {
       ok = two_parts c.push_variable_alone.result c.args.out.now (codes "DependentVariable: ") (atom_text W (var c.in-DependentVariable.v)) c.push_str-in-DependentVariable.new.self c.push_variable_alone.new.out (refusal_text W (refusal_in ts c.args.r.now))
@@ -35,7 +35,7 @@ returns-in_ok-push_str-in-DependentVariable c =
 
 pub returns-in_ok-push_str-in-OpenBoundary : goal.returns-in_ok-push_str-in-OpenBoundary
 returns-in_ok-push_str-in-OpenBoundary c =
-    let W = store_of c.args.k.now.items in
+    let W = declared_by c.args.k.now.items in
     let ts = c.args.k.now.trees in
     record {
       ok = two_parts c.push_variable_alone-in-OpenBoundary.result c.args.out.now (codes "OpenBoundary: ") (atom_text W (var c.in-OpenBoundary.v)) c.push_str-in-OpenBoundary.new.self c.push_variable_alone-in-OpenBoundary.new.out (refusal_text W (refusal_in ts c.args.r.now))

@@ -1,5 +1,5 @@
 use Rattle.std.proofs.Common.{◌≡◌, ◌<◌, ℕ, Some, length, slice_get, add-one, rules}
-use Rattle.ft_items.specs.Store.{store_of}
+use Rattle.ft_items.specs.Store.{declared_by}
 use Rattle.ft_print.proofs.Joining.{read_at}
 use Rattle.ft_print.proofs.Below.{below_at, domain_written}
 use Rattle.ft_print.proofs.statements.push_domains.Goals as goal
@@ -18,4 +18,4 @@ loop-i-preserved c =
     let d = c.index-domains-i.result in
     let l : i < length ds = search rules in
     let g : slice_get ds i ≡ Some d = read_at ds i d l c.index-domains-i.is in
-    rw add-one (domain_written (store_of c.args.k.now.items) c.args.variables.now c.args.k.now.trees ds i d c.args.out.now c.loop-i.out c.push_domain.new.out g c.loop-i.invariant c.in_ok-push_domain.ensures.ok)
+    rw add-one (domain_written (declared_by c.args.k.now.items) c.args.variables.now c.args.k.now.trees ds i d c.args.out.now c.loop-i.out c.push_domain.new.out g c.loop-i.invariant c.in_ok-push_domain.ensures.ok)

@@ -1,6 +1,6 @@
 use Rattle.std.proofs.Common.{◌≡◌, drop, map}
-use Rattle.ft_applications.specs.Building.{premise_names, all_true, avoids}
-use Rattle.ft_run.specs.Claiming.{nodes}
+use Rattle.ft_applications_meaning.specs.Building.{premise_names, all_true, avoids}
+use Rattle.ft_run.proofs.Nodes.{nodes}
 use Rattle.ft_run.proofs.asking.+avoids.Given as goal
 
 abbrev pub invariant-loop-argument : goal.invariant-loop-argument

@@ -1,6 +1,6 @@
 use Rattle.std.proofs.Common.{◌≡◌, drop}
 use Rattle.ft_items.specs.Good.{is_new}
-use Rattle.ft_applications.specs.Building.{premise_names}
+use Rattle.ft_applications_meaning.specs.Building.{premise_names}
 use Rattle.ft_run.proofs.asking.is_new.Given as goal
 
 abbrev pub invariant-loop-premise : goal.invariant-loop-premise

@@ -1,5 +1,5 @@
 use Rattle.std.proofs.Common.{◌∙◌, ◌++◌, ap}
-use Rattle.ft_applications.specs.Texts.{name_text}
+use Rattle.ft_applications_meaning.specs.Texts.{name_text}
 use Rattle.ft_run.proofs.Lines.{repeated_appended}
 use Rattle.ft_run.proofs.running.push_repeated.Goals as goal
 

@@ -1,7 +1,7 @@
 use Rattle.std.proofs.Common.{subst, sym, codes}
 use Rattle.ft_syntax.specs.Table.{tree}
 use Rattle.ft_judge.specs.Meaning.{claim_in}
-use Rattle.ft_applications.specs.Texts.{expression_text, claim_text}
+use Rattle.ft_applications_meaning.specs.Texts.{expression_text, claim_text}
 use Rattle.ft_run.specs.Claiming.{names_known}
 use Rattle.ft_run.specs.Printing.{HasBeginning}
 use Rattle.ft_run.proofs.Printing.{begins_first, any_err}

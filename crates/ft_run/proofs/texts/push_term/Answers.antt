@@ -1,6 +1,6 @@
 use Rattle.std.proofs.Common.{◌∙◌, ap, ◌++◌, codes, append_assoc}
 use Rattle.ft_syntax.specs.Table.{tree}
-use Rattle.ft_applications.specs.Texts.{expression_text}
+use Rattle.ft_applications_meaning.specs.Texts.{expression_text}
 use Rattle.ft_run.specs.Claiming.{names_known}
 use Rattle.ft_run.proofs.Printing.{begins_first, later_err, any_err}
 use Rattle.ft_run.proofs.texts.push_term.Goals as goal

@@ -3,4 +3,4 @@ use Rattle.ft_syntax.proofs.Sameness.{decides}
 use Rattle.ft_syntax.proofs.table.are_same.Goals as goal
 
 pub returns : goal.returns
-returns c h = (slice_eq-Decides decides c.args.x.now c.args.y.now c.eq.result c.eq.ensures).0 h
+returns c = slice_eq-Decides decides c.args.x.now c.args.y.now c.eq.result c.eq.ensures

@@ -1,6 +1,6 @@
 use Rattle.std.proofs.Common.{arith}
-use Rattle.ft_top.specs.declared.words.Job.TheVariants as job
-use Rattle.ft_top.specs.Statuses.{read_line}
+use Rattle.ft_answers.specs.declared.words.Job.TheVariants as job
+use Rattle.ft_answers.specs.Statuses.{read_line}
 use Rattle.ft_top.proofs.Calling.{has_status, no_usage, read_failed, with_line, too_long, no_memory, nothing_left, broken_off, whole_end, told_of, exactly, derived, begun}
 use Rattle.ft_top.proofs.Telling.{exported_text, accepted_text, rejected_text, filed_text}
 use Rattle.ft_top.proofs.Refusing.{refused_status, no_more, not_whole, refused_told}
@@ -50,7 +50,7 @@ pub returns-in-Some-clause-begun : goal.returns-in-Some-clause-begun
 returns-in-Some-clause-begun g c = λ four i reads asked bytes told within quiet. begun _ i bytes c.in-Some.ensures.asked four reads asked told within quiet c.answer.ensures.called
 
 pub returns-in-Some-clause-exported : goal.returns-in-Some-clause-exported
-returns-in-Some-clause-exported g c = λ z asked bytes told. exported_text c.headline.ensures.law _ bytes c.in-Some.ensures.asked z asked told c.answer.ensures.called
+returns-in-Some-clause-exported g c = λ z asked bytes told. exported_text _ bytes c.in-Some.ensures.asked z asked told c.answer.ensures.called
 
 pub returns-in-Some-clause-accepted : goal.returns-in-Some-clause-accepted
 returns-in-Some-clause-accepted g c = λ z asked bytes told. accepted_text c.accepted_is_derivable.ensures.law _ bytes c.in-Some.ensures.asked z asked told c.answer.ensures.called

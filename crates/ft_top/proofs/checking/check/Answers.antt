@@ -1,4 +1,4 @@
-use Rattle.ft_top.specs.declared.words.Job.TheVariants as job
+use Rattle.ft_answers.specs.declared.words.Job.TheVariants as job
 use Rattle.ft_top.proofs.Going.{finished, begins_check}
 use Rattle.ft_top.proofs.checking.check.Goals as goal
 

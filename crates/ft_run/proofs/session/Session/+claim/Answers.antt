@@ -1,5 +1,5 @@
 use Rattle.std.proofs.Common.{◌≡◌, ◌∙◌, ◌<◌, ◌≤◌, sym, ap, subst, length, None, Some, IfOk, rules, map, take}
-use Rattle.ft_applications.specs.Building.{claim_of, all_of}
+use Rattle.ft_applications_meaning.specs.Building.{claim_of, all_of}
 use Rattle.ft_judge.specs.Meaning.{claim_in}
 use Rattle.ft_run.specs.Session.{claims_in}
 use Rattle.ft_run.proofs.Keeping.{keeps_then}

@@ -1,7 +1,7 @@
 use Rattle.std.proofs.Common.{◌≡◌, Some, map, take}
-use Rattle.ft_applications.specs.Building.{claim_of, all_of}
+use Rattle.ft_applications_meaning.specs.Building.{claim_of, all_of}
 use Rattle.ft_run.specs.Session.{AreClaimed, claims_in, Keeps}
-use Rattle.ft_run.specs.Claiming.{nodes}
+use Rattle.ft_run.proofs.Nodes.{nodes}
 use Rattle.ft_run.proofs.session.Session.+claim.Given as goal
 
 abbrev pub invariant-loop-argument : goal.invariant-loop-argument

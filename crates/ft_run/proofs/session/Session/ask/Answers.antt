@@ -1,5 +1,5 @@
 use Rattle.std.proofs.Common.{◌≡◌, ◌<◌, ◌≤◌, None, length, take, rules}
-use Rattle.ft_applications.specs.Building.{premise_names}
+use Rattle.ft_applications_meaning.specs.Building.{premise_names}
 use Rattle.ft_run.specs.Asking.{goal_of_new}
 use Rattle.ft_run.proofs.Keeping.{keeps_then}
 use Rattle.ft_run.proofs.Premises.{wanted_next, wanted_none, wanted_all}

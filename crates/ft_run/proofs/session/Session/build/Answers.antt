@@ -1,5 +1,5 @@
 use Rattle.std.proofs.Common.{◌∙◌, ap, sym}
-use Rattle.ft_applications.specs.declared.syntax.Command.TheVariants as command
+use Rattle.ft_applications_meaning.specs.declared.syntax.Command.TheVariants as command
 use Rattle.ft_run.proofs.Lines.{counted_kept, rule_built, show_built}
 use Rattle.ft_run.proofs.session.Session.build.Goals as goal
 

@@ -1,7 +1,7 @@
 use Rattle.std.proofs.Common.{List, drop}
-use Rattle.ft_applications.specs.Events.{Event}
+use Rattle.ft_applications_meaning.specs.Events.{Event}
 use Rattle.ft_run.specs.Session.{IsCounted}
-use Rattle.ft_run.specs.Running.{AreLeft}
+use Rattle.ft_run.proofs.Left.{AreLeft}
 use Rattle.ft_run.proofs.session.Session.judge.Given as goal
 
 abbrev pub invariant-loop-command : goal.invariant-loop-command

@@ -1,7 +1,7 @@
 use Rattle.std.proofs.Common.{◌≡◌, ◌∙◌, ◌<◌, ◌+◌, subst, ℕ, suc, Some, length, take, arith, rules}
 use Rattle.ft_items.specs.Store.{metavariables_in}
 use Rattle.ft_judge.specs.Meaning.{goal_in}
-use Rattle.ft_applications.specs.Building.{premise_names}
+use Rattle.ft_applications_meaning.specs.Building.{premise_names}
 use Rattle.ft_run.specs.Session.{boundaries_in}
 use Rattle.ft_run.specs.Asking.{goal_of_new}
 use Rattle.ft_run.proofs.Going.{goes_then}

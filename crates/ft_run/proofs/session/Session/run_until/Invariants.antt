@@ -1,7 +1,8 @@
 use Rattle.std.proofs.Common.{List, drop}
-use Rattle.ft_applications.specs.Events.{Event}
+use Rattle.ft_applications_meaning.specs.Events.{Event}
 use Rattle.ft_run.specs.Session.{IsCounted}
-use Rattle.ft_run.specs.Running.{AreLeft, Does}
+use Rattle.ft_run.proofs.Left.{AreLeft}
+use Rattle.ft_run.specs.Running.{Does}
 use Rattle.ft_run.proofs.session.Session.run_until.Given as goal
 
 abbrev pub invariant-loop-command : goal.invariant-loop-command

@@ -3,8 +3,8 @@ use Rattle.ft_syntax.proofs.table.Terms.depth.Goals as goal
 
 pub returns-clause-depth : goal.returns-clause-depth
 returns-clause-depth c =
-    (row_seen c.args.self.now c.self.inside.parts.items c.self.inside.rows.items c.args.e c.place.result c.index.result.now c.self.view_is c.self.invariant c.requires c.place.ensures c.index.ensures).depth_is
+    (row_seen c.args.self.now c.self.inside.parts.items c.self.inside.rows.items c.args.e c.place.result c.index.result.now c.self.view_is c.self.invariant.good c.requires c.place.ensures c.index.ensures).depth_is
 
 pub returns-clause-small : goal.returns-clause-small
 returns-clause-small c =
-    (row_seen c.args.self.now c.self.inside.parts.items c.self.inside.rows.items c.args.e c.place.result c.index.result.now c.self.view_is c.self.invariant c.requires c.place.ensures c.index.ensures).small
+    (row_seen c.args.self.now c.self.inside.parts.items c.self.inside.rows.items c.args.e c.place.result c.index.result.now c.self.view_is c.self.invariant.good c.requires c.place.ensures c.index.ensures).small

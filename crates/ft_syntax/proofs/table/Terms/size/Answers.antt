@@ -3,8 +3,8 @@ use Rattle.ft_syntax.proofs.table.Terms.size.Goals as goal
 
 pub returns-clause-size : goal.returns-clause-size
 returns-clause-size c =
-    (row_seen c.args.self.now c.self.inside.parts.items c.self.inside.rows.items c.args.e c.place.result c.index.result.now c.self.view_is c.self.invariant c.requires c.place.ensures c.index.ensures).size_is
+    (row_seen c.args.self.now c.self.inside.parts.items c.self.inside.rows.items c.args.e c.place.result c.index.result.now c.self.view_is c.self.invariant.good c.requires c.place.ensures c.index.ensures).size_is
 
 pub returns-clause-small : goal.returns-clause-small
 returns-clause-small c =
-    (row_seen c.args.self.now c.self.inside.parts.items c.self.inside.rows.items c.args.e c.place.result c.index.result.now c.self.view_is c.self.invariant c.requires c.place.ensures c.index.ensures).small
+    (row_seen c.args.self.now c.self.inside.parts.items c.self.inside.rows.items c.args.e c.place.result c.index.result.now c.self.view_is c.self.invariant.good c.requires c.place.ensures c.index.ensures).small

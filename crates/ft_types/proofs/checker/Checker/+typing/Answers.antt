@@ -1,7 +1,7 @@
 use Rattle.std.proofs.Common.{rules, ◌≡◌, ◌∙◌, ◌+◌, sym, ap, drop, map, Ok, Err, arith}
 use Rattle.ft_equality.specs.Results.{◌>>◌}
 use Rattle.ft_meaning.specs.Trees.{form, place, cases, handlers}
-use Rattle.ft_meaning.specs.Typing.{wanted, cases_have, handlers_have}
+use Rattle.ft_meaning.specs.Typing.{ensure_type, ensure_cases, ensure_handlers}
 use Rattle.ft_meaning.proofs.Written.{case, handler}
 use Rattle.ft_types.specs.Types.{type_in}
 use Rattle.ft_types.specs.Checking.{scope_of}
@@ -61,10 +61,10 @@ other_cases-returns-in_err-found-clause-finds t c =
     ∙ case_at c.args.cs.now c.loop-c.c-index c.c-item.result _ _ _ c.c-item.is c.loop-c-test.true
     ∙ next_case_fails c.c-item.result _ _ _ _ e (λ told. case_same c.c-item.result _ _ _ _ _ A s (c.in_err-found.ensures.finds told)) told)
 
-pub other_cases-returns-in_err-wanted-clause-finds : goal.other_cases-returns-in_err-wanted-clause-finds
-other_cases-returns-in_err-wanted-clause-finds t c =
-    let e = c.in_err-wanted.field-0.0 in
-    let is : c.from_residual-in_err-wanted.result ≡ Err e = search rules in
+pub other_cases-returns-in_err-ensure_type-clause-finds : goal.other_cases-returns-in_err-ensure_type-clause-finds
+other_cases-returns-in_err-ensure_type-clause-finds t c =
+    let e = c.in_err-ensure_type.field-0.0 in
+    let is : c.from_residual-in_err-ensure_type.result ≡ Err e = search rules in
     let v = c.args.self.now in
     let w = c.loop-c.self in
     let x = c.case.new.self in
@@ -75,9 +75,9 @@ other_cases-returns-in_err-wanted-clause-finds t c =
     passes_err _ _ e _ _ is (λ told. sym c.loop-c.invariant.left
     ∙ case_at c.args.cs.now c.loop-c.c-index c.c-item.result _ _ _ c.c-item.is c.loop-c-test.true
     ∙ next_case c.c-item.result _ _ _ _ _ (case_same c.c-item.result _ _ _ _ _ A s c.in_ok-found.ensures.finds.0)
-    ∙ ap (λ r. r >> cases_have (cases (map case (drop (c.loop-c.c-index + 1) c.args.cs.now))) (type_in v.types c.args.t) (type_in v.types c.args.wanted) (scope_of v))
-    (sym (ap (λ k. wanted k (type_in x.types c.args.wanted) (type_in x.types c.in_ok-found.found)) at
-    ∙ ap (λ X. wanted (place (form c.c-item.result.body)) X (type_in x.types c.in_ok-found.found)) B) ∙ c.in_err-wanted.ensures told))
+    ∙ ap (λ r. r >> ensure_cases (cases (map case (drop (c.loop-c.c-index + 1) c.args.cs.now))) (type_in v.types c.args.t) (type_in v.types c.args.wanted) (scope_of v))
+    (sym (ap (λ k. ensure_type k (type_in x.types c.args.wanted) (type_in x.types c.in_ok-found.found)) at
+    ∙ ap (λ X. ensure_type (place (form c.c-item.result.body)) X (type_in x.types c.in_ok-found.found)) B) ∙ c.in_err-ensure_type.ensures told))
 
 pub other_cases-loop-c-preserved : goal.other_cases-loop-c-preserved
 other_cases-loop-c-preserved t c =
@@ -94,9 +94,9 @@ other_cases-loop-c-preserved t c =
       left = sym (sym c.loop-c.invariant.left
           ∙ case_at c.args.cs.now c.loop-c.c-index c.c-item.result _ _ _ c.c-item.is c.loop-c-test.true
           ∙ next_case c.c-item.result _ _ _ _ _ (case_same c.c-item.result _ _ _ _ _ A s c.in_ok-found.ensures.finds.0)
-          ∙ ap (λ r. r >> cases_have (cases (map case (drop (c.loop-c.c-index + 1) c.args.cs.now))) (type_in v.types c.args.t) (type_in v.types c.args.wanted) (scope_of v))
-          (sym (ap (λ k. wanted k (type_in x.types c.args.wanted) (type_in x.types c.in_ok-found.found)) at
-          ∙ ap (λ X. wanted (place (form c.c-item.result.body)) X (type_in x.types c.in_ok-found.found)) B) ∙ c.in_ok-wanted.ensures));
+          ∙ ap (λ r. r >> ensure_cases (cases (map case (drop (c.loop-c.c-index + 1) c.args.cs.now))) (type_in v.types c.args.t) (type_in v.types c.args.wanted) (scope_of v))
+          (sym (ap (λ k. ensure_type k (type_in x.types c.args.wanted) (type_in x.types c.in_ok-found.found)) at
+          ∙ ap (λ X. ensure_type (place (form c.c-item.result.body)) X (type_in x.types c.in_ok-found.found)) B) ∙ c.in_ok-ensure_type.ensures));
     }
 
 pub handlers-returns-in_err-handler-clause-finds : goal.handlers-returns-in_err-handler-clause-finds
@@ -124,5 +124,5 @@ handlers-loop-h-preserved t c =
       left = sym (sym c.loop-h.invariant.left
           ∙ handler_at c.args.hs.now c.loop-h.h-index c.h-item.result _ _ _ c.h-item.is c.loop-h-test.true
           ∙ next_handler c.h-item.result _ _ _ _ (handler_same c.h-item.result _ _ _ _ _ _ A s c.in_ok-handler.ensures.finds.0)
-          ∙ ap (λ ns. handlers_have (handlers (map handler (drop (c.loop-h.h-index + 1) c.args.hs.now))) ns (type_in v.types c.args.t) (scope_of v)) (sym c.in_ok-handler.ensures.seen));
+          ∙ ap (λ ns. ensure_handlers (handlers (map handler (drop (c.loop-h.h-index + 1) c.args.hs.now))) ns (type_in v.types c.args.t) (scope_of v)) (sym c.in_ok-handler.ensures.seen));
     }

@@ -6,7 +6,7 @@ use Rattle.ft_grammar.specs.declared.syntax.Case.{size-Case}
 use Rattle.ft_grammar.specs.declared.syntax.OpCase.{size-OpCase}
 use Rattle.ft_grammar.specs.declared.syntax.ValCase.{size-ValCase}
 use Rattle.ft_meaning.specs.Trees.{form, forms, cases, handlers}
-use Rattle.ft_meaning.specs.Typing.{are_judgements, cases_have, handlers_have}
+use Rattle.ft_meaning.specs.Typing.{ensure_judgements, ensure_cases, ensure_handlers}
 use Rattle.ft_meaning.proofs.Written.{case, handler}
 use Rattle.ft_types.specs.Types.{type_in}
 use Rattle.ft_types.specs.Checking.{scope_of, last_first, Keeps}
@@ -88,21 +88,21 @@ abbrev pub invariant-judgements-loop-e : goal.invariant-judgements-loop-e
 invariant-judgements-loop-e l = record {
   kept : Keeps l.fn.self l.self;
   locals : l.self.locals ≡ l.fn.self.locals;
-  left : are_judgements (forms (map form (drop l.e-index l.es))) (scope_of l.fn.self) ≡ are_judgements (forms (map form l.es)) (scope_of l.fn.self);
+  left : ensure_judgements (forms (map form (drop l.e-index l.es))) (scope_of l.fn.self) ≡ ensure_judgements (forms (map form l.es)) (scope_of l.fn.self);
 }
 
 abbrev pub invariant-other_cases-loop-c : goal.invariant-other_cases-loop-c
 invariant-other_cases-loop-c l = record {
   kept : Keeps l.fn.self l.self;
   locals : l.self.locals ≡ l.fn.self.locals;
-  left : cases_have (cases (map case (drop l.c-index l.cs))) (type_in l.fn.self.types l.t) (type_in l.fn.self.types l.wanted) (scope_of l.fn.self)
-      ≡ cases_have (cases (map case l.cs)) (type_in l.fn.self.types l.t) (type_in l.fn.self.types l.wanted) (scope_of l.fn.self);
+  left : ensure_cases (cases (map case (drop l.c-index l.cs))) (type_in l.fn.self.types l.t) (type_in l.fn.self.types l.wanted) (scope_of l.fn.self)
+      ≡ ensure_cases (cases (map case l.cs)) (type_in l.fn.self.types l.t) (type_in l.fn.self.types l.wanted) (scope_of l.fn.self);
 }
 
 abbrev pub invariant-handlers-loop-h : goal.invariant-handlers-loop-h
 invariant-handlers-loop-h l = record {
   kept : Keeps l.fn.self l.self;
   locals : l.self.locals ≡ l.fn.self.locals;
-  left : handlers_have (handlers (map handler (drop l.h-index l.hs))) (last_first l.seen.items) (type_in l.fn.self.types l.t) (scope_of l.fn.self)
-      ≡ handlers_have (handlers (map handler l.hs)) [] (type_in l.fn.self.types l.t) (scope_of l.fn.self);
+  left : ensure_handlers (handlers (map handler (drop l.h-index l.hs))) (last_first l.seen.items) (type_in l.fn.self.types l.t) (scope_of l.fn.self)
+      ≡ ensure_handlers (handlers (map handler l.hs)) [] (type_in l.fn.self.types l.t) (scope_of l.fn.self);
 }

@@ -1,0 +1,2 @@
+// What `check` answers for a file; as definitions, in specs/.
+#![tactic(auto)]

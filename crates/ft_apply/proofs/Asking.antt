@@ -5,9 +5,7 @@ use Rattle.std.proofs.Math.Path.{fun_ext}
 use Rattle.ft_common.proofs.Options.{none_some}
 use Rattle.ft_theory.specs.Expressions.{Expression, free}
 use Rattle.ft_theory.specs.Statements.{Statement, act_statement}
-use Rattle.ft_theory.specs.Small.{is_small}
 use Rattle.ft_items.specs.Item.{Item}
-use Rattle.ft_items.proofs.Smallness.{small_true, true_small}
 use Rattle.ft_reference.specs.Refusals.{Check, first_refusal, AllSmall, forms_all, forms_statement, expressions}
 use Rattle.ft_reference.specs.Refusals as reference
 use Rattle.ft_reference.specs.Declare.{first_of}
@@ -30,24 +28,13 @@ use Rattle.ft_apply.specs.Named.{entry_of, statements_of, boundary_of_met, premi
 use Rattle.ft_apply.specs.Outcomes.{BigOr, Stops, one_argument_checks}
 use Rattle.ft_apply.specs.Instances.{boundary_at}
 use Rattle.ft_apply.proofs.Naming.{drop_one}
-use Rattle.ft_apply.proofs.AtInstances.{stays_same, stays_then}
-
--- Expressions that are formed.
-pub small_formed : (es : List Expression) → AllSmall es → first_refusal (forms_all es) ≡ None
-small_formed [] h = refl
-small_formed (e ∷ es) h = ap (λ b. cond b (first_refusal (forms_all es)) (Some reference.TooBig)) (small_true e h.0) ∙ small_formed es h.1
-
-pub big_refused : (es : List Expression) → (AllSmall es → ⊥) → first_refusal (forms_all es) ≡ Some reference.TooBig
-big_refused [] n = absurd (n tt)
-big_refused (e ∷ es) n = go (is_small e) refl (λ k. big_refused es k)
-  where
-    go : (b : Bool) → is_small e ≡ b → ((AllSmall es → ⊥) → first_refusal (forms_all es) ≡ Some reference.TooBig) → cond b (first_refusal (forms_all es)) (Some reference.TooBig) ≡ Some reference.TooBig
-    go true h ih = ih (λ k. n (true_small e h, k))
-    go false h ih = refl
+use Rattle.ft_calls.proofs.Declared.{stays_same}
+use Rattle.ft_calls.proofs.Later.{forms_fail}
+use Rattle.ft_apply.proofs.AtInstances.{stays_then}
 
 -- a fault of what is formed is a refusal of these checks, whatever comes after them
 pub forming_refused : (ts : List Expression) (P : Type 0) (es : List Expression) (cs : List Check) (f : SynFault) → (AllSmall es → P) → BigOr P f → Stops ts (forms_all es ++ cs) (refused f)
-forming_refused ts P es cs syntax.TooBig k n = (first_append (forms_all es) cs ∙ ap (λ o. first_of o (first_refusal cs)) (big_refused es (λ s. n (k s))), tt)
+forming_refused ts P es cs syntax.TooBig k n = (first_append (forms_all es) cs ∙ ap (λ o. first_of o (first_refusal cs)) (forms_fail es (λ s. n (k s))), tt)
 forming_refused ts P es cs syntax.Memory k n = tt
 
 -- two lists of checks

@@ -17,6 +17,7 @@ use Rattle.ft_judge.specs.declared.judgement.Goal.TheVariants as goal
 use Rattle.ft_judge.specs.declared.judgement.Boundary.{Boundary}
 use Rattle.ft_kernel.specs.State.{State}
 use Rattle.ft_calls.specs.Answers.{Stays}
+use Rattle.ft_calls.proofs.Declared.{stays_same}
 use Rattle.ft_syntax.specs.declared.syntax.SynFault.{SynFault}
 use Rattle.ft_syntax.specs.declared.syntax.SynFault.TheVariants as syntax
 use Rattle.ft_apply.specs.Outcomes.{BigOr}
@@ -24,9 +25,6 @@ use Rattle.ft_apply.specs.Instances.{expression_at, goal_at, boundary_at}
 use Rattle.ft_apply.proofs.Naming.{drop_one}
 
 -- states that stay
-pub stays_same : (s t : State) → t ≡ s → Stays s t
-stays_same s t e = (ap (λ (s : State). s.items) e, extends_same s.trees t.trees (ap (λ (s : State). s.trees) e))
-
 pub stays_then : (s t u : State) → Stays s t → Stays t u → Stays s u
 stays_then s t u a b = (b.0 ∙ a.0, extends_trans s.trees t.trees u.trees a.1 b.1)
 

@@ -5,51 +5,34 @@ use Rattle.ft_theory.specs.Statements.{Statement}
 use Rattle.ft_theory.specs.Rules.{Rule}
 use Rattle.ft_items.specs.Sets.{Atom, unions}
 use Rattle.ft_items.specs.Item.{Item, Stated, entry}
-use Rattle.ft_items.specs.Store.{Assertion, Store, Resolved, resolve, store_of, entries_in}
+use Rattle.ft_items.specs.Store.{Assertion, Resolved, resolve}
 use Rattle.ft_items.specs.Rows.{conclusion, result_set}
 use Rattle.ft_items.specs.Good.{of_kind}
 use Rattle.ft_reference.specs.Refusals.{Check, first_refusal, AllSmall, expressions, forms_result}
 use Rattle.ft_reference.specs.Checks.{checks}
-use Rattle.ft_syntax.specs.Laws.{extends_trans}
 use Rattle.ft_judge.specs.declared.fault.Fault.{Fault}
 use Rattle.ft_judge.specs.declared.fault.Fault.TheVariants.{Refused, Memory}
 use Rattle.ft_kernel.specs.State.{State}
-use Rattle.ft_calls.specs.Answers.{IsAnswer, Gains, Answers, Stays}
+use Rattle.ft_calls.specs.Answers.{IsAnswer, Answers, Stays}
 use Rattle.ft_calls.specs.Forming.{Gives, Refuses}
-use Rattle.ft_calls.proofs.Answering.{store, rests, answered_ok, refused}
+use Rattle.ft_calls.proofs.Answering.{store, declarations, rests, answered_ok, refused}
+use Rattle.ft_calls.proofs.Later.{answer_before, forms_pass}
 use Rattle.ft_apply.specs.Outcomes.{Stops}
-use Rattle.ft_apply.proofs.Asking.{both_pass, small_formed}
-use Rattle.ft_apply.proofs.AtInstances.{stays_then}
+use Rattle.ft_apply.proofs.Asking.{both_pass}
 
 -- Calls after other work on the table.
 
-same_answer : (s t : State) (n : Stated) (o : Result Assertion Rattle.ft_reference.specs.Refusals.Refusal) → t.items ≡ s.items → IsAnswer t n o → IsAnswer s n o
-same_answer s t n o e h = subst (λ items. (r : Resolved) × (resolve (store_of items) n ≡ Some r) × (Rattle.ft_reference.specs.Calls.answer (store_of items) r ≡ o)) e h
-
-pub answers_after : (s t u : State) (n : Stated) (r : Result ℕ Fault) → Stays s t → Answers t n r u → Answers s n r u
-answers_after s t u n (Ok j) x h = (
-  h.0,
-  same_answer s t n (Ok h.0) x.0 h.1,
-  (
-    h.2.0 ∙ ap (λ items. items ++ entry (record { statement = h.0.statement; set = h.0.set; step = n }) ∷ []) x.0,
-    h.2.1 ∙ ap (λ items. length (entries_in items)) x.0,
-    extends_trans s.trees t.trees u.trees x.1 h.2.2,
-  ),
-)
-answers_after s t u n (Err (Refused q)) x h = (same_answer s t n _ x.0 h.0, h.1, stays_then s t u x h.2)
-answers_after s t u n (Err Memory) x h = stays_then s t u x h
-
 -- what is formed is answered, over the list as it was
-pub formed_answered : (s t : State) (n : Stated) (r : Resolved) (x : Statement) (S : List Atom) → Stays s t → resolve (store s) n ≡ Some r → of_kind r ≡ true → Gives (checks (store s) r) (conclusion (store s) r) x → S ≡ result_set r
+pub formed_answered : (s t : State) (n : Stated) (r : Resolved) (x : Statement) (S : List Atom) → Stays s t → resolve (store s) n ≡ Some r → of_kind r ≡ true → Gives (checks (declarations s) r) (conclusion (declarations s) r) x → S ≡ result_set r
     → IsAnswer t n (Ok (rests x S))
 formed_answered s t n r x S k e o g u =
-    same_answer t s n (Ok (rests x S)) (sym k.0) (subst (λ S. IsAnswer s n (Ok (rests x S))) (sym u) (answered_ok s n r x e o g))
+    answer_before s t n (Ok (rests x S)) k.0 (subst (λ S. IsAnswer s n (Ok (rests x S))) (sym u) (answered_ok s n r x e o g))
 
 -- a fault of the parts is the call's
-pub formed_fault : (s t : State) (n : Stated) (r : Resolved) (f : Fault) → resolve (store s) n ≡ Some r → Stops t.trees (checks (store s) r) f → Stays s t → Answers s n (Err f) t
+pub formed_fault : (s t : State) (n : Stated) (r : Resolved) (f : Fault) → resolve (store s) n ≡ Some r → Stops t.trees (checks (declarations s) r) f → Stays s t → Answers s n (Err f) t
 formed_fault s t n r (Refused q) e h k = refused s t n r q e h k
 formed_fault s t n r Memory e h k = k
 
 -- Checks that end with what the row forms.
 pub formed_ok : (cs : List Check) (row : Option Statement) (x : Statement) → first_refusal cs ≡ None → row ≡ Some x → AllSmall (expressions x) → Gives (cs ++ forms_result row) row x
-formed_ok cs row x h e k = (both_pass cs (forms_result row) h ∙ ap (λ o. first_refusal (forms_result o)) e ∙ small_formed (expressions x) k, e)
+formed_ok cs row x h e k = (both_pass cs (forms_result row) h ∙ ap (λ o. first_refusal (forms_result o)) e ∙ forms_pass (expressions x) k, e)

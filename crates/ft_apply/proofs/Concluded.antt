@@ -42,10 +42,11 @@ use Rattle.ft_apply.specs.Outcomes.{BigOr, Stops, Asks, Tests, Formed, given_che
 use Rattle.ft_apply.specs.Instances.{goal_at, filled_at}
 use Rattle.ft_apply.proofs.Naming.{entry_found, statement_found, each_named, theses_of, theses_are, as_many}
 use Rattle.ft_apply.proofs.RuleLines.{IsRuleOf, rule_resolved}
-use Rattle.ft_apply.proofs.Asking.{both_pass, small_formed, big_refused, refused_first, refused_later}
+use Rattle.ft_apply.proofs.Asking.{both_pass, refused_first, refused_later}
 use Rattle.ft_apply.proofs.Instancing.{premises_count}
 use Rattle.ft_apply.proofs.Calls.{formed_ok}
 use Rattle.ft_apply.proofs.Fitted.{heads_stay}
+use Rattle.ft_calls.proofs.Later.{forms_pass, forms_fail}
 
 -- Arguments for all premises.
 pub all_counted : (ts : List Expression) (items : List Item) (r : ℕ) (ms : List ℕ) (p : ℕ) (js : List ℕ) → IsRuleOf items r ms p → length js ≢ length ms
@@ -145,7 +146,7 @@ pub rule_big : (ts : List Expression) (r : ℕ) (R : Rule) (xs : List Statement)
 rule_big ts r R xs P syntax.TooBig t h k n = (
   both_pass (all_argument_checks R.premises xs) (forms_result (rule_instance r R xs)) h
   ∙ ap (λ o. first_refusal (forms_result o)) (rule_row r R xs t h)
-  ∙ big_refused (claim_expressions (concluded R r xs)) (λ s. n (k s)),
+  ∙ forms_fail (claim_expressions (concluded R r xs)) (λ s. n (k s)),
   tt,
 )
 rule_big ts r R xs P syntax.Memory t h k n = tt
@@ -174,14 +175,14 @@ pub with_big : (ts : List Expression) (r : ℕ) (R : Rule) (b : Statement) (xs :
     → BigOr (AllSmall (claim_expressions (conclusion_at R (heads xs)))) f → Stops ts (rule_with_checks r R b xs) (faults.refused f)
 with_big ts r R b xs syntax.TooBig h n =
     refused_later ts (all_argument_checks R.premises xs) (forms_statement (plain (conclusion_at R (heads xs))) ++ with_later r R b xs) TooBig h
-    (refused_first ts (forms_statement (plain (conclusion_at R (heads xs)))) (with_later r R b xs) TooBig (big_refused (claim_expressions (conclusion_at R (heads xs))) n, tt))
+    (refused_first ts (forms_statement (plain (conclusion_at R (heads xs)))) (with_later r R b xs) TooBig (forms_fail (claim_expressions (conclusion_at R (heads xs))) n, tt))
 with_big ts r R b xs syntax.Memory h n = tt
 
 -- after the arguments and the conclusion
 with_passed : (r : ℕ) (R : Rule) (b : Statement) (xs : List Statement) → first_refusal (all_argument_checks R.premises xs) ≡ None → AllSmall (claim_expressions (conclusion_at R (heads xs))) → first_refusal (rule_with_checks r R b xs) ≡ first_refusal (with_later r R b xs)
 with_passed r R b xs h k =
     both_pass (all_argument_checks R.premises xs) (forms_statement (plain (conclusion_at R (heads xs))) ++ with_later r R b xs) h
-    ∙ both_pass (forms_statement (plain (conclusion_at R (heads xs)))) (with_later r R b xs) (small_formed (claim_expressions (conclusion_at R (heads xs))) k)
+    ∙ both_pass (forms_statement (plain (conclusion_at R (heads xs)))) (with_later r R b xs) (forms_pass (claim_expressions (conclusion_at R (heads xs))) k)
 
 pub with_other : (ts : List Expression) (r : ℕ) (R : Rule) (b : Statement) (xs : List Statement) (q : Refusal) → first_refusal (all_argument_checks R.premises xs) ≡ None
     → AllSmall (claim_expressions (conclusion_at R (heads xs))) → Refuses ts (boundary_checks b (plain (conclusion_at R (heads xs)))) q → Stops ts (rule_with_checks r R b xs) (Refused q)
@@ -202,7 +203,7 @@ with_filled_big ts r R b xs syntax.TooBig t k h s l n = (
   with_passed r R b xs h s
   ∙ both_pass (boundary_checks b (plain (conclusion_at R (heads xs)))) (forms_result (rule_instance_with r R b xs)) l
   ∙ ap (λ o. first_refusal (forms_result o)) (with_row r R b xs t k h l)
-  ∙ big_refused (claim_expressions (concluded R r xs)) n,
+  ∙ forms_fail (claim_expressions (concluded R r xs)) n,
   tt,
 )
 with_filled_big ts r R b xs syntax.Memory t k h s l n = tt

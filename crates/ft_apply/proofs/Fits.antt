@@ -16,7 +16,8 @@ use Rattle.ft_apply.specs.Named.{entry_of, boundary_of_met}
 use Rattle.ft_apply.specs.Outcomes.{Tests, one_argument_checks}
 use Rattle.ft_apply.proofs.Naming.{statement_found}
 use Rattle.ft_apply.proofs.RuleLines.{met_statement}
-use Rattle.ft_apply.proofs.Asking.{both_pass, small_formed, refused_later}
+use Rattle.ft_apply.proofs.Asking.{both_pass, refused_later}
+use Rattle.ft_calls.proofs.Later.{forms_pass}
 
 -- the boundary of a metavariable, as it is read
 pub met_is : (s : State) (m : ℕ) (x : Name × ℕ) (b c : Boundary) → nth (metavariables_in s.items) m ≡ Some x → statement_at s x.1 ≡ Some (boundary_in s.trees b) → c ≡ b → boundary_in s.trees c ≡ boundary_of_met s.items m
@@ -31,5 +32,5 @@ fit_result s t j x b B r e h q small k = go r (subst (λ cs. Tests t.trees cs r)
     same = sym (statement_found t j (thesis_in t.trees x) h) ∙ ap (λ items. (entry_of items j).statement) e
 
     go : (r : Result ⊤ Refusal) → Tests t.trees (fit_checks (entry_of s.items j).statement B) r → Tests t.trees (one_argument_checks B (entry_of s.items j).statement) r
-    go (Ok y) k = both_pass (forms_statement B) (fit_checks (entry_of s.items j).statement B) (small_formed (expressions B) small) ∙ k
-    go (Err f) k = refused_later t.trees (forms_statement B) (fit_checks (entry_of s.items j).statement B) f (small_formed (expressions B) small) k
+    go (Ok y) k = both_pass (forms_statement B) (fit_checks (entry_of s.items j).statement B) (forms_pass (expressions B) small) ∙ k
+    go (Err f) k = refused_later t.trees (forms_statement B) (fit_checks (entry_of s.items j).statement B) f (forms_pass (expressions B) small) k

@@ -34,8 +34,9 @@ use Rattle.ft_apply.specs.Outcomes.{BigOr, Stops, Formed, given_checks}
 use Rattle.ft_apply.specs.Instances.{boundary_at}
 use Rattle.ft_apply.proofs.Naming.{each_named, theses_of, theses_are, as_many}
 use Rattle.ft_apply.proofs.RuleLines.{IsRuleOf, rule_resolved}
-use Rattle.ft_apply.proofs.Asking.{both_pass, big_refused, refused_first, refused_later, forming_refused}
+use Rattle.ft_apply.proofs.Asking.{both_pass, refused_first}
 use Rattle.ft_apply.proofs.Calls.{formed_ok}
+use Rattle.ft_calls.proofs.Later.{forms_fail}
 
 -- the first premises
 pub premises_taken : (items : List Item) (n : ℕ) (ms : List ℕ) → take n (premises_in items ms) ≡ premises_in items (take n ms)
@@ -192,7 +193,7 @@ next_big s t u r ms p js ps b f R a l e h i n small = go f small
       after_count (rule_of s.items r) xs (counted s.items r ms p js R l)
       ∙ both_pass (given_checks (first_premises (rule_of s.items r) xs) xs) (forms_result (boundary_instance (rule_of s.items r) xs)) (subst (λ ps. first_refusal (given_checks ps xs) ≡ None) (sym (first_is s.items r ms p js R)) h)
       ∙ ap (λ o. first_refusal (forms_result o)) row
-      ∙ big_refused (expressions (boundary_at t.trees ps (boundary_in t.trees b))) small,
+      ∙ forms_fail (expressions (boundary_at t.trees ps (boundary_in t.trees b))) small,
       tt,
     )
     go Rattle.ft_syntax.specs.declared.syntax.SynFault.TheVariants.Memory small = tt

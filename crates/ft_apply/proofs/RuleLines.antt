@@ -7,7 +7,7 @@ use Rattle.ft_theory.specs.Statements.{Statement}
 use Rattle.ft_theory.specs.Rules.{Rule, rule_at}
 use Rattle.ft_items.specs.Item.{Name, Item, variable, metavariable, rule, entry, shown}
 use Rattle.ft_items.specs.Equal.{is_thesis, is_plain}
-use Rattle.ft_items.specs.Store.{Assertion, Declared, Store, premises_of, declared, ruled, nth, each, entry_named, metavariable_named, rule_named, add, add_all, empty_store, store_of, entries_in, metavariables_in, rules_in, claim_in}
+use Rattle.ft_items.specs.Store.{Assertion, Declared, Store, premises_of, declared, ruled, nth, each, entry_named, metavariable_named, rule_named, add, add_all, empty_store, store_of, declared_by, Declarations, entries_in, metavariables_in, rules_in, claim_in}
 use Rattle.ft_items.specs.Good.{AllowedRule, GoodAfter, Good}
 use Rattle.ft_items.proofs.Lists.{Before, before_all, each_before, store_is, nth_within, nth_found, entries_all}
 use Rattle.ft_syntax.specs.Table.{AllBelow}
@@ -17,14 +17,14 @@ use Rattle.ft_apply.specs.Named.{entry_or, entry_of, boundary_or, boundary_of_me
 -- A rule that is declared has metavariables that are declared, and a plain boundary for its conclusion.
 pub record Ruled (X : Store) (ms : List ℕ) (p : ℕ) : Type 0 where
   pub premises : List (ℕ × Declared)
-  pub are : each (metavariable_named X) ms ≡ Some premises
+  pub are : each (metavariable_named X.declarations) ms ≡ Some premises
   pub conclusion : Assertion
   pub is : entry_named X p ≡ Some conclusion
   pub boundary : is_thesis conclusion.statement ≡ false
   pub plain : is_plain conclusion.statement ≡ true
 
 ruled_stays : (W X : Store) (ms : List ℕ) (p : ℕ) (n : Name) → Before W X → AllowedRule W n ms p → Ruled X ms p
-ruled_stays W X ms p n b h = record { premises = h.2; are = each_before W X b ms h.2 h.3; conclusion = h.4; is = b.entries p h.4 h.5; boundary = h.7; plain = h.8 }
+ruled_stays W X ms p n b h = record { premises = h.2; are = each_before W.declarations X.declarations b.metavariables ms h.2 h.3; conclusion = h.4; is = b.entries p h.4 h.5; boundary = h.7; plain = h.8 }
 
 rule_line_in : (W : Store) (items : List Item) (r : ℕ) (x : Name × List ℕ × ℕ) → GoodAfter W items → nth (rules_in items) r ≡ Some x → Ruled (add_all W items) x.1 x.2
 rule_line_in W [] r x g h = none_some h
@@ -76,10 +76,10 @@ entries_same : (items : List Item) (p : ℕ) → entry_named (store_of items) p 
 entries_same items p = ap (λ es. nth es p) (entries_all empty_store items)
 
 -- the boundary that a metavariable is declared with
-met_same : (items : List Item) (m : ℕ) (d : Declared) → Good items → nth (store_of items).metavariables m ≡ Some d → (m < length (metavariables_in items)) × (d.boundary ≡ boundary_of_met items m)
+met_same : (items : List Item) (m : ℕ) (d : Declared) → Good items → nth (declared_by items).metavariables m ≡ Some d → (m < length (metavariables_in items)) × (d.boundary ≡ boundary_of_met items m)
 met_same items m d g h = go (nth (metavariables_in items) m) refl (sym found ∙ h)
   where
-    found : nth (store_of items).metavariables m ≡ option_map (λ (x : Name × ℕ). declared x (nth (entries_in items) x.1)) (nth (metavariables_in items) m)
+    found : nth (declared_by items).metavariables m ≡ option_map (λ (x : Name × ℕ). declared x (nth (entries_in items) x.1)) (nth (metavariables_in items) m)
     found = ap (λ ms. nth ms m) (store_is items g).metavariables ∙ nth_map (λ (x : Name × ℕ). declared x (nth (entries_in items) x.1)) (metavariables_in items) m
 
     stated : (x : Name × ℕ) (o : Option Assertion) → (declared x o).boundary ≡ (entry_or o).statement
@@ -96,12 +96,12 @@ met_same items m d g h = go (nth (metavariables_in items) m) refl (sym found ∙
     )
 
 -- the premises that metavariables are declared with
-premises_same : (items : List Item) (ms : List ℕ) (ds : List (ℕ × Declared)) → Good items → each (metavariable_named (store_of items)) ms ≡ Some ds → AllBelow (length (metavariables_in items)) ms × (premises_of ds ≡ premises_in items ms)
+premises_same : (items : List Item) (ms : List ℕ) (ds : List (ℕ × Declared)) → Good items → each (metavariable_named (declared_by items)) ms ≡ Some ds → AllBelow (length (metavariables_in items)) ms × (premises_of ds ≡ premises_in items ms)
 premises_same items [] ds g h = (tt, ap premises_of (sym (same_Some [] ds h)))
-premises_same items (m ∷ ms) ds g h = go (nth (store_of items).metavariables m) refl (each (metavariable_named (store_of items)) ms) refl h (premises_same items ms)
+premises_same items (m ∷ ms) ds g h = go (nth (declared_by items).metavariables m) refl (each (metavariable_named (declared_by items)) ms) refl h (premises_same items ms)
   where
-    W : Store
-    W = store_of items
+    W : Declarations
+    W = declared_by items
 
     go : (o : Option Declared) → nth W.metavariables m ≡ o → (os : Option (List (ℕ × Declared))) → each (metavariable_named W) ms ≡ os → option_and_then (λ d. option_map (λ ds. d ∷ ds) os) (option_map (λ d. (m, d)) o) ≡ Some ds
         → ((ds : List (ℕ × Declared)) → Good items → each (metavariable_named W) ms ≡ Some ds → AllBelow (length (metavariables_in items)) ms × (premises_of ds ≡ premises_in items ms))
@@ -120,12 +120,12 @@ pub record IsRuleOf (items : List Item) (r : ℕ) (ms : List ℕ) (p : ℕ) : Ty
   pub conclusion : (rule_of items r).conclusion ≡ claim_in (entry_of items p).statement
   pub plain : is_plain (entry_of items p).statement ≡ true
   pub boundary : (a : Assertion) × (nth (entries_in items) p ≡ Some a) × (is_thesis a.statement ≡ false)
-  pub named : rule_named (store_of items) r ≡ Some (r, rule_of items r)
+  pub named : rule_named (declared_by items) r ≡ Some (r, rule_of items r)
 
 pub rule_there : (items : List Item) (r : ℕ) (x : Name × List ℕ × ℕ) → Good items → nth (rules_in items) r ≡ Some x → IsRuleOf items r x.1 x.2
 rule_there items r x g h =
-    let W : Store = store_of items in
-    let l : Ruled W x.1 x.2 = rule_line items r x g h in
+    let W : Declarations = declared_by items in
+    let l : Ruled (store_of items) x.1 x.2 = rule_line items r x g h in
     let here : nth (entries_in items) x.2 ≡ Some l.conclusion = sym (entries_same items x.2) ∙ l.is in
     let is : rule_of items r ≡ rule_or items (Some x) = ap (rule_or items) h in
     let same : AllBelow (length (metavariables_in items)) x.1 × (premises_of l.premises ≡ premises_in items x.1) = premises_same items x.1 l.premises g l.are in
@@ -157,5 +157,5 @@ pub met_statement : (items : List Item) (m : ℕ) (x : Name × ℕ) → nth (met
 met_statement items m x h = ap (boundary_or items) h
 
 -- the rule of a number, in the store
-pub rule_resolved : (items : List Item) (r : ℕ) → Good items → r < length (rules_in items) → rule_named (store_of items) r ≡ Some (r, rule_of items r)
+pub rule_resolved : (items : List Item) (r : ℕ) → Good items → r < length (rules_in items) → rule_named (declared_by items) r ≡ Some (r, rule_of items r)
 rule_resolved items r g l = let x : (y : Name × List ℕ × ℕ) × (nth (rules_in items) r ≡ Some y) = nth_found (rules_in items) r l in (rule_there items r x.0 g x.1).named

@@ -2,7 +2,7 @@
 use Rattle.std.specs.Prelude.{ℕ, ◌≡◌, ◌≤◌, ◌<◌, Option, Some, None, List, [], ◌∷◌, length, get_or}
 use Rattle.ft_theory.specs.Statements.{type_goal, plain}
 use Rattle.ft_items.specs.Item.{Name, Item}
-use Rattle.ft_items.specs.Store.{Declared, nth, store_of}
+use Rattle.ft_items.specs.Store.{Declared, nth, declared_by}
 use Rattle.ft_reference.specs.Declare.{Draft}
 use Rattle.ft_nucleus_laws.specs.Laws.{IsDraft}
 
@@ -17,7 +17,7 @@ declared_or (Some d) = d
 
 -- the metavariable of a number, with what is declared of it; a dummy where there is none
 abbrev pub met_of : List Item → ℕ → ℕ × Declared
-met_of items m = (m, declared_or (nth (store_of items).metavariables m))
+met_of items m = (m, declared_or (nth (declared_by items).metavariables m))
 
 abbrev pub mets_of : List Item → List ℕ → List (ℕ × Declared)
 mets_of items [] = []
@@ -29,7 +29,7 @@ draft_in items d = record { name = d.name; premises = mets_of items d.premises }
 
 -- It is the draft of a rule: its metavariables are those of the list, they differ, and each rests on earlier ones alone.
 abbrev pub IsDraftOver : List Item → Drafted → Type 0
-IsDraftOver items d = IsDraft (store_of items) (draft_in items d)
+IsDraftOver items d = IsDraft (declared_by items) (draft_in items d)
 
 -- numbers in order
 abbrev pub InOrder : List ℕ → Type 0

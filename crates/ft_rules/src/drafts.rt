@@ -4,7 +4,7 @@ ghost use Rattle.std.specs.Prelude.{◌≡◌, ℕ, true, Some, None, [], map, I
 ghost use Rattle.ft_items.specs.Sets.{met};
 ghost use Rattle.ft_theory.specs.Derivability.{FinitaryUpTo};
 ghost use Rattle.ft_items.specs.Equal.{is_plain};
-ghost use Rattle.ft_items.specs.Store.{Assertion, store_of};
+ghost use Rattle.ft_items.specs.Store.{Assertion, declared_by};
 ghost use Rattle.ft_kernel.specs.State.{entry_at, IsBoundaryOf};
 ghost use Rattle.ft_reference.specs.Declare.{name_fault, first_outside};
 ghost use Rattle.ft_rules.specs.Drafts.{IsDraftOver};
@@ -74,7 +74,7 @@ impl Model for Draft {
 // Why no rule of the name can be declared.
 #[tactic(auto, using(crate::proofs::Drafting::name_taken, crate::proofs::Drafting::too_many, crate::proofs::Drafting::name_free))]
 fn free_name(k: &Kernel, name: &Name) -> Result<(), RuleFault>
-    ensures { IsNameFault (name_fault (store_of k.now.items) name.now) result }
+    ensures { IsNameFault (name_fault (declared_by k.now.items) name.now) result }
 {
     let _terms = k.terms();
     if k.rule_named(name).is_some() {
@@ -170,7 +170,7 @@ impl Draft {
             is_plain a.statement ≡ true }
         ensures rule { (a : Assertion) → entry_at k.old conclusion ≡ Some a →
             Finishes k.old self.now conclusion a result k.new }
-        ensures finitary { (n : ℕ) → FinitaryUpTo n (store_of k.new.items).rules }
+        ensures finitary { (n : ℕ) → FinitaryUpTo n (declared_by k.new.items).rules }
     {
         let _terms = k.terms();
         match free_name(k, &self.name) {
@@ -185,10 +185,10 @@ impl Draft {
         requires boundary { IsBoundaryOf k.old conclusion }
         requires plain { (a : Assertion) → entry_at k.old conclusion ≡ Some a →
             is_plain a.statement ≡ true }
-        requires name { name_fault (store_of k.old.items) self.now.name ≡ None }
+        requires name { name_fault (declared_by k.old.items) self.now.name ≡ None }
         ensures rule { (a : Assertion) → entry_at k.old conclusion ≡ Some a →
             Finishes k.old self.now conclusion a result k.new }
-        ensures finitary { (n : ℕ) → FinitaryUpTo n (store_of k.new.items).rules }
+        ensures finitary { (n : ℕ) → FinitaryUpTo n (declared_by k.new.items).rules }
     {
         let _terms = k.terms();
         if let Some(atom) = outside(k.set_of(conclusion).atoms(), &self.numbers) {

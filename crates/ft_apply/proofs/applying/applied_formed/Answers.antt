@@ -70,6 +70,6 @@ returns-clause-formed c =
     let q : filled_at u.trees c.in-Ok-conclusion.goal c.args.r hs ≡ concluded R c.args.r xs =
     filled_there s t u c.args.r ps hs c.in-Ok-conclusion.goal xs c.in-Ok.ensures.stays.0 c.in-Ok-conclusion.ensures.stays.1 c.in-Ok.ensures.instance
     (ap (arguments_in t.trees) c.items.ensures ∙ c.in-Ok.ensures.heads) (subst (ArgumentsBelow (length t.trees)) (sym c.items.ensures) c.in-Ok.ensures.below) c.in-Ok-conclusion.ensures.goal in
-    subst (Stops v.trees (rule_checks c.args.r R xs)) (sym c.from-2.ensures)
+    subst (Stops v.trees (rule_checks c.args.r R xs)) (sym c.from-in-Err-filled.ensures)
     (rule_big v.trees c.args.r R xs (AllSmall (claim_expressions (filled_at u.trees c.in-Ok-conclusion.goal c.args.r hs))) c.in-Err-filled.fault (theses_are s c.args.args.now c.requires.arguments) c.in-Ok.ensures.checks
     (subst (λ g. AllSmall (claim_expressions g)) (sym q)) c.in-Err-filled.ensures.small)

@@ -105,7 +105,7 @@ returns-clause-formed c =
     let q : filled_at u.trees c.in-Ok-conclusion.goal c.args.r hs ≡ concluded R c.args.r xs =
     filled_there s t u c.args.r ps hs c.in-Ok-conclusion.goal xs c.in-Ok.ensures.stays.0 c.in-Ok-conclusion.ensures.stays.1 c.in-Ok.ensures.instance
     (ap (arguments_in t.trees) c.items.ensures ∙ c.in-Ok.ensures.heads) (subst (ArgumentsBelow (length t.trees)) (sym c.items.ensures) c.in-Ok.ensures.below) c.in-Ok-conclusion.ensures.goal in
-    subst (Stops v.trees (rule_with_checks c.args.r R b xs)) (sym c.from-2.ensures)
+    subst (Stops v.trees (rule_with_checks c.args.r R b xs)) (sym c.from-in-Err-filled.ensures)
     (with_filled_big v.trees c.args.r R b xs c.in-Err-filled.fault (theses_are s c.args.args.now c.requires.arguments) (boundary_there s c.args.b c.requires.boundary) c.in-Ok.ensures.checks
     (subst (λ g. AllSmall (claim_expressions g)) there c.in-Ok-conclusion.ensures.small)
     (compared s t u c.args.r c.args.b ps c.in-Ok-conclusion.goal c.boundary_at.result.now xs (Ok c.in-Ok-same_goal.field-0) c.in-Ok.ensures.stays.0 c.in-Ok-conclusion.ensures.stays.0 c.in-Ok.ensures.instance c.in-Ok-conclusion.ensures.goal c.boundary_at.ensures.boundary

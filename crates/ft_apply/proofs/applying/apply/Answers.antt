@@ -7,9 +7,10 @@ use Rattle.ft_judge.specs.Meaning.{thesis_in}
 use Rattle.ft_calls.specs.Answers.{IsAnswer, Answers}
 use Rattle.ft_calls.specs.Forming.{Gives}
 use Rattle.ft_calls.proofs.Answering.{rests}
+use Rattle.ft_calls.proofs.Later.{answers_later}
 use Rattle.ft_apply.specs.Named.{entries_of, statements_of, rule_of}
 use Rattle.ft_apply.proofs.Fitted.{theses_stay}
-use Rattle.ft_apply.proofs.Calls.{answers_after, formed_answered, formed_fault}
+use Rattle.ft_apply.proofs.Calls.{formed_answered, formed_fault}
 use Rattle.ft_apply.proofs.Concluded.{rule_step, rule_kind}
 use Rattle.ft_apply.proofs.applying.apply.Goals as goal
 
@@ -36,5 +37,5 @@ conclude-requires-clause-answer c =
 
 pub returns-clause-answers : goal.returns-clause-answers
 returns-clause-answers c =
-    answers_after c.args.k.now c.applied_formed.new.k c.conclude.new.k (by_rule c.args.r c.args.args.now) c.conclude.result c.in-Ok.ensures.stays
+    answers_later c.args.k.now c.applied_formed.new.k c.conclude.new.k (by_rule c.args.r c.args.args.now) c.conclude.result c.in-Ok.ensures.stays
     (subst (λ js. Answers c.applied_formed.new.k (by_rule c.args.r js) c.conclude.result c.conclude.new.k) c.in_ok-of.ensures c.conclude.ensures.answers)

@@ -7,10 +7,11 @@ use Rattle.ft_judge.specs.Meaning.{thesis_in}
 use Rattle.ft_calls.specs.Answers.{IsAnswer, Answers}
 use Rattle.ft_calls.specs.Forming.{Gives}
 use Rattle.ft_calls.proofs.Answering.{rests}
+use Rattle.ft_calls.proofs.Later.{answers_later}
 use Rattle.ft_apply.specs.Named.{entry_of, entries_of, statements_of, rule_of}
 use Rattle.ft_apply.proofs.Naming.{set_found}
 use Rattle.ft_apply.proofs.Fitted.{theses_stay, boundary_stays}
-use Rattle.ft_apply.proofs.Calls.{answers_after, formed_answered, formed_fault}
+use Rattle.ft_apply.proofs.Calls.{formed_answered, formed_fault}
 use Rattle.ft_apply.proofs.Concluded.{with_step, with_kind}
 use Rattle.ft_apply.proofs.applying.apply_with.Goals as goal
 
@@ -43,5 +44,5 @@ conclude-requires-clause-answer c =
 
 pub returns-clause-answers : goal.returns-clause-answers
 returns-clause-answers c =
-    answers_after c.args.k.now c.applied_with_formed.new.k c.conclude.new.k (by_rulewith c.args.r c.args.b c.args.args.now) c.conclude.result c.in-Ok.ensures.stays
+    answers_later c.args.k.now c.applied_with_formed.new.k c.conclude.new.k (by_rulewith c.args.r c.args.b c.args.args.now) c.conclude.result c.in-Ok.ensures.stays
     (subst (λ js. Answers c.applied_with_formed.new.k (by_rulewith c.args.r c.args.b js) c.conclude.result c.conclude.new.k) c.in_ok-of.ensures c.conclude.ensures.answers)

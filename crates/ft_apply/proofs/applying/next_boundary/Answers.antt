@@ -5,9 +5,10 @@ use Rattle.ft_items.specs.Rows.{sets}
 use Rattle.ft_judge.specs.Meaning.{boundary_in}
 use Rattle.ft_calls.specs.Answers.{IsAnswer, Answers}
 use Rattle.ft_calls.proofs.Answering.{rests}
+use Rattle.ft_calls.proofs.Later.{answers_later}
 use Rattle.ft_apply.specs.Named.{entries_of, rule_of}
 use Rattle.ft_apply.proofs.Fitted.{theses_stay}
-use Rattle.ft_apply.proofs.Calls.{answers_after, formed_answered, formed_fault}
+use Rattle.ft_apply.proofs.Calls.{formed_answered, formed_fault}
 use Rattle.ft_apply.proofs.Instancing.{inst_resolved, inst_kind}
 use Rattle.ft_apply.proofs.applying.next_boundary.Goals as goal
 
@@ -32,5 +33,5 @@ conclude_boundary-requires-clause-answer c =
 
 pub returns-clause-answers : goal.returns-clause-answers
 returns-clause-answers c =
-    answers_after c.args.k.now c.next_formed.new.k c.conclude_boundary.new.k (by_inst c.args.r c.args.args.now) c.conclude_boundary.result c.in-Ok.ensures.stays
+    answers_later c.args.k.now c.next_formed.new.k c.conclude_boundary.new.k (by_inst c.args.r c.args.args.now) c.conclude_boundary.result c.in-Ok.ensures.stays
     (subst (λ js. Answers c.next_formed.new.k (by_inst c.args.r js) c.conclude_boundary.result c.conclude_boundary.new.k) c.in_ok-of.ensures c.conclude_boundary.ensures.answers)

@@ -108,7 +108,7 @@ fn boundary_after(k: &Kernel, r: RuleId, count: usize) -> Result<Boundary, Memor
     k.boundary_at(rule.conclusion).copy()
 }
 
-/// The conclusion of the rule at the arguments, filled with the symbol at their heads for the rule of a symbol.
+/// The conclusion of the rule at the arguments: of a rule for a type or a term, the symbol at their heads.
 pub fn apply(alloc: Global, k: &mut Kernel, r: RuleId, args: &[J]) -> Result<J, Fault>
     requires rule { r < length (rules_in k.old.items) }
     requires arguments { AreThesesOf k.old args.now }
@@ -212,7 +212,7 @@ fn filled(k: &mut Kernel, r: RuleId, goal: &Goal, heads: &[Arg]) -> Result<Form,
     }
 }
 
-/// The same, where the boundary is that of the conclusion at the arguments.
+/// The same, where the given boundary is that of the conclusion at the arguments.
 pub fn apply_with(
     alloc: Global,
     k: &mut Kernel,
@@ -236,7 +236,7 @@ pub fn apply_with(
     conclude(k, plain(alloc, form), set, step)
 }
 
-// The conclusion at the arguments, which fit the premises, where the boundary is that of the conclusion.
+// The conclusion at the arguments, which fit the premises, where the given boundary is its own.
 fn applied_with_formed(
     alloc: Global,
     k: &mut Kernel,

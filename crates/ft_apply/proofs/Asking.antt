@@ -96,8 +96,8 @@ pub fitting_refused : (s t u : State) (ps : List (ℕ × Arg)) (ms js : List ℕ
     → Refuses u.trees (one_argument_checks (boundary_at t.trees ps (boundary_of_met t.items m)) (entry_of t.items j).statement) q → Refuses u.trees (argument_checks (boundary_at s.trees ps) (premises_in s.items ms) (statements_of s.items js)) q
 fitting_refused s t u ps ms js n m j q p b l k e f h = (
   p.rest
-  ∙ split_one s ps ms js n m j l k e f
-  ∙ ap (λ o. first_of o (first_refusal (checked s ps (drop (suc n) ms) (drop (suc n) js)))) (ap first_refusal (sym (one_stays s t ps m j p.stays b)) ∙ h.0),
+      ∙ split_one s ps ms js n m j l k e f
+      ∙ ap (λ o. first_of o (first_refusal (checked s ps (drop (suc n) ms) (drop (suc n) js)))) (ap first_refusal (sym (one_stays s t ps m j p.stays b)) ∙ h.0),
   h.1,
 )
 

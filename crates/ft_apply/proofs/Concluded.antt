@@ -53,7 +53,7 @@ pub all_counted : (ts : List Expression) (items : List Item) (r : ℕ) (ms : Lis
     → Stops ts (all_argument_checks (rule_of items r).premises (statements_of items js)) (Refused (ArgumentCount (length js) (length ms)))
 all_counted ts items r ms p js R n = (
   ap (λ b. cond b (first_refusal (given_checks ps xs)) (Some (reference.ArgumentCount (length xs) (length ps)))) (other (eqb_tells (length xs) (length ps)))
-  ∙ ap₂ (λ a b. Some (reference.ArgumentCount a b)) (as_many items js) many,
+      ∙ ap₂ (λ a b. Some (reference.ArgumentCount a b)) (as_many items js) many,
   tt,
 )
   where
@@ -145,8 +145,8 @@ pub rule_big : (ts : List Expression) (r : ℕ) (R : Rule) (xs : List Statement)
     → (AllSmall (claim_expressions (concluded R r xs)) → P) → BigOr P f → Stops ts (rule_checks r R xs) (faults.refused f)
 rule_big ts r R xs P syntax.TooBig t h k n = (
   both_pass (all_argument_checks R.premises xs) (forms_result (rule_instance r R xs)) h
-  ∙ ap (λ o. first_refusal (forms_result o)) (rule_row r R xs t h)
-  ∙ forms_fail (claim_expressions (concluded R r xs)) (λ s. n (k s)),
+      ∙ ap (λ o. first_refusal (forms_result o)) (rule_row r R xs t h)
+      ∙ forms_fail (claim_expressions (concluded R r xs)) (λ s. n (k s)),
   tt,
 )
 rule_big ts r R xs P syntax.Memory t h k n = tt
@@ -201,9 +201,9 @@ pub with_filled_big : (ts : List Expression) (r : ℕ) (R : Rule) (b : Statement
     → BigOr (AllSmall (claim_expressions (concluded R r xs))) f → Stops ts (rule_with_checks r R b xs) (faults.refused f)
 with_filled_big ts r R b xs syntax.TooBig t k h s l n = (
   with_passed r R b xs h s
-  ∙ both_pass (boundary_checks b (plain (conclusion_at R (heads xs)))) (forms_result (rule_instance_with r R b xs)) l
-  ∙ ap (λ o. first_refusal (forms_result o)) (with_row r R b xs t k h l)
-  ∙ forms_fail (claim_expressions (concluded R r xs)) n,
+      ∙ both_pass (boundary_checks b (plain (conclusion_at R (heads xs)))) (forms_result (rule_instance_with r R b xs)) l
+      ∙ ap (λ o. first_refusal (forms_result o)) (with_row r R b xs t k h l)
+      ∙ forms_fail (claim_expressions (concluded R r xs)) n,
   tt,
 )
 with_filled_big ts r R b xs syntax.Memory t k h s l n = tt

@@ -76,7 +76,7 @@ pub next_count : (ts : List Expression) (items : List Item) (r : ℕ) (ms : List
     → Refuses ts (instance_checks (rule_of items r) (statements_of items js)) (ArgumentCount (length js) (length ms))
 next_count ts items r ms p js R l = (
   ap (λ b. cond b rest (Some (reference.ArgumentCount (length xs) (length ps)))) (lt-leb (length xs) (length ps) more)
-  ∙ ap₂ (λ a b. Some (reference.ArgumentCount a b)) (as_many items js) (premises_many items r ms p R),
+      ∙ ap₂ (λ a b. Some (reference.ArgumentCount a b)) (as_many items js) (premises_many items r ms p R),
   tt,
 )
   where
@@ -191,9 +191,9 @@ next_big s t u r ms p js ps b f R a l e h i n small = go f small
         → Stops u.trees (instance_checks (rule_of s.items r) xs) (faults.refused f)
     go Rattle.ft_syntax.specs.declared.syntax.SynFault.TheVariants.TooBig small = (
       after_count (rule_of s.items r) xs (counted s.items r ms p js R l)
-      ∙ both_pass (given_checks (first_premises (rule_of s.items r) xs) xs) (forms_result (boundary_instance (rule_of s.items r) xs)) (subst (λ ps. first_refusal (given_checks ps xs) ≡ None) (sym (first_is s.items r ms p js R)) h)
-      ∙ ap (λ o. first_refusal (forms_result o)) row
-      ∙ forms_fail (expressions (boundary_at t.trees ps (boundary_in t.trees b))) small,
+          ∙ both_pass (given_checks (first_premises (rule_of s.items r) xs) xs) (forms_result (boundary_instance (rule_of s.items r) xs)) (subst (λ ps. first_refusal (given_checks ps xs) ≡ None) (sym (first_is s.items r ms p js R)) h)
+          ∙ ap (λ o. first_refusal (forms_result o)) row
+          ∙ forms_fail (expressions (boundary_at t.trees ps (boundary_in t.trees b))) small,
       tt,
     )
     go Rattle.ft_syntax.specs.declared.syntax.SynFault.TheVariants.Memory small = tt

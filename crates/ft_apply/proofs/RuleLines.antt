@@ -91,8 +91,8 @@ met_same items m d g h = go (nth (metavariables_in items) m) refl (sym found ∙
     go (Some x) e k = (
       nth_within (metavariables_in items) m x e,
       ap (λ (d : Declared). d.boundary) (sym (same_Some (declared x (nth (entries_in items) x.1)) d k))
-      ∙ stated x (nth (entries_in items) x.1)
-      ∙ sym (ap (boundary_or items) e),
+          ∙ stated x (nth (entries_in items) x.1)
+          ∙ sym (ap (boundary_or items) e),
     )
 
 -- the premises that metavariables are declared with

@@ -32,12 +32,7 @@ use ft_syntax::{Arg, Instance, SynFault, Terms};
 use std::alloc::Global;
 
 /// The boundary of the premise after the arguments, or of the conclusion where no premise is left.
-pub fn next_boundary(
-    alloc: Global,
-    k: &mut Kernel,
-    r: RuleId,
-    args: &[J],
-) -> Result<B, Fault>
+pub fn next_boundary(alloc: Global, k: &mut Kernel, r: RuleId, args: &[J]) -> Result<B, Fault>
     requires rule { r < length (rules_in k.old.items) }
     requires arguments { AreThesesOf k.old args.now }
     ensures answers { Answers k.old (by_inst r args.now) result k.new }
@@ -54,12 +49,7 @@ pub fn next_boundary(
 }
 
 // The next boundary at the arguments, which fit the first premises.
-fn next_formed(
-    alloc: Global,
-    k: &mut Kernel,
-    r: RuleId,
-    args: &[J],
-) -> Result<Boundary, Fault>
+fn next_formed(alloc: Global, k: &mut Kernel, r: RuleId, args: &[J]) -> Result<Boundary, Fault>
     requires rule { r < length (rules_in k.old.items) }
     requires arguments { AreThesesOf k.old args.now }
     ensures within { IfOk result (λ b. BoundaryBelow (length k.new.trees) b) }
@@ -126,12 +116,7 @@ pub fn apply(alloc: Global, k: &mut Kernel, r: RuleId, args: &[J]) -> Result<J, 
 }
 
 // The conclusion at the arguments, which fit the premises.
-fn applied_formed(
-    alloc: Global,
-    k: &mut Kernel,
-    r: RuleId,
-    args: &[J],
-) -> Result<Form, Fault>
+fn applied_formed(alloc: Global, k: &mut Kernel, r: RuleId, args: &[J]) -> Result<Form, Fault>
     requires rule { r < length (rules_in k.old.items) }
     requires arguments { AreThesesOf k.old args.now }
     ensures within { IfOk result (λ f. FormBelow (length k.new.trees) f) }
@@ -213,13 +198,7 @@ fn filled(k: &mut Kernel, r: RuleId, goal: &Goal, heads: &[Arg]) -> Result<Form,
 }
 
 /// The same, where the given boundary is that of the conclusion at the arguments.
-pub fn apply_with(
-    alloc: Global,
-    k: &mut Kernel,
-    r: RuleId,
-    b: B,
-    args: &[J],
-) -> Result<J, Fault>
+pub fn apply_with(alloc: Global, k: &mut Kernel, r: RuleId, b: B, args: &[J]) -> Result<J, Fault>
     requires rule { r < length (rules_in k.old.items) }
     requires boundary { IsBoundaryOf k.old b }
     requires arguments { AreThesesOf k.old args.now }
@@ -250,9 +229,9 @@ fn applied_with_formed(
     ensures within { IfOk result (λ f. FormBelow (length k.new.trees) f) }
     ensures formed { Formed (plain_in k.new.trees) k.new.trees
         (rule_with_checks r (rule_of k.old.items r) (entry_of k.old.items b).statement
-            (statements_of k.old.items args.now))
+        (statements_of k.old.items args.now))
         (rule_instance_with r (rule_of k.old.items r) (entry_of k.old.items b).statement
-            (statements_of k.old.items args.now)) result }
+        (statements_of k.old.items args.now)) result }
     ensures stays { Stays k.old k.new }
 {
     let given = match all_arguments(alloc, k, r, args) {

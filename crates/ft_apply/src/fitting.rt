@@ -31,12 +31,7 @@ pub(crate) struct Given {
 }
 
 // The boundary of a premise, at the instance.
-fn premise_at(
-    alloc: Global,
-    k: &mut Kernel,
-    m: M,
-    i: &Instance,
-) -> Result<Boundary, SynFault>
+fn premise_at(alloc: Global, k: &mut Kernel, m: M, i: &Instance) -> Result<Boundary, SynFault>
     requires met { m < length (metavariables_in k.old.items) }
     requires pairs { PairsBelow (length k.old.trees) i.now.pairs }
     ensures within { IfOk result (λ b. BoundaryBelow (length k.new.trees) b) }

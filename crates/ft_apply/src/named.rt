@@ -58,11 +58,7 @@ pub(crate) fn sets(alloc: Global, k: &Kernel, args: &[J]) -> Result<Assume, Memo
 
 /// The instance that has arguments for premises.
 #[tactic(auto, using(crate::proofs::Pairing::pairing_start, crate::proofs::Pairing::pairing_more, crate::proofs::Pairing::pairing_end))]
-pub(crate) fn instance(
-    alloc: Global,
-    premises: &[M],
-    arguments: &[Arg],
-) -> Result<Instance, Memory>
+pub(crate) fn instance(alloc: Global, premises: &[M], arguments: &[Arg]) -> Result<Instance, Memory>
     requires { length premises.now ≡ length arguments.now }
     ensures { IfOk result (λ i. i.pairs ≡ zip premises.now arguments.now) }
 {

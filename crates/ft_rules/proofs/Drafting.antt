@@ -158,8 +158,8 @@ outside_is items d a o h = ap (λ R. first_outside R a.set) (atoms_are items d.p
 pub premise_refused : (s t : State) (d e : Drafted) (n : Name) (b : ℕ) (a : Assertion) (i : ℕ) (x : AtomValue) → Some (atom_of x) ≡ first_outside (map met d.premises) a.set → i ≡ suc (length d.premises) → t ≡ s → e ≡ d → Premises s d n b a (Err (OpenPremise i x)) t e
 premise_refused s t d e n b a i x h l q r = (
   ap (λ o. (outcome (option_map (reference.OpenPremise (suc (length (mets_of s.items d.premises)))) o) (W, D) (add_metavariable W n (Some a), record D { premises = D.premises ++ reference.next_metavariable W n a ∷ [] }) (reference.next_metavariable W n a)).answer)
-  (outside_is s.items d a (Some (atom_of x)) h)
-  ∙ ap (λ i. Err (reference.OpenPremise i (atom_of x))) (ap suc (as_many s.items d.premises) ∙ sym l),
+      (outside_is s.items d a (Some (atom_of x)) h)
+      ∙ ap (λ i. Err (reference.OpenPremise i (atom_of x))) (ap suc (as_many s.items d.premises) ∙ sym l),
   q,
   r,
 )

@@ -72,7 +72,6 @@ impl Model for Draft {
 }
 
 // Why no rule of the name can be declared.
-#[tactic(auto, using(crate::proofs::Drafting::name_taken, crate::proofs::Drafting::too_many, crate::proofs::Drafting::name_free))]
 fn free_name(k: &Kernel, name: &Name) -> Result<(), RuleFault>
     ensures { IsNameFault (name_fault (declared_by k.now.items) name.now) result }
 {

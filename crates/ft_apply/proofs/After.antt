@@ -1,5 +1,5 @@
 -- The boundary after some premises of a rule of the list, as it is read.
-use Rattle.std.proofs.Common.{◌≡◌, ◌∙◌, ℕ, zero, suc, ◌<◌, ◌≤◌, true, Some, List, [], ◌∷◌, length, drop, get_or, refl, sym, ap, subst, drop_of_length-le}
+use Rattle.std.proofs.Common.{◌≡◌, ◌∙◌, ℕ, zero, suc, ◌<◌, ◌≤◌, true, Some, List, [], ◌∷◌, length, drop, get_or, refl, sym, ap, drop_of_length-le}
 use Rattle.std.specs.Prelude.{Result, Ok, Err, IfOk}
 use Rattle.ft_base.specs.declared.memory.Memory.{Memory}
 use Rattle.ft_theory.specs.Expressions.{Expression}

@@ -1,18 +1,13 @@
 -- Checks of the parts of a call, one after the other.
-use Rattle.std.proofs.Common.{◌≡◌, ◌∙◌, ℕ, zero, suc, ◌<◌, ◌≤◌, Bool, true, false, cond, Option, Some, None, List, [], ◌∷◌, ◌++◌, length, drop, get_or, refl, sym, ap, ap₂, subst, drop_of_length-le}
-use Rattle.std.specs.Prelude.{Result, Ok, Err, ⊤}
-use Rattle.std.proofs.Math.Path.{fun_ext}
-use Rattle.ft_common.proofs.Options.{none_some}
+use Rattle.std.proofs.Common.{◌≡◌, ◌∙◌, ℕ, suc, ◌<◌, ◌≤◌, None, List, [], ◌∷◌, ◌++◌, length, drop, get_or, refl, sym, ap, ap₂, drop_of_length-le}
 use Rattle.ft_theory.specs.Expressions.{Expression, free}
 use Rattle.ft_theory.specs.Statements.{Statement, act_statement}
-use Rattle.ft_items.specs.Item.{Item}
-use Rattle.ft_reference.specs.Refusals.{Check, first_refusal, AllSmall, forms_all, forms_statement, expressions}
+use Rattle.ft_reference.specs.Refusals.{Check, first_refusal, AllSmall, forms_all, forms_statement}
 use Rattle.ft_reference.specs.Refusals as reference
 use Rattle.ft_reference.specs.Declare.{first_of}
 use Rattle.ft_reference.specs.Compare.{fit_checks, argument_checks}
 use Rattle.ft_nucleus_laws.proofs.Lists.{first_append}
-use Rattle.ft_syntax.specs.Table.{Extends}
-use Rattle.ft_syntax.specs.Instances.{instance_in, PairsBelow}
+use Rattle.ft_syntax.specs.Instances.{PairsBelow}
 use Rattle.ft_syntax.specs.Laws.{instance_extends}
 use Rattle.ft_syntax.specs.declared.syntax.Arg.{Arg}
 use Rattle.ft_syntax.specs.declared.syntax.SynFault.{SynFault}
@@ -22,7 +17,7 @@ use Rattle.ft_judge.specs.declared.fault.Refusal.{Refusal}
 use Rattle.ft_judge.specs.declared.fault.Fault.{Fault}
 use Rattle.ft_judge.specs.declared.fault.Fault.TheVariants.{Refused, Memory}
 use Rattle.ft_kernel.specs.State.{State}
-use Rattle.ft_calls.specs.Answers.{refusal_in, RefusalBelow, Stays}
+use Rattle.ft_calls.specs.Answers.{Stays}
 use Rattle.ft_calls.specs.Forming.{Refuses}
 use Rattle.ft_apply.specs.Named.{entry_of, statements_of, boundary_of_met, premises_in}
 use Rattle.ft_apply.specs.Outcomes.{BigOr, Stops, one_argument_checks}

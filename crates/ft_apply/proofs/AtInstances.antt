@@ -1,14 +1,13 @@
 -- Expressions and boundaries at an instance, while the table goes on.
 use Rattle.std.proofs.Common.{◌≡◌, ◌∙◌, ℕ, zero, suc, ◌<◌, ◌≤◌, List, [], ◌∷◌, ◌++◌, length, drop, get_or, map, refl, sym, ap, ap₂, subst, append_assoc, append-nil, drop_of_length-le}
-use Rattle.std.specs.Prelude.{Result, Ok, Err}
 use Rattle.std.proofs.lemmas.List.{map-append}
-use Rattle.ft_theory.specs.Expressions.{Expression, instantiate, free, act}
-use Rattle.ft_theory.specs.Statements.{Claim, is_type, has_type, equal_types, equal_terms, type_goal, term_goal, type_equation_goal, term_equation_goal, Statement, plain, abstracted, map_claim, map_statement}
+use Rattle.ft_theory.specs.Expressions.{Expression, instantiate}
+use Rattle.ft_theory.specs.Statements.{Claim, term_goal, type_equation_goal, term_equation_goal, plain, abstracted, map_claim, map_statement}
 use Rattle.ft_theory.specs.Small.{IsSmall}
 use Rattle.ft_reference.specs.Refusals.{AllSmall, claim_expressions, expressions}
 use Rattle.ft_syntax.specs.Table.{tree, Extends, AllBelow}
 use Rattle.ft_syntax.specs.Instances.{instance_in, PairsBelow}
-use Rattle.ft_syntax.specs.Laws.{extends_same, extends_trans, tree_extends, trees_extend, all_below_extends, all_push, one_below, instance_extends, pairs_below_extends}
+use Rattle.ft_syntax.specs.Laws.{extends_trans, tree_extends, trees_extend, all_below_extends, all_push, one_below, instance_extends, pairs_below_extends}
 use Rattle.ft_syntax.specs.declared.syntax.Arg.{Arg}
 use Rattle.ft_judge.specs.Meaning.{goal_in, under, boundary_in, GoalBelow}
 use Rattle.ft_judge.specs.Laws.{goal_extends}

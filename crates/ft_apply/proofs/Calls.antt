@@ -1,11 +1,10 @@
 -- What calls of rules answer, by what their parts formed.
-use Rattle.std.proofs.Common.{◌≡◌, ◌∙◌, ℕ, Bool, true, false, cond, ◌&&◌, Option, Some, None, List, [], ◌∷◌, ◌++◌, length, refl, sym, ap, ap₂, subst}
-use Rattle.std.specs.Prelude.{Result, Ok, Err}
+use Rattle.std.proofs.Common.{◌≡◌, ◌∙◌, true, Option, Some, None, List, ◌++◌, sym, ap, subst}
+use Rattle.std.specs.Prelude.{Ok, Err}
 use Rattle.ft_theory.specs.Statements.{Statement}
-use Rattle.ft_theory.specs.Rules.{Rule}
-use Rattle.ft_items.specs.Sets.{Atom, unions}
-use Rattle.ft_items.specs.Item.{Item, Stated, entry}
-use Rattle.ft_items.specs.Store.{Assertion, Resolved, resolve}
+use Rattle.ft_items.specs.Sets.{Atom}
+use Rattle.ft_items.specs.Item.{Stated}
+use Rattle.ft_items.specs.Store.{Resolved, resolve}
 use Rattle.ft_items.specs.Rows.{conclusion, result_set}
 use Rattle.ft_items.specs.Good.{of_kind}
 use Rattle.ft_reference.specs.Refusals.{Check, first_refusal, AllSmall, expressions, forms_result}
@@ -14,7 +13,7 @@ use Rattle.ft_judge.specs.declared.fault.Fault.{Fault}
 use Rattle.ft_judge.specs.declared.fault.Fault.TheVariants.{Refused, Memory}
 use Rattle.ft_kernel.specs.State.{State}
 use Rattle.ft_calls.specs.Answers.{IsAnswer, Answers, Stays}
-use Rattle.ft_calls.specs.Forming.{Gives, Refuses}
+use Rattle.ft_calls.specs.Forming.{Gives}
 use Rattle.ft_calls.proofs.Answering.{store, declarations, rests, answered_ok, refused}
 use Rattle.ft_calls.proofs.Later.{answer_before, forms_pass}
 use Rattle.ft_apply.specs.Outcomes.{Stops}

@@ -1,17 +1,17 @@
 -- Comparison of a thesis with a boundary over a table, as checks of the reference.
-use Rattle.std.proofs.Common.{◌≡◌, ◌≢◌, ◌∙◌, ℕ, zero, suc, ◌+◌, ◌<◌, Bool, true, false, cond, ◌⊎◌, inl, inr, Option, Some, None, List, [], ◌∷◌, ◌++◌, length, map, refl, sym, ap, ap₂, subst, arith}
-use Rattle.std.specs.Prelude.{Result, Ok, Err, IsOk, ⊤, nat_eq}
+use Rattle.std.proofs.Common.{◌≡◌, ◌≢◌, ◌∙◌, ℕ, zero, suc, ◌+◌, ◌<◌, Bool, true, false, cond, ◌⊎◌, inl, inr, Some, List, [], ◌∷◌, ◌++◌, length, map, refl, sym, ap, subst, arith}
+use Rattle.std.specs.Prelude.{Result, Ok, Err, ⊤, nat_eq}
 use Rattle.std.proofs.lemmas.Bool.Decides.{eqb_tells}
 use Rattle.ft_theory.specs.Expressions.{Expression}
-use Rattle.ft_theory.specs.Statements.{Claim, Statement, plain, abstracted, boundary_of_claim, boundary_of}
+use Rattle.ft_theory.specs.Statements.{Claim, plain, boundary_of_claim, boundary_of}
 use Rattle.ft_items.specs.Equal.{equal_expressions}
 use Rattle.ft_sound.proofs.EqualLemmas.{expression_true, expression_self}
 use Rattle.ft_reference.specs.Refusals.{Check, first_refusal}
 use Rattle.ft_reference.specs.Refusals as reference
-use Rattle.ft_reference.specs.Compare.{type_check, side_check, same_form, is_alike, goal_checks, domain_checks, boundary_checks, fit_checks}
+use Rattle.ft_reference.specs.Compare.{type_check, side_check, same_form, is_alike, goal_checks, domain_checks, fit_checks}
 use Rattle.ft_syntax.specs.Table.{tree, AllBelow}
 use Rattle.ft_judge.specs.Meaning.{claim_in, goal_in, under, thesis_in, boundary_in, FormBelow, GoalBelow, ThesisBelow, BoundaryBelow}
-use Rattle.ft_judge.specs.Fits.{Comparison, types, sides, pair_of, refusal_of, differ, domain_comparisons, form_comparisons, comparisons, IsFormFor, IsSameForm, IsFirstDifference}
+use Rattle.ft_judge.specs.Fits.{Comparison, types, sides, pair_of, refusal_of, domain_comparisons, form_comparisons, comparisons, IsFormFor, IsSameForm, IsFirstDifference}
 use Rattle.ft_judge.specs.declared.judgement.Form.{Form}
 use Rattle.ft_judge.specs.declared.judgement.Form.TheVariants.{Ty, Tm, EqTy, EqTm}
 use Rattle.ft_judge.specs.declared.judgement.Goal.{Goal}
@@ -21,8 +21,6 @@ use Rattle.ft_judge.specs.declared.judgement.Boundary.{Boundary}
 use Rattle.ft_judge.specs.declared.fault.Differ.{Differ}
 use Rattle.ft_judge.specs.declared.fault.Refusal.{Refusal}
 use Rattle.ft_judge.specs.declared.fault.Refusal.TheVariants.{WrongForm}
-use Rattle.ft_calls.specs.Answers.{refusal_in, RefusalBelow}
-use Rattle.ft_calls.specs.Forming.{Refuses}
 use Rattle.ft_apply.specs.Outcomes.{Tests}
 
 -- the check that a comparison is

@@ -1,27 +1,24 @@
 -- The conclusion of a rule at arguments.
-use Rattle.std.proofs.Common.{◌≡◌, ◌≢◌, ◌∙◌, ◌⊎◌, inl, inr, not, ℕ, zero, suc, ◌<◌, ◌≤◌, Bool, true, false, cond, nat_eq, ◌&&◌, Option, Some, None, List, [], ◌∷◌, ◌++◌, length, refl, sym, ap, ap₂, subst, arith}
+use Rattle.std.proofs.Common.{◌≡◌, ◌≢◌, ◌∙◌, ◌⊎◌, inl, inr, not, ℕ, ◌<◌, true, false, cond, nat_eq, ◌&&◌, Some, None, List, [], ◌∷◌, ◌++◌, length, refl, sym, ap, ap₂, subst}
 use Rattle.std.specs.Prelude.{Result, Ok, Err, ⊤}
 use Rattle.std.proofs.lemmas.Bool.{eq-eqb}
 use Rattle.std.proofs.lemmas.Bool.Decides.{eqb_tells}
-use Rattle.ft_theory.specs.Expressions.{Expression, free, symbol, instantiate}
+use Rattle.ft_theory.specs.Expressions.{Expression, symbol, instantiate}
 use Rattle.ft_theory.specs.Statements.{Claim, is_type, has_type, equal_types, equal_terms, type_goal, term_goal, type_equation_goal, term_equation_goal, Statement, plain, map_claim, fill_goal}
 use Rattle.ft_theory.specs.Rules.{Rule, instance_of, conclusion_at}
-use Rattle.ft_theory.specs.Small.{IsSmall}
 use Rattle.ft_items.specs.Item.{Item, by_rule, by_rulewith}
-use Rattle.ft_items.specs.Equal.{heads, equal_statements, is_thesis, is_plain}
-use Rattle.ft_items.specs.Store.{Assertion, store_of, resolve, rules_in, with_two, with_three, claim_in as claim_of}
+use Rattle.ft_items.specs.Equal.{heads, is_thesis, is_plain}
+use Rattle.ft_items.specs.Store.{Assertion, resolve, rules_in, with_two, with_three, claim_in as claim_of}
 use Rattle.ft_items.specs.Good.{Good, of_kind}
 use Rattle.ft_items.specs.Rows.{when, are_arguments, rule_instance, rule_instance_with}
-use Rattle.ft_reference.specs.Refusals.{Check, first_refusal, AllSmall, claim_expressions, expressions, forms_result, forms_statement}
+use Rattle.ft_reference.specs.Refusals.{Check, first_refusal, AllSmall, claim_expressions, forms_result, forms_statement}
 use Rattle.ft_reference.specs.Refusals as reference
 use Rattle.ft_reference.specs.Compare.{boundary_checks}
 use Rattle.ft_reference.specs.Checks.{all_argument_checks, rule_checks, rule_with_checks}
-use Rattle.ft_nucleus_laws.proofs.Lists.{asked, passed}
+use Rattle.ft_nucleus_laws.proofs.Lists.{passed}
 use Rattle.ft_nucleus_laws.proofs.Tests.{Theses, arguments_asked, boundary_asked}
-use Rattle.ft_syntax.specs.Table.{tree, Extends, arguments_in, ArgumentsBelow}
-use Rattle.ft_syntax.specs.Arguments.{as_arguments}
+use Rattle.ft_syntax.specs.Table.{Extends, arguments_in, ArgumentsBelow}
 use Rattle.ft_syntax.specs.Instances.{instance_in}
-use Rattle.ft_syntax.specs.Laws.{arguments_extend}
 use Rattle.ft_syntax.specs.declared.syntax.Arg.{Arg}
 use Rattle.ft_syntax.specs.declared.syntax.SynFault.{SynFault}
 use Rattle.ft_syntax.specs.declared.syntax.SynFault.TheVariants as syntax
@@ -34,13 +31,13 @@ use Rattle.ft_judge.specs.declared.fault.Refusal.{Refusal}
 use Rattle.ft_judge.specs.declared.fault.Refusal.TheVariants.{ArgumentCount, TooBig}
 use Rattle.ft_judge.specs.declared.fault.Fault.{Fault}
 use Rattle.ft_judge.specs.declared.fault.Fault.TheVariants.{Refused, Memory}
-use Rattle.ft_kernel.specs.State.{State, entry_at, statement_at, IsBoundaryOf}
+use Rattle.ft_kernel.specs.State.{State, statement_at, IsBoundaryOf}
 use Rattle.ft_calls.specs.Forming.{Gives, Refuses, plain_in, plain_goal_in}
 use Rattle.ft_calls.proofs.Answering.{store, entry_in}
 use Rattle.ft_apply.specs.Named.{entry_of, entries_of, statements_of, premises_in, AreThesesOf, rule_of}
 use Rattle.ft_apply.specs.Outcomes.{BigOr, Stops, Asks, Tests, Formed, given_checks}
 use Rattle.ft_apply.specs.Instances.{goal_at, filled_at}
-use Rattle.ft_apply.proofs.Naming.{entry_found, statement_found, each_named, theses_of, theses_are, as_many}
+use Rattle.ft_apply.proofs.Naming.{entry_found, statement_found, each_named, theses_of, as_many}
 use Rattle.ft_apply.proofs.RuleLines.{IsRuleOf, rule_resolved}
 use Rattle.ft_apply.proofs.Asking.{both_pass, refused_first, refused_later}
 use Rattle.ft_apply.proofs.Instancing.{premises_count}

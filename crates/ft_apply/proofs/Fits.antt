@@ -1,17 +1,16 @@
 -- What one argument's comparison says of its checks.
-use Rattle.std.proofs.Common.{◌≡◌, ◌∙◌, ℕ, Some, None, sym, ap, ap₂, subst}
+use Rattle.std.proofs.Common.{◌≡◌, ◌∙◌, ℕ, Some, sym, ap, ap₂, subst}
 use Rattle.std.specs.Prelude.{Result, Ok, Err, ⊤}
 use Rattle.ft_theory.specs.Statements.{Statement}
 use Rattle.ft_items.specs.Item.{Name}
 use Rattle.ft_items.specs.Store.{nth, metavariables_in}
-use Rattle.ft_reference.specs.Refusals.{AllSmall, expressions, forms_statement, first_refusal}
+use Rattle.ft_reference.specs.Refusals.{AllSmall, expressions, forms_statement}
 use Rattle.ft_reference.specs.Compare.{fit_checks}
 use Rattle.ft_judge.specs.Meaning.{thesis_in, boundary_in}
 use Rattle.ft_judge.specs.declared.judgement.Thesis.{Thesis}
 use Rattle.ft_judge.specs.declared.judgement.Boundary.{Boundary}
 use Rattle.ft_judge.specs.declared.fault.Refusal.{Refusal}
 use Rattle.ft_kernel.specs.State.{State, statement_at}
-use Rattle.ft_calls.specs.Answers.{Stays}
 use Rattle.ft_apply.specs.Named.{entry_of, boundary_of_met}
 use Rattle.ft_apply.specs.Outcomes.{Tests, one_argument_checks}
 use Rattle.ft_apply.proofs.Naming.{statement_found}

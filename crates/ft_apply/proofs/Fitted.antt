@@ -1,20 +1,18 @@
 -- Theses as arguments: what their heads and their instance are over a table that goes on.
-use Rattle.std.proofs.Common.{◌≡◌, ◌∙◌, ℕ, ◌<◌, true, false, Some, List, [], ◌∷◌, length, refl, sym, ap, ap₂, subst}
+use Rattle.std.proofs.Common.{◌≡◌, ◌∙◌, ℕ, true, false, Some, List, [], ◌∷◌, length, sym, ap, subst}
 use Rattle.std.specs.List.{zip}
 use Rattle.ft_theory.specs.Expressions.{Expression, free}
-use Rattle.ft_theory.specs.Statements.{Statement, act_statement}
+use Rattle.ft_theory.specs.Statements.{act_statement}
 use Rattle.ft_theory.specs.Rules.{instance_of}
-use Rattle.ft_items.specs.Item.{Item}
 use Rattle.ft_items.specs.Equal.{is_thesis, heads}
 use Rattle.ft_items.specs.Store.{Assertion, nth, entries_in}
-use Rattle.ft_reference.specs.Refusals.{Check}
 use Rattle.ft_reference.specs.Compare.{argument_checks}
 use Rattle.ft_syntax.specs.Arguments.{as_arguments}
 use Rattle.ft_syntax.specs.Table.{Extends, arguments_in, ArgumentsBelow}
 use Rattle.ft_syntax.specs.Instances.{instance_in, PairsBelow}
-use Rattle.ft_syntax.specs.Laws.{arguments_extend, pairs_below_extends}
+use Rattle.ft_syntax.specs.Laws.{arguments_extend}
 use Rattle.ft_syntax.specs.declared.syntax.Arg.{Arg}
-use Rattle.ft_kernel.specs.State.{State, IsThesisOf, IsBoundaryOf}
+use Rattle.ft_kernel.specs.State.{State, IsBoundaryOf}
 use Rattle.ft_apply.specs.Named.{statements_of, premises_in, AreThesesOf}
 use Rattle.ft_apply.specs.Outcomes.{given_checks}
 use Rattle.ft_apply.specs.Instances.{boundary_at}

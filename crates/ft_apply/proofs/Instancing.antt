@@ -1,18 +1,17 @@
 -- The next boundary of a rule at arguments.
-use Rattle.std.proofs.Common.{◌≡◌, ◌∙◌, ℕ, zero, suc, ◌<◌, ◌≤◌, Bool, true, false, cond, nat_eq, nat_le, ◌&&◌, Option, Some, None, List, [], ◌∷◌, ◌++◌, length, take, drop, refl, sym, ap, ap₂, subst, arith}
-use Rattle.std.specs.Prelude.{Result, Ok, Err}
+use Rattle.std.proofs.Common.{◌≡◌, ◌∙◌, ℕ, zero, suc, ◌<◌, ◌≤◌, true, cond, nat_eq, nat_le, ◌&&◌, Option, Some, None, List, [], ◌∷◌, ◌++◌, length, take, drop, refl, sym, ap, ap₂, subst, arith}
+use Rattle.std.specs.Prelude.{Ok}
 use Rattle.std.proofs.lemmas.Bool.{and_from, le-leb, lt-leb, eq-eqb}
 use Rattle.ft_theory.specs.Expressions.{Expression, free}
 use Rattle.ft_theory.specs.Statements.{Statement, plain, act_statement}
 use Rattle.ft_theory.specs.Rules.{Rule, instance_of}
 use Rattle.ft_items.specs.Item.{Item, by_inst}
-use Rattle.ft_items.specs.Equal.{heads, fit_all}
-use Rattle.ft_items.specs.Store.{store_of, resolve, rules_in}
+use Rattle.ft_items.specs.Equal.{heads}
+use Rattle.ft_items.specs.Store.{resolve, rules_in}
 use Rattle.ft_items.specs.Good.{Good, of_kind}
-use Rattle.ft_items.specs.Rows.{statements, when, at_arguments, are_arguments, first_premises, later_premises, next_boundary, boundary_instance}
-use Rattle.ft_reference.specs.Refusals.{Check, first_refusal, AllSmall, expressions, forms_result, count_check}
+use Rattle.ft_items.specs.Rows.{when, at_arguments, are_arguments, first_premises, later_premises, next_boundary, boundary_instance}
+use Rattle.ft_reference.specs.Refusals.{first_refusal, AllSmall, expressions, forms_result}
 use Rattle.ft_reference.specs.Refusals as reference
-use Rattle.ft_reference.specs.Compare.{argument_checks}
 use Rattle.ft_reference.specs.Checks.{instance_checks, first_argument_checks}
 use Rattle.ft_nucleus_laws.proofs.Lists.{asked, passed}
 use Rattle.ft_nucleus_laws.proofs.Tests.{Theses, arguments_asked}

@@ -2,15 +2,14 @@
 use Rattle.std.proofs.Common.{◌≡◌, ◌∙◌, ℕ, zero, suc, ◌-◌, ◌<◌, ◌≤◌, Bool, true, false, cond, ◌&&◌, Option, Some, None, List, [], ◌∷◌, ◌++◌, length, drop, get_or, map, refl, sym, ap, ap₂, subst, arith, append_assoc, append-nil, drop-cons, drop_of_length-le}
 use Rattle.std.specs.Prelude.{option_map, option_and_then}
 use Rattle.std.proofs.lemmas.List.{map-append}
-use Rattle.std.proofs.lemmas.Bool.{and_from}
 use Rattle.ft_common.proofs.Options.{none_some}
 use Rattle.ft_theory.specs.Expressions.{Expression}
 use Rattle.ft_theory.specs.Statements.{Claim, is_type, has_type, equal_types, equal_terms, type_goal, term_goal, type_equation_goal, term_equation_goal, Statement, plain, abstracted, domain_count}
 use Rattle.ft_items.specs.Sets.{Atom, unions, union}
 use Rattle.ft_items.specs.Item.{Item}
 use Rattle.ft_items.specs.Equal.{is_thesis, has_head_claim, has_head, head_of_claim, head, heads}
-use Rattle.ft_items.specs.Store.{Assertion, each, entry_named, store_of, nth, entries_in}
-use Rattle.ft_items.specs.Rows.{statements, sets}
+use Rattle.ft_items.specs.Store.{Assertion, each, entry_named}
+use Rattle.ft_items.specs.Rows.{sets}
 use Rattle.ft_items.specs.Good.{all_theses}
 use Rattle.ft_syntax.specs.Arguments.{as_arguments, with_argument}
 use Rattle.ft_syntax.specs.Table.{tree, argument_in, arguments_in, BodyBelow, ArgumentsBelow}

@@ -1,10 +1,9 @@
 -- The instance that has arguments for premises.
-use Rattle.std.proofs.Common.{◌≡◌, ◌∙◌, ℕ, zero, suc, ◌<◌, ◌≤◌, Bool, true, false, cond, nat_eq, ◌&&◌, Option, Some, None, List, [], ◌∷◌, ◌++◌, length, drop, get_or, map, refl, sym, ap, ap₂, subst, append_assoc, append-nil, drop_of_length-le}
+use Rattle.std.proofs.Common.{◌≡◌, ◌∙◌, ℕ, suc, ◌<◌, ◌≤◌, Bool, true, false, cond, nat_eq, ◌&&◌, Option, Some, None, List, [], ◌∷◌, ◌++◌, length, drop, get_or, refl, sym, ap, ap₂, subst, append_assoc, append-nil, drop_of_length-le}
 use Rattle.std.specs.Prelude.{option_map, is_some}
 use Rattle.std.specs.List.{zip}
 use Rattle.std.proofs.Math.Path.{fun_ext}
-use Rattle.ft_theory.specs.Expressions.{Expression, Arguments}
-use Rattle.ft_theory.specs.Statements.{Statement}
+use Rattle.ft_theory.specs.Expressions.{Expression}
 use Rattle.ft_theory.specs.Rules.{instance_of}
 use Rattle.ft_items.specs.Item.{Item}
 use Rattle.ft_syntax.specs.Arguments.{with_argument}

@@ -1,9 +1,8 @@
 -- The rules and the metavariables of a good list, by their lines.
-use Rattle.std.proofs.Common.{◌≡◌, ◌∙◌, ℕ, zero, suc, ◌<◌, Bool, true, false, Option, Some, None, List, [], ◌∷◌, length, map, refl, sym, ap, ap₂, subst, arith}
+use Rattle.std.proofs.Common.{◌≡◌, ◌∙◌, ℕ, zero, suc, ◌<◌, true, false, Option, Some, None, List, [], ◌∷◌, length, map, refl, sym, ap, ap₂, subst}
 use Rattle.std.specs.Prelude.{option_map, option_and_then}
 use Rattle.std.proofs.lemmas.Option.{same_Some}
 use Rattle.ft_common.proofs.Options.{none_some}
-use Rattle.ft_theory.specs.Statements.{Statement}
 use Rattle.ft_theory.specs.Rules.{Rule, rule_at}
 use Rattle.ft_items.specs.Item.{Name, Item, variable, metavariable, rule, entry, shown}
 use Rattle.ft_items.specs.Equal.{is_thesis, is_plain}
@@ -11,7 +10,7 @@ use Rattle.ft_items.specs.Store.{Assertion, Declared, Store, premises_of, declar
 use Rattle.ft_items.specs.Good.{AllowedRule, GoodAfter, Good}
 use Rattle.ft_items.proofs.Lists.{Before, before_all, each_before, store_is, nth_within, nth_found, entries_all}
 use Rattle.ft_syntax.specs.Table.{AllBelow}
-use Rattle.ft_kernel.specs.State.{State, entry_at, IsBoundaryOf}
+use Rattle.ft_kernel.specs.State.{State, IsBoundaryOf}
 use Rattle.ft_apply.specs.Named.{entry_or, entry_of, boundary_or, boundary_of_met, premises_in, rule_or, rule_of}
 
 -- A rule that is declared has metavariables that are declared, and a plain boundary for its conclusion.

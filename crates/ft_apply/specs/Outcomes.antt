@@ -1,5 +1,5 @@
 -- What the parts of a call find out while the table goes on.
-use Rattle.std.specs.Prelude.{ℕ, ◌≡◌, ◌++◌, List, Option, Some, None, Result, Ok, Err}
+use Rattle.std.specs.Prelude.{ℕ, ◌≡◌, ◌++◌, List, Option, None, Result, Ok, Err}
 use Rattle.ft_theory.specs.Expressions.{Expression}
 use Rattle.ft_theory.specs.Statements.{Statement}
 use Rattle.ft_items.specs.Equal.{heads}

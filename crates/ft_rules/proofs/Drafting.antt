@@ -1,15 +1,15 @@
 -- Drafts over a list, and what their calls answer.
-use Rattle.std.proofs.Common.{◌≡◌, ◌⊎◌, inl, inr, ◌∙◌, ℕ, zero, suc, ◌+◌, ◌<◌, ◌≤◌, Bool, true, false, cond, nat_lt, Option, Some, None, List, [], ◌∷◌, ◌++◌, length, get_or, map, refl, sym, ap, ap₂, subst, arith}
-use Rattle.std.specs.Prelude.{option_map, option_and_then, Result, Ok, Err, ⊤, is_some, is_none}
+use Rattle.std.proofs.Common.{◌≡◌, ◌⊎◌, inl, inr, ◌∙◌, ℕ, zero, suc, ◌+◌, ◌<◌, ◌≤◌, true, false, nat_lt, Option, Some, None, List, [], ◌∷◌, ◌++◌, length, get_or, map, refl, sym, ap, ap₂, subst, arith}
+use Rattle.std.specs.Prelude.{option_map, option_and_then, Ok, Err, is_some, is_none}
 use Rattle.std.proofs.lemmas.Bool.{lt-ltb, le-ltb, cases_lt}
 use Rattle.std.proofs.lemmas.List.{length-map}
 use Rattle.std.proofs.lemmas.Option.{same_Some}
 use Rattle.ft_common.proofs.Options.{none_some}
 use Rattle.ft_theory.specs.Derivability.{FinitaryUpTo}
-use Rattle.ft_items.specs.Sets.{Atom, met, metavariables_only}
+use Rattle.ft_items.specs.Sets.{Atom, met}
 use Rattle.ft_items.specs.Equal.{is_thesis, is_plain}
 use Rattle.ft_items.specs.Item.{Name, Item, metavariable, rule}
-use Rattle.ft_items.specs.Store.{Assertion, Declared, Declarations, nth, each, entry_named, metavariable_named, declared_metavariable, declared_rule, add_metavariable, empty_store, store_of, declared_by, entries_in, metavariables_in, rules_in}
+use Rattle.ft_items.specs.Store.{Assertion, Declared, Declarations, nth, each, entry_named, metavariable_named, declared_metavariable, declared_rule, add_metavariable, empty_store, store_of, declared_by, metavariables_in, rules_in}
 use Rattle.ft_items.specs.Rows.{atoms}
 use Rattle.ft_items.specs.Good.{is_new, Good, Allowed}
 use Rattle.ft_items.proofs.Lists.{nth_end, nth_within, declared_last, store_is, entries_all}
@@ -22,7 +22,7 @@ use Rattle.ft_nucleus_laws.specs.Laws.{numbers, IsDraft, drafted}
 use Rattle.ft_nucleus_laws.proofs.Declaring.{drafts_grow, drafts_stay, finishes_allowed, finished_is_finitary}
 use Rattle.ft_kernel.specs.State.{State, with_item, entry_at, IsBoundaryOf, rule_names}
 use Rattle.ft_rules.specs.Drafts.{Drafted, declared_or, met_of, mets_of, draft_in, IsDraftOver, InOrder}
-use Rattle.ft_rules.specs.Answers.{Refuses, Begins, Premises, Finishes, IsNameFault}
+use Rattle.ft_rules.specs.Answers.{Begins, Premises, Finishes, IsNameFault}
 use Rattle.ft_rules.specs.declared.drafts.RuleFault.{RuleFault}
 use Rattle.ft_rules.specs.declared.drafts.RuleFault.TheVariants.{Duplicate, TooMany, OpenPremise, OpenConclusion, Memory}
 use Rattle.ft_rules.proofs.Own.{only_own}

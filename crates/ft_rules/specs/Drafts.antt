@@ -1,5 +1,5 @@
 -- The draft of a rule over a list of items.
-use Rattle.std.specs.Prelude.{ℕ, ◌≡◌, ◌≤◌, ◌<◌, Option, Some, None, List, [], ◌∷◌, length, get_or}
+use Rattle.std.specs.Prelude.{ℕ, ◌≤◌, ◌<◌, Option, Some, None, List, [], ◌∷◌, length, get_or}
 use Rattle.ft_theory.specs.Statements.{type_goal, plain}
 use Rattle.ft_items.specs.Item.{Name, Item}
 use Rattle.ft_items.specs.Store.{Declared, nth, declared_by}

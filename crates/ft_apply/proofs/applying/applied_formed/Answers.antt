@@ -5,7 +5,6 @@ use Rattle.ft_reference.specs.Refusals.{AllSmall, claim_expressions}
 use Rattle.ft_reference.specs.Checks.{rule_checks}
 use Rattle.ft_syntax.specs.Table.{arguments_in, ArgumentsBelow}
 use Rattle.ft_syntax.specs.Laws.{arguments_below_extends}
-use Rattle.ft_judge.specs.Meaning.{goal_in}
 use Rattle.ft_apply.specs.Named.{statements_of, rule_of}
 use Rattle.ft_apply.specs.Outcomes.{Stops}
 use Rattle.ft_apply.specs.Instances.{goal_at, filled_at}

@@ -1,21 +1,18 @@
-use Rattle.std.proofs.Common.{◌≡◌, ◌<◌, ◌∙◌, None, length, subst, sym, ap}
+use Rattle.std.proofs.Common.{◌≡◌, ◌<◌, ◌∙◌, length, subst, sym, ap}
 use Rattle.std.specs.Prelude.{Ok, Err, ⊤}
-use Rattle.ft_theory.specs.Statements.{plain}
-use Rattle.ft_theory.specs.Rules.{conclusion_at}
 use Rattle.ft_items.specs.Equal.{heads}
 use Rattle.ft_items.specs.Store.{rules_in}
-use Rattle.ft_reference.specs.Refusals.{AllSmall, claim_expressions, first_refusal}
+use Rattle.ft_reference.specs.Refusals.{AllSmall, claim_expressions}
 use Rattle.ft_reference.specs.Compare.{boundary_checks}
 use Rattle.ft_reference.specs.Checks.{rule_with_checks}
 use Rattle.ft_syntax.specs.Table.{arguments_in, ArgumentsBelow}
 use Rattle.ft_syntax.specs.Laws.{arguments_below_extends}
-use Rattle.ft_judge.specs.Meaning.{goal_in, boundary_in}
+use Rattle.ft_judge.specs.Meaning.{boundary_in}
 use Rattle.ft_calls.specs.Forming.{plain_goal_in}
 use Rattle.ft_apply.specs.Named.{entry_of, statements_of, rule_of}
 use Rattle.ft_apply.specs.Outcomes.{Stops, BigOr, Tests}
-use Rattle.ft_apply.specs.Instances.{goal_at, filled_at}
-use Rattle.ft_apply.proofs.Naming.{theses_are, statement_found}
-use Rattle.ft_apply.proofs.AtInstances.{stays_then}
+use Rattle.ft_apply.specs.Instances.{filled_at}
+use Rattle.ft_apply.proofs.Naming.{theses_are}
 use Rattle.ft_apply.proofs.Fitted.{boundary_stays}
 use Rattle.ft_apply.proofs.Concluded.{with_misfit, with_big, with_other, with_filled_big, with_formed, concluded, conclusion_there, filled_there, boundary_there, compared}
 use Rattle.ft_apply.proofs.applying.applied_with_formed.Goals as goal

@@ -1,4 +1,4 @@
-use Rattle.std.proofs.Common.{◌≡◌, ◌<◌, ◌≤◌, length, get_or, subst, sym, ap}
+use Rattle.std.proofs.Common.{◌≡◌, ◌<◌, ◌≤◌, length, get_or, subst, sym}
 use Rattle.ft_items.specs.Store.{metavariables_in}
 use Rattle.ft_syntax.specs.Table.{AllBelow}
 use Rattle.ft_syntax.specs.Laws.{one_below}

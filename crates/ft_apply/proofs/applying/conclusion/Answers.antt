@@ -1,8 +1,7 @@
-use Rattle.std.proofs.Common.{◌≡◌, ◌∙◌, subst, sym, ap}
+use Rattle.std.proofs.Common.{◌≡◌, subst}
 use Rattle.std.specs.Prelude.{IfOk}
 use Rattle.ft_reference.specs.Refusals.{AllSmall, claim_expressions}
 use Rattle.ft_judge.specs.Meaning.{goal_in}
-use Rattle.ft_apply.specs.Named.{rule_of}
 use Rattle.ft_apply.specs.Outcomes.{SmallOr}
 use Rattle.ft_apply.specs.Instances.{goal_at}
 use Rattle.ft_apply.proofs.RuleLines.{IsRuleOf, rule_there}

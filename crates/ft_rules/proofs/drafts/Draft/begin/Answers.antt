@@ -1,5 +1,4 @@
-use Rattle.std.proofs.Common.{◌∙◌, ap}
-use Rattle.ft_rules.proofs.Drafting.{begin_refused, begun, begun_draft}
+use Rattle.ft_rules.proofs.Drafting.{begin_refused}
 use Rattle.ft_rules.proofs.drafts.Draft.begin.Goals as goal
 
 pub returns-in-Err-clause-begins : goal.returns-in-Err-clause-begins

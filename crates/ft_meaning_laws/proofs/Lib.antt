@@ -18,3 +18,5 @@ mod Rules
 mod Runs
 mod Told
 mod Whole
+mod Mentions
+mod Staying

@@ -1,3 +1,4 @@
 pub mod Fits
 pub mod Runs
 pub mod Derivability
+pub mod Texts

@@ -1,5 +1,6 @@
 -- The text of an expression, by its node and its arguments.
 use Rattle.std.proofs.Common.{◌≡◌, ◌≢◌, ◌∙◌, sym, ap, ap₂, refl, subst, ℕ, zero, suc, ◌+◌, ◌-◌, ◌*◌, ◌^◌, ◌<◌, ◌≤◌, Option, Some, None, List, [], ◌∷◌, ◌++◌, length, map, take, slice_get, codes, decimal, append_assoc, append-nil, arith}
+use Rattle.std.proofs.lemmas.List.{take_all}
 use Rattle.ft_common.proofs.Options.{none_some}
 use Rattle.ft_theory.specs.Expressions.{Expression, bound, free, symbol, meta, Arguments, no_arguments, with_body, dummy, Terms, no_terms, also}
 use Rattle.ft_theory.specs.Small.{IsSmall, NumbersFitInArguments}
@@ -10,7 +11,7 @@ use Rattle.std.specs.Prelude.{IfSome}
 use Rattle.ft_syntax.specs.declared.syntax.Node.TheVariants.{Bound, Free, Sym, Meta}
 use Rattle.ft_meaning.specs.Texts.{Text, name_if_any, binders_text, metavariable_text, variable_text, expression_text, argument_texts, term_texts, in_parentheses}
 use Rattle.ft_print.specs.Arguments.{body_text, argument_text, arguments_text, HasRoom}
-use Rattle.ft_print.proofs.Joining.{opened, opened_next, written_more, take_all}
+use Rattle.ft_print.proofs.Joining.{opened, opened_next, written_more}
 
 -- a measure of what is below an argument
 abbrev pub body_measure : Option ℕ → ℕ
@@ -88,7 +89,7 @@ argument_written W vs n ps i p b old out mid then new g first next o m t e =
 -- no argument is left
 pub arguments_closed : (W : Declarations) (vs : List ℕ) (n : ℕ) (ps : List Argument) (i : ℕ) (old out new : Text) → length ps ≢ 0 → length ps ≤ i
     → out ≡ old ++ opened (map (argument_text W vs n) (take i ps)) → new ≡ out ++ codes ")" → new ≡ old ++ arguments_text W vs n ps
-arguments_closed W vs n ps i old out new some l o e = go ps some (o ∙ ap (λ qs. old ++ opened (map (argument_text W vs n) qs)) (take_all ps i l))
+arguments_closed W vs n ps i old out new some l o e = go ps some (o ∙ ap (λ qs. old ++ opened (map (argument_text W vs n) qs)) (take_all i ps l))
   where
     go : (ps : List Argument) → length ps ≢ 0 → out ≡ old ++ opened (map (argument_text W vs n) ps) → new ≡ old ++ arguments_text W vs n ps
     go [] some o = absurd (some refl)

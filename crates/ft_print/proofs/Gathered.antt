@@ -6,6 +6,7 @@ use Rattle.std.proofs.lemmas.List.Sorted.{Contains-permutation, IsPermutation-sy
 use Rattle.std.proofs.lemmas.List.Kept.{Contains-from_dedup, Contains-dedup_nat}
 use Rattle.std.proofs.lemmas.Map.Keys.{IsStrictlyIncreasing-dedup}
 use Rattle.std.specs.List.Sorted.{IsStrictlyIncreasing, IsNonDecreasing}
+use Rattle.std.proofs.lemmas.List.{take_all}
 use Rattle.std.proofs.lemmas.Bool.{lt-ltb, ltb-true, ltb-false}
 use Rattle.ft_common.proofs.Choices.{by_test}
 use Rattle.std.proofs.lemmas.List.Elements.{Contains-append_left, Contains-append_right, Contains-append_cases}
@@ -19,7 +20,6 @@ use Rattle.ft_syntax.specs.declared.syntax.Node.TheVariants.{Free}
 use Rattle.ft_meaning.specs.Texts.{variables}
 use Rattle.ft_meaning.specs.Faults.{variables_of, variables_of_arguments, variables_of_terms}
 use Rattle.ft_print.specs.Mentions.{mentioned, mentioned_by_arguments, mentioned_by_terms}
-use Rattle.ft_print.proofs.Joining.{take_all}
 
 -- numbers as variables
 abbrev as_variables : List ℕ → List Atom
@@ -223,4 +223,4 @@ dummy_next ((m, Some f) ∷ ps) (suc i) n g = ap (λ z. mentioned f ++ z) (dummy
 dummy_next ((m, None) ∷ ps) (suc i) n g = dummy_next ps i n g
 
 pub all_mentioned : (t : Expression) (i : ℕ) (old out : List ℕ) → ((v : ℕ) → node_of t ≡ Free v → ⊥) → length (arguments_of t) ≤ i → out ≡ old ++ mentioned_in (take i (arguments_of t)) → out ≡ old ++ mentioned t
-all_mentioned t i old out h l o = o ∙ ap (λ ps. old ++ mentioned_in ps) (take_all (arguments_of t) i l) ∙ ap (λ z. old ++ z) (others_mention t h)
+all_mentioned t i old out h l o = o ∙ ap (λ ps. old ++ mentioned_in ps) (take_all i (arguments_of t) l) ∙ ap (λ z. old ++ z) (others_mention t h)

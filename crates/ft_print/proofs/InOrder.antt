@@ -4,9 +4,9 @@ use Rattle.std.specs.Prelude.{All}
 use Rattle.std.specs.List.Sorted.{IsNonDecreasing, IsPartitionPoint, IsPartitionedBy}
 use Rattle.std.proofs.lemmas.Bool.{ltb-true, lt-ltb}
 use Rattle.ft_items.specs.Sets.{Atom, met, var, PrecedesAll, Ascending}
-use Rattle.std.proofs.lemmas.List.{map-append}
+use Rattle.std.proofs.lemmas.List.{map-append, take_all}
 use Rattle.ft_assume.specs.declared.atom.Atom.TheVariants.{Met, Var}
-use Rattle.ft_print.proofs.Joining.{take_next, take_all}
+use Rattle.ft_print.proofs.Joining.{take_next}
 use Rattle.ft_assume.specs.Atoms.{atom_of, atoms_of}
 use Rattle.ft_assume.specs.declared.atom.Atom.{Atom as AtomValue}
 use Rattle.ft_meaning.specs.Texts.{variables}
@@ -79,4 +79,4 @@ other_next atoms i m a found g e f =
 -- all atoms of a set
 pub variables_end : (atoms : List AtomValue) (S : List Atom) (i : ℕ) (vs : List ℕ) → length atoms ≤ i → atoms_of atoms ≡ S → Ascending S → vs ≡ variables (atoms_of (take i atoms)) → IsNonDecreasing vs
 variables_end atoms S i vs l same o e =
-    subst IsNonDecreasing (sym (e ∙ ap (λ xs. variables (atoms_of xs)) (take_all atoms i l) ∙ ap variables same)) (variables_ascend S o)
+    subst IsNonDecreasing (sym (e ∙ ap (λ xs. variables (atoms_of xs)) (take_all i atoms l) ∙ ap variables same)) (variables_ascend S o)

@@ -1,5 +1,5 @@
 -- Texts that are joined, one after the other.
-use Rattle.std.proofs.Common.{◌≡◌, ◌≢◌, ◌∙◌, sym, ap, refl, ℕ, zero, suc, ◌<◌, ◌≤◌, List, [], ◌∷◌, ◌++◌, length, map, take, slice_get, Some, codes, append_assoc, get_or, Result, Ok, Err, OnOk, arith}
+use Rattle.std.proofs.Common.{◌≡◌, ◌≢◌, ◌∙◌, sym, ap, refl, ℕ, zero, suc, List, [], ◌∷◌, ◌++◌, map, take, slice_get, Some, codes, append_assoc, Result, Ok, Err, OnOk, arith}
 use Rattle.std.proofs.lemmas.List.{map-append}
 use Rattle.ft_common.proofs.Options.{none_some}
 use Rattle.ft_meaning.specs.Texts.{Text, joined}
@@ -49,22 +49,6 @@ written_more old done b x out mid new more e o m n = n ∙ ap (λ z. z ++ x) m �
 -- the same without anything before the part
 pub written_next : (old done x out new more : Text) → more ≡ done ++ x → out ≡ old ++ done → new ≡ out ++ x → new ≡ old ++ more
 written_next old done x out new more e o n = n ∙ ap (λ z. z ++ x) o ∙ append_assoc old done x ∙ ap (λ z. old ++ z) (sym e)
-
--- all of a list
-pub take_all : {A : Type 0} (xs : List A) (i : ℕ) → length xs ≤ i → take i xs ≡ xs
-take_all [] zero l = refl
-take_all [] (suc i) l = refl
-take_all (x ∷ xs) zero l = absurd (omega arith)
-take_all (x ∷ xs) (suc i) l = ap (λ z. x ∷ z) (take_all xs i (omega arith))
-
--- what is read at a place
-pub read_there : {A : Type 0} (xs : List A) (i : ℕ) (d : A) → i < length xs → slice_get xs i ≡ Some (get_or xs i d)
-read_there [] i d l = absurd (omega arith)
-read_there (x ∷ xs) zero d l = refl
-read_there (x ∷ xs) (suc i) d l = read_there xs i d (omega arith)
-
-pub read_at : {A : Type 0} (xs : List A) (i : ℕ) (x : A) → i < length xs → x ≡ get_or xs i x → slice_get xs i ≡ Some x
-read_at xs i x l e = read_there xs i x l ∙ ap Some (sym e)
 
 -- two parts of a text
 pub two_parts : {A E : Type 0} (x : Result A E) (old a b mid new text : Text) → text ≡ a ++ b → mid ≡ old ++ a → OnOk x (new ≡ mid ++ b) → OnOk x (new ≡ old ++ text)

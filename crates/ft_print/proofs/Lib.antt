@@ -7,3 +7,4 @@ pub mod InOrder
 pub mod Positions
 pub mod Gathered
 pub mod Listed
+pub mod Pieces

@@ -1,11 +1,12 @@
 -- The lines of judgements, one after the other.
 use Rattle.std.proofs.Common.{◌≡◌, ◌∙◌, sym, ap, ap₂, refl, ℕ, suc, ◌≤◌, Option, Some, None, option_map, option_and_then, List, [], ◌∷◌, ◌++◌, take, flat_map, slice_get, length, append_assoc, append-nil}
+use Rattle.std.proofs.lemmas.List.{take_all}
 use Rattle.std.proofs.lemmas.Option.{same_Some}
 use Rattle.ft_common.proofs.Options.{none_some, some_none}
 use Rattle.ft_items.specs.Store.{Assertion, each, Declarations}
 use Rattle.ft_meaning.specs.Texts.{Text, sequent_text}
 use Rattle.ft_meaning.specs.Lines.{line}
-use Rattle.ft_print.proofs.Joining.{take_next, take_all}
+use Rattle.ft_print.proofs.Joining.{take_next}
 
 -- the lines of judgements
 abbrev pub sequent_lines : Declarations → List Assertion → Text
@@ -44,4 +45,4 @@ lines_next W f js i j out mid new g o m e =
 
 -- no more judgement
 pub lines_end : (W : Declarations) (f : ℕ → Option Assertion) (js : List ℕ) (i : ℕ) (out : Text) → length js ≤ i → Some out ≡ option_map (sequent_lines W) (each f (take i js)) → Some out ≡ option_map (sequent_lines W) (each f js)
-lines_end W f js i out l o = o ∙ ap (λ xs. option_map (sequent_lines W) (each f xs)) (take_all js i l)
+lines_end W f js i out l o = o ∙ ap (λ xs. option_map (sequent_lines W) (each f xs)) (take_all i js l)

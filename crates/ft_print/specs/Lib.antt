@@ -1,4 +1,5 @@
 pub mod Arguments
 pub mod Domains
 pub mod Mentions
+pub mod Pieces
 pub mod Refused

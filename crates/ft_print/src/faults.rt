@@ -8,6 +8,7 @@ ghost use Rattle.ft_meaning.specs.Faults.{fault_text};
 ghost use Rattle.ft_meaning.specs.Lines.{error_line, line_of, column_of};
 ghost use Rattle.ft_calls.specs.Answers.{refusal_in, RefusalBelow};
 
+use crate::fixed::fixed_text;
 use crate::places::line_col;
 use crate::refusals::push_refusal;
 use ft_base::{Memory, Name, Text};
@@ -66,7 +67,5 @@ pub fn unhandled_text(alloc: Global, operation: &Name) -> Result<Text, Memory>
 pub fn no_match_text(alloc: Global) -> Result<Text, Memory>
     ensures { IfOk result (λ t. (W : Declarations) (n : AnyName) → t ≡ fault_text W n NoMatch) }
 {
-    let mut out = Text::new(alloc);
-    out.push_str("no match")?;
-    Ok(out)
+    fixed_text(alloc, "no match")
 }

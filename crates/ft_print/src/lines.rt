@@ -7,6 +7,7 @@ ghost use Rattle.ft_kernel.specs.State.{entry_at, IsThesisOf};
 ghost use Rattle.ft_meaning.specs.Commands.{Accepted, Shown, ShownNone};
 ghost use Rattle.ft_meaning.specs.Lines.{done_lines};
 
+use crate::fixed::fixed_text;
 use crate::sequents::push_sequent;
 use ft_base::{Memory, Name, Text};
 use ft_kernel::{J, Kernel};
@@ -42,7 +43,5 @@ pub fn sequent_lines(alloc: Global, k: &Kernel, js: &[J]) -> Result<Text, Memory
 pub fn none_line(alloc: Global) -> Result<Text, Memory>
     ensures { IfOk result (λ t. (W : Declarations) → t ≡ done_lines W ShownNone) }
 {
-    let mut out = Text::new(alloc);
-    out.push_str("none\n")?;
-    Ok(out)
+    fixed_text(alloc, "none\n")
 }

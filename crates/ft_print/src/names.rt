@@ -12,7 +12,6 @@ use ft_base::{Memory, Text};
 use ft_kernel::Kernel;
 
 // Appends the name of the rule of a symbol, where there is one.
-
 pub fn push_symbol(k: &Kernel, s: u64, out: &mut Text) -> Result<(), Memory>
     requires good { Good k.now.items }
     ensures ok { OnOk result
@@ -25,7 +24,6 @@ pub fn push_symbol(k: &Kernel, s: u64, out: &mut Text) -> Result<(), Memory>
 }
 
 // Appends the name of a metavariable, where there is one.
-
 fn push_metavariable_name(k: &Kernel, m: u64, out: &mut Text) -> Result<(), Memory>
     requires good { Good k.now.items }
     ensures ok { OnOk result
@@ -39,7 +37,6 @@ fn push_metavariable_name(k: &Kernel, m: u64, out: &mut Text) -> Result<(), Memo
 }
 
 // Appends the name of a variable, where there is one.
-
 fn push_variable_name(k: &Kernel, v: u64, out: &mut Text) -> Result<(), Memory>
     requires good { Good k.now.items }
     ensures ok { OnOk result

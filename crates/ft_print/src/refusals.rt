@@ -2,16 +2,16 @@
 
 ghost use Rattle.std.specs.Prelude.{◌≡◌, ◌++◌, length, IfOk, OnOk};
 ghost use Rattle.std.specs.List.Sorted.{IsNonDecreasing};
-ghost use Rattle.ft_items.specs.Sets.{var};
 ghost use Rattle.ft_items.specs.Good.{Good};
 ghost use Rattle.ft_items.specs.Store.{declared_by};
-ghost use Rattle.ft_meaning.specs.Faults.{atom_text, differ_text, refusal_text};
+ghost use Rattle.ft_meaning.specs.Faults.{differ_text, refusal_text};
 ghost use Rattle.ft_calls.specs.Answers.{difference_in, refusal_in, RefusalBelow};
 ghost use Rattle.ft_print.specs.Refused.{counts_text, DifferBelow};
 
+use crate::atoms::push_atom;
 use crate::expressions::push_expression;
 use crate::mentioned::variables_mentioned;
-use crate::names::push_variable;
+use ft_assume::Atom;
 use ft_base::{Memory, Text};
 use ft_judge::{Differ, Refusal};
 use ft_kernel::Kernel;
@@ -47,11 +47,11 @@ pub fn push_refusal(alloc: Global, k: &Kernel, r: &Refusal, out: &mut Text) -> R
         }
         Refusal::DependentVariable(v) => {
             out.push_str("DependentVariable: ")?;
-            push_variable_alone(k, *v, out)
+            push_atom(k, Atom::Var(*v), out)
         }
         Refusal::OpenBoundary(v) => {
             out.push_str("OpenBoundary: ")?;
-            push_variable_alone(k, *v, out)
+            push_atom(k, Atom::Var(*v), out)
         }
         Refusal::ArgumentCount(given, wanted) => push_counts(*given, *wanted, out),
         Refusal::TooBig => out.push_str("TooBig"),
@@ -70,15 +70,6 @@ fn push_differ(alloc: Global, k: &Kernel, d: &Differ, out: &mut Text) -> Result<
     push_expression(k, &variables, d.under, d.found, out)?;
     out.push_str(", wanted ")?;
     push_expression(k, &variables, d.under, d.wanted, out)
-}
-
-// Appends a variable that alone is mentioned.
-fn push_variable_alone(k: &Kernel, v: u64, out: &mut Text) -> Result<(), Memory>
-    ensures ok { OnOk result (out.new ≡ out.old ++ atom_text (declared_by k.now.items) (var v)) }
-{
-    // That the list is good comes with its table.
-    let _terms = k.terms();
-    push_variable(k, &[v], v, out)
 }
 
 // Appends how many arguments were given and wanted.

@@ -1,11 +1,13 @@
 //! Lines of sources that have no commands.
 
-ghost use Rattle.std.specs.Prelude.{◌≡◌, ℕ, List, IfOk};
+ghost use Rattle.std.specs.Prelude.{◌≡◌, ℕ, List, Some, IfOk};
 ghost use Rattle.ft_meaning.specs.Sources.{too_long, no_text, unexpected, too_nested};
 ghost use Rattle.ft_meaning.specs.Stages.{Stage};
-ghost use Rattle.ft_meaning.specs.Transcript.{transcript_of};
+ghost use Rattle.ft_meaning.specs.Trees.{Command};
+ghost use Rattle.ft_meaning.specs.Transcript.{transcript_of, unless_unbuilt};
 
 use crate::faults::error_line;
+use crate::fixed::fixed_text;
 use ft_base::{Memory, Text};
 use std::alloc::Global;
 
@@ -15,9 +17,7 @@ pub fn too_long_line(alloc: Global) -> Result<Text, Memory>
         (λ t. (B : Stage) (source : List ℕ) (budget : ℕ) →
         t ≡ (transcript_of B source budget too_long).text) }
 {
-    let mut out = Text::new(alloc);
-    out.push_str("error too long\n")?;
-    Ok(out)
+    fixed_text(alloc, "error too long\n")
 }
 
 /// The line of a source that is UTF-8 up to a byte, and no further.
@@ -49,4 +49,13 @@ pub fn too_nested_line(alloc: Global, source: &str, at: u64) -> Result<Text, Mem
         t ≡ (transcript_of B source.now budget (too_nested at)).text) }
 {
     error_line(alloc, source, at, b"nested too deeply")
+}
+
+/// The line of a source of which a part is not built.
+pub fn not_yet_line(alloc: Global, source: &str, at: u64) -> Result<Text, Memory>
+    ensures { IfOk result
+        (λ t. (budget : ℕ) (cs : List Command) →
+        t ≡ (unless_unbuilt source.now budget cs (Some at)).text) }
+{
+    error_line(alloc, source, at, b"not yet")
 }

@@ -5,7 +5,6 @@ use Rattle.ft_items.specs.Item.{Item}
 use Rattle.ft_items.specs.Good.{Verdict}
 use Rattle.ft_items.specs.Texts.{IsTextOf}
 use Rattle.ft_items.specs.Faults.{Fault, Form, Version, HasFault}
-use Rattle.ft_applications_meaning.specs.Transcript.{line_feed}
 use Rattle.ft_verdicts.specs.Built.{verdict_built}
 use Rattle.ft_verdicts.specs.Verdicts.{IsVerdict, verdict_line, verdict_status, fault_line}
 
@@ -18,8 +17,8 @@ items_text bs text items v n t e h k =
 fault_text : (bs text : List ℕ) (f : Fault) → HasFault is_name_token bs f → text ≡ fault_line f → IsVerdict is_name_token bs text 16
 fault_text bs text f t h = subst (λ text. IsVerdict is_name_token bs text 16) (sym h) (IsVerdict.of_fault f t)
 
-pub form_text : (bs text : List ℕ) (n : ℕ) → HasFault is_name_token bs (Form n) → text ≡ codes "error line " ++ decimal n ++ codes " form" ++ line_feed → IsVerdict is_name_token bs text 16
+pub form_text : (bs text : List ℕ) (n : ℕ) → HasFault is_name_token bs (Form n) → text ≡ codes "error line " ++ decimal n ++ codes " form\n" → IsVerdict is_name_token bs text 16
 form_text bs text n t h = fault_text bs text (Form n) t h
 
-pub version_text : (bs text : List ℕ) (n : ℕ) → HasFault is_name_token bs (Version n) → text ≡ codes "error line " ++ decimal n ++ codes " version" ++ line_feed → IsVerdict is_name_token bs text 16
+pub version_text : (bs text : List ℕ) (n : ℕ) → HasFault is_name_token bs (Version n) → text ≡ codes "error line " ++ decimal n ++ codes " version\n" → IsVerdict is_name_token bs text 16
 version_text bs text n t h = fault_text bs text (Version n) t h

@@ -43,11 +43,11 @@ fn judge(alloc: Global, bytes: &[u8]) -> Result<Written, Memory>
     match read_items(alloc, bytes) {
         Ok(items) => judge_items(alloc, &items),
         Err(FileFault::Form(line)) => Ok(Written {
-            text: fault_text(alloc, line, " form")?,
+            text: fault_text(alloc, line, " form\n")?,
             status: Status::FileFault,
         }),
         Err(FileFault::Version(line)) => Ok(Written {
-            text: fault_text(alloc, line, " version")?,
+            text: fault_text(alloc, line, " version\n")?,
             status: Status::FileFault,
         }),
         Err(FileFault::Memory) => Err(Memory),

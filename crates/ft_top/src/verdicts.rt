@@ -2,7 +2,6 @@
 
 ghost use Rattle.std.specs.Prelude.{◌≡◌, ◌++◌, codes, decimal, OnOk, IfOk};
 ghost use Rattle.ft_items.specs.Good.{Accepted, Rejected};
-ghost use Rattle.ft_applications_meaning.specs.Transcript.{line_feed};
 ghost use Rattle.ft_check.specs.Rejects.{reason_of};
 ghost use Rattle.ft_check.specs.Verdicts.{verdict_of};
 ghost use Rattle.ft_answers.specs.declared.words.Job.TheVariants as asked;
@@ -41,12 +40,11 @@ fn push_counted(number: u64, what: &str, out: &mut Text) -> Result<(), Memory>
 
 /// The line of a fault at a line of a file.
 pub(crate) fn fault_text(alloc: Global, line: u64, what: &str) -> Result<Text, Memory>
-    ensures { IfOk result (λ t. t ≡ codes "error line " ++ decimal line ++ what.now ++ line_feed) }
+    ensures { IfOk result (λ t. t ≡ codes "error line " ++ decimal line ++ what.now) }
 {
     let mut out = Text::new(alloc);
     out.push_str("error line ")?;
     push_counted(line, what, &mut out)?;
-    out.push_str("\n")?;
     Ok(out)
 }
 

@@ -11,7 +11,7 @@ use Rattle.ft_types.specs.declared.types.KnownType.{KnownType}
 use Rattle.ft_types.specs.declared.types.KnownType.TheVariants as known
 use Rattle.ft_types.specs.declared.types.Row.{Row}
 use Rattle.ft_types.specs.declared.types.Row.TheVariants as row
-use Rattle.ft_types.specs.Types.{type_in, Below, rank_of, type_at, types_after, types_of, FitsBelow, same_row, IsTable}
+use Rattle.ft_types.specs.Types.{type_in, Below, type_at, types_after, types_of, FitsBelow, AllFit, same_row, IsTable}
 
 -- ---- known types over tables that go on
 
@@ -156,18 +156,18 @@ pub types_len : (rows : List Row) → length (types_of rows) ≡ length rows
 types_len rows = omega (arith, types_length [] rows)
 
 -- the type that a row has
-pub type_of_row : (rows : List Row) (places : List (Row × ℕ)) (k : ℕ) (r : Row) → IsTable rows places → slice_get rows k ≡ Some r
+pub type_of_row : (rows : List Row) (k : ℕ) (r : Row) → AllFit rows → slice_get rows k ≡ Some r
     → type_in (types_of rows) (known.Compound k) ≡ type_at (types_of rows) r
-type_of_row rows places k r table h =
+type_of_row rows k r fit h =
     let zero-plus : 0 + k ≡ k = omega arith in
     subst (λ n. slice_index_or (types_of rows) n judgement ≡ type_at (types_of rows) r) zero-plus
-    (row_type [] rows k r h (subst (λ n. FitsBelow n r) (sym zero-plus) (table.fits k r h)))
+    (row_type [] rows k r h (subst (λ n. FitsBelow n r) (sym zero-plus) (fit k r h)))
 
 pub row_found : (rows : List Row) (places : List (Row × ℕ)) (r : Row) (n : ℕ) → IsTable rows places → lookup (same_row r) places ≡ Some n
     → (n < length (types_of rows)) × (type_in (types_of rows) (known.Compound n) ≡ type_at (types_of rows) r)
 row_found rows places r n table h =
     let here = table.there n r h in
-    (omega (arith, types_len rows, slice_get_within rows n r here), type_of_row rows places n r table here)
+    (omega (arith, types_len rows, slice_get_within rows n r here), type_of_row rows n r table.fits here)
 
 pub row_made : (rows : List Row) (r : Row)
     → (length rows < length (types_of (rows ++ r ∷ []))) × (type_in (types_of (rows ++ r ∷ [])) (known.Compound (length rows)) ≡ type_at (types_of rows) r)
@@ -178,15 +178,20 @@ row_made rows r =
       ap (λ ts. slice_index_or ts (length rows) judgement) more ∙ ap (λ n. slice_index_or (types_of rows ++ type_at (types_of rows) r ∷ []) n judgement) (sym (types_len rows)) ∙ last,
     )
 
--- what the table has at a place
-pub row_read : (rows : List Row) (places : List (Row × ℕ)) (k : ℕ) (r : Row) → IsTable rows places → slice_get rows k ≡ Some r
-    → (FitsBelow k r) × (type_at (types_of rows) r ≡ type_in (types_of rows) (known.Compound k))
-row_read rows places k r table h = (table.fits k r h, sym (type_of_row rows places k r table h))
+-- what the rows have at a place
+pub row_at : (rows : List Row) (k : ℕ) (d : Row) → AllFit rows → k < length rows
+    → (FitsBelow k (slice_index_or rows k d))
+    × (type_at (types_of rows) (slice_index_or rows k d) ≡ type_in (types_of rows) (known.Compound k))
+row_at rows k d fit lt =
+    let r = slice_index_or rows k d in
+    let here = slice_get-get_or rows k d lt in
+    (fit k r here, sym (type_of_row rows k r fit here))
 
--- the row at a place
-pub row_at : (rows : List Row) (places : List (Row × ℕ)) (k : ℕ) (d : Row) → IsTable rows places → k < length rows
-    → (FitsBelow k (slice_index_or rows k d)) × (type_at (types_of rows) (slice_index_or rows k d) ≡ type_in (types_of rows) (known.Compound k))
-row_at rows places k d table lt = row_read rows places k (slice_index_or rows k d) table (slice_get-get_or rows k d lt)
+-- what a table has at a place
+pub table_row_at : (rows : List Row) (places : List (Row × ℕ)) (k : ℕ) (d : Row) → IsTable rows places → k < length rows
+    → (FitsBelow k (slice_index_or rows k d))
+    × (type_at (types_of rows) (slice_index_or rows k d) ≡ type_in (types_of rows) (known.Compound k))
+table_row_at rows places k d table lt = row_at rows k d table.fits lt
 
 -- ---- equal types stand at one place
 
@@ -259,7 +264,7 @@ compound_rows : (rows : List Row) (places : List (Row × ℕ)) → IsTable rows 
 unfolding AreCompound
 compound_rows rows places table k lt =
     let r = slice_index_or rows k (row.List known.Judgement) in
-    ap is_compound (type_of_row rows places k r table (slice_get-get_or rows k (row.List known.Judgement) lt)) ∙ compound_row (types_of rows) r
+    ap is_compound (type_of_row rows k r table.fits (slice_get-get_or rows k (row.List known.Judgement) lt)) ∙ compound_row (types_of rows) r
 
 same_place : (fuel : ℕ) (rows : List Row) (places : List (Row × ℕ)) → IsTable rows places → (i j : ℕ) → i < fuel → i < length rows → j < length rows
     → slice_index_or (types_of rows) i judgement ≡ slice_index_or (types_of rows) j judgement → i ≡ j
@@ -270,7 +275,7 @@ same_place (suc fuel) rows places table i j lt li lj h =
     let s = slice_index_or rows j (row.List known.Judgement) in
     let ri = slice_get-get_or rows i (row.List known.Judgement) li in
     let sj = slice_get-get_or rows j (row.List known.Judgement) lj in
-    let types = sym (type_of_row rows places i r table ri) ∙ h ∙ type_of_row rows places j s table sj in
+    let types = sym (type_of_row rows i r table.fits ri) ∙ h ∙ type_of_row rows j s table.fits sj in
     let low : i ≤ length rows = omega arith in
     let high : j ≤ length rows = omega arith in
     let rows-are : r ≡ s = row_by_type (types_of rows) i (length rows) r s low (table.fits i r ri) (fits_more j (length rows) s high (table.fits j s sj)) (compound_rows rows places table)
@@ -287,14 +292,6 @@ same_known rows places table s t bs bt h =
     let all : length rows ≤ length rows = omega arith in
     known_by_type (types_of rows) (length rows) (length rows) s t all (below_more _ _ s n bs) (below_more _ _ t n bt) (compound_rows rows places table)
     (λ a b la lb e. same_place (length rows) rows places table a b la la lb e) h
-
--- what is below a row has a smaller rank
-pub rank_below : (n : ℕ) (t : KnownType) → Below n t → rank_of t < n + 1
-rank_below n known.Judgement h = omega arith
-rank_below n known.Boundary h = omega arith
-rank_below n known.Unit h = omega arith
-rank_below n known.Bool h = omega arith
-rank_below n (known.Compound k) h = omega arith
 
 pub below_less : (m n : ℕ) (t : KnownType) → Below m t → m < n → Below n t
 below_less m n t h l = below_more m n t (omega arith) h

@@ -2,8 +2,11 @@
 use Rattle.std.specs.Prelude.{ℕ, ◌≡◌, ◌≢◌, List, [], ◌∷◌, ◌++◌, length, reverse, Result, Ok, Err}
 use Rattle.ft_items.specs.Item.{Name}
 use Rattle.ft_grammar.specs.declared.syntax.Named.{Named}
-use Rattle.ft_meaning.specs.Trees.{Pattern, Form, place, ValueType, value_type}
-use Rattle.ft_meaning.specs.Typing.{Wanted, Exactly, PairOf, ListOf, OptionOf, TypeWhy, Unbound, Twice, Mismatch, Arity, TypeFault, RuleType, Scope, fault_at, meant_by, ensure_arity, ensure_new, ensure_type, with_value, Bindings, case_scope, type_of}
+use Rattle.ft_meaning.specs.Trees.{Pattern, Form, place, ValueType}
+use Rattle.ft_meaning.specs.Typing.{Wanted, Exactly, PairOf, ListOf, OptionOf}
+use Rattle.ft_meaning.specs.Typing.{TypeWhy, Unbound, Twice, Mismatch, Arity, TypeFault, RuleType, Scope}
+use Rattle.ft_meaning.specs.Typing.{fault_at, meant_by, ensure_arity, ensure_new, ensure_type, with_value}
+use Rattle.ft_meaning.specs.Typing.{Bindings, case_scope, type_of}
 use Rattle.ft_equality.specs.Results.{ensure, some_or, ◌>>=◌, ◌>>◌}
 use Rattle.ft_types.specs.declared.fault.Wanted.{Wanted as AnyWanted}
 use Rattle.ft_types.specs.declared.fault.Wanted.TheVariants as any
@@ -15,7 +18,8 @@ use Rattle.ft_types.specs.declared.names.Entry.{Entry}
 use Rattle.ft_types.specs.declared.checker.RuleShape.{RuleShape}
 use Rattle.ft_types.specs.declared.checker.OperationShape.{OperationShape}
 use Rattle.ft_types.specs.Names.{listed}
-use Rattle.ft_types.specs.Types.{type_in, Below, Extends, list_part, option_part, pair_parts}
+use Rattle.ft_types.specs.Types.{type_in, Below, Extends, stands_for}
+use Rattle.ft_types.specs.Types.{list_part, option_part, pair_parts}
 
 -- names with what becomes of their meanings
 abbrev pub renamed : {A B : Type 0} → (A → B) → List (Name × A) → List (Name × B)
@@ -39,8 +43,8 @@ abbrev pub OperationsBelow : ℕ → List (Name × OperationShape) → Type 0
 OperationsBelow n [] = Unit {0}
 OperationsBelow n (p ∷ ps) = Below n p.1.argument × Below n p.1.result × OperationsBelow n ps
 
--- What is seen of a checker: the scope of the commands before, the names that stand for values within the command, the last one
--- first, and the table of types.
+-- What is seen of a checker: the scope of the commands before, the names that stand for values within the
+-- command, the last one first, and the table of types.
 pub record Checking : Type 0 where
   pub top : Scope
   pub locals : List (Name × ValueType)
@@ -66,7 +70,8 @@ abbrev pub with_operation : Name → ValueType × ValueType → Scope → Scope
 with_operation n o s = record s { operations = (n, o) ∷ s.operations }
 
 -- all types of a checker are in its table
-pub record IsChecker (n : ℕ) (values : List (Name × KnownType)) (operations : List (Name × OperationShape)) (locals : List (Name × KnownType)) : Type 0 where
+pub record IsChecker (n : ℕ) (values : List (Name × KnownType)) (operations : List (Name × OperationShape))
+    (locals : List (Name × KnownType)) : Type 0 where
   pub values_are : ValuesBelow n values
   pub operations_are : OperationsBelow n operations
   pub locals_are : ValuesBelow n locals
@@ -78,7 +83,7 @@ pub record Keeps (v w : Checking) : Type 0 where
 
 -- what is wanted, as it is defined
 abbrev pub wanted_of : AnyWanted → Wanted
-wanted_of (any.Exactly A) = Exactly (value_type A)
+wanted_of (any.Exactly A) = Exactly (stands_for A)
 wanted_of any.PairOf = PairOf
 wanted_of any.ListOf = ListOf
 wanted_of any.OptionOf = OptionOf
@@ -87,7 +92,7 @@ wanted_of any.OptionOf = OptionOf
 abbrev pub why_of : AnyWhy → TypeWhy
 why_of (why.Unbound n) = Unbound n
 why_of (why.Twice n) = Twice n
-why_of (why.Mismatch A w) = Mismatch (value_type A) (wanted_of w)
+why_of (why.Mismatch A w) = Mismatch (stands_for A) (wanted_of w)
 why_of (why.Arity n takes given) = Arity n takes given
 why_of why.Memory = Unbound []
 
@@ -111,8 +116,13 @@ Tests outcome (Err e) = e.why ≢ why.Memory → outcome ≡ Err (fault_of e)
 
 -- what a function ensures that finds a type
 abbrev pub Finds : Result ValueType TypeFault → Result KnownType AnyFault → Checking → Checking → Type 0
-Finds outcome (Ok t) v w = (outcome ≡ Ok (type_in w.types t)) × Below (length w.types) t × (w.locals ≡ v.locals)
+Finds outcome (Ok t) v w =
+    (outcome ≡ Ok (type_in w.types t)) × Below (length w.types) t × (w.locals ≡ v.locals)
 Finds outcome (Err e) v w = e.why ≢ why.Memory → outcome ≡ Err (fault_of e)
+
+-- what a function ensures that finds the type of a form
+abbrev pub FindsType : Result KnownType AnyFault → Checking → Checking → Form → Type 0
+FindsType result v w e = Finds (type_of e (scope_of v)) result v w
 
 -- what a function ensures that tests forms
 abbrev pub Passes : Result (Unit {0}) TypeFault → Result (Unit {0}) AnyFault → Checking → Checking → Type 0
@@ -133,9 +143,18 @@ pair_wanted at A = some_or (pair_parts A) (fault_at at (Mismatch A PairOf))
 abbrev pub bound : List ValueType → List (Entry KnownType) → Bindings
 bound ts xs = renamed (type_in ts) (listed xs)
 
+-- what a function ensures that puts the names of patterns after those that were found before
+abbrev pub Binds : Checking → List (Entry KnownType) → List (Entry KnownType)
+    → Result (Unit {0}) AnyFault → (Bindings → Result Bindings TypeFault) → Type 0
+Binds v old new result outcome = Gives (outcome (bound v.types old)) result (λ _. bound v.types new)
+
 -- names that were seen, the last one first
 abbrev pub last_first : List Name → List Name
 last_first = reverse
+
+-- the name was seen after those before
+abbrev pub SeesNext : Name → List Name → List Name → Type 0
+SeesNext n old new = last_first new ≡ n ∷ last_first old
 
 -- the type of a case for values of a type
 unfoldable pub type_of_case : Pattern → Form → ValueType → Scope → Result ValueType TypeFault
@@ -143,8 +162,10 @@ type_of_case p e A s = case_scope p A s >>= type_of e
 
 -- a case for an operation that none of those before is for has the type
 unfoldable pub handler_has : Named → Named → Form → List Name → ValueType → Scope → Result (Unit {0}) TypeFault
-handler_has o x e before B s = meant_by s.operations o >>= λ p. ensure_new o before >> (type_of e (with_value x.name p.0 s) >>= ensure_type (place e) B)
+handler_has o x e before B s = meant_by s.operations o >>= λ p.
+    ensure_new o before >> (type_of e (with_value x.name p.0 s) >>= ensure_type (place e) B)
 
 -- the name is a symbol's, and so many are given as it takes
 unfoldable pub symbol_wanted : Named → ℕ → Scope → Result (Unit {0}) TypeFault
-symbol_wanted n given s = meant_by s.rules n >>= λ r. ensure r.is_symbol (fault_at n.at (Unbound n.name)) >> ensure_arity n r.premises given
+symbol_wanted n given s = meant_by s.rules n >>= λ r.
+    ensure r.is_symbol (fault_at n.at (Unbound n.name)) >> ensure_arity n r.premises given

@@ -35,7 +35,8 @@ conclusion_in (conclusion.Equation c e f A) = equation_body e f A
 
 -- the test of a premise by itself
 unfoldable pub premise_has : AnyPremise → List Name → Scope → Result (Unit {0}) TypeFault
-premise_has p before s = binders_scope (map binder p.binders) s >>= premise_typed (name_in p.body) before (body_in p.body)
+premise_has p before s =
+    binders_scope (map binder p.binders) s >>= premise_typed (name_in p.body) before (body_in p.body)
 
 -- the second has names within the command that the first has not, before those of the first
 abbrev pub Adds : Checking → Checking → Type 0

@@ -1,5 +1,5 @@
 -- The types that rows stand for.
-use Rattle.std.specs.Prelude.{ℕ, ◌≡◌, ◌<◌, ◌+◌, List, [], ◌∷◌, ◌++◌, slice_index_or, slice_get, Option, Some, None, Bool}
+use Rattle.std.specs.Prelude.{ℕ, ◌≡◌, ◌<◌, List, [], ◌∷◌, ◌++◌, slice_index_or, slice_get, Option, Some, None, Bool}
 use Rattle.std.specs.Map.{lookup}
 use Rattle.ft_meaning.specs.Trees.{ValueType, judgement, boundary, unit, bool, pair, list, option}
 use Rattle.ft_types.specs.contracts.types.RowPartialEq.TheImpl as row_eq
@@ -24,14 +24,6 @@ Below n known.Unit = Unit {0}
 Below n known.Bool = Unit {0}
 Below n (known.Compound k) = k < n
 
--- a number above those of a row's parts
-abbrev pub rank_of : KnownType → ℕ
-rank_of known.Judgement = 0
-rank_of known.Boundary = 0
-rank_of known.Unit = 0
-rank_of known.Bool = 0
-rank_of (known.Compound k) = k + 1
-
 -- the type of a row, over the types of the rows before it
 abbrev pub type_at : List ValueType → Row → ValueType
 type_at ts (row.Pair a b) = pair (type_in ts a) (type_in ts b)
@@ -46,6 +38,15 @@ types_after ts (r ∷ rs) = types_after (ts ++ type_at ts r ∷ []) rs
 abbrev pub types_of : List Row → List ValueType
 types_of rows = types_after [] rows
 
+-- A type by itself: the types of the rows of a table, and which of them it is.
+pub record TypeInTable : Type 0 where
+  pub types : List ValueType
+  pub whole : KnownType
+
+-- the type that it is
+abbrev pub stands_for : TypeInTable → ValueType
+stands_for s = type_in s.types s.whole
+
 -- a row's parts are among the first n rows
 abbrev pub FitsBelow : ℕ → Row → Type 0
 FitsBelow n (row.Pair a b) = Below n a × Below n b
@@ -56,9 +57,13 @@ FitsBelow n (row.Opt a) = Below n a
 abbrev pub same_row : Row → Row → Bool
 same_row = (row_eq.ghosts).eq
 
+-- each row's parts are before it
+abbrev pub AllFit : List Row → Type 0
+AllFit rows = (k : ℕ) (r : Row) → slice_get rows k ≡ Some r → FitsBelow k r
+
 -- each row's parts are before it, and the places have each row at its place and no other
 pub record IsTable (rows : List Row) (places : List (Row × ℕ)) : Type 0 where
-  pub fits : (k : ℕ) (r : Row) → slice_get rows k ≡ Some r → FitsBelow k r
+  pub fits : AllFit rows
   pub here : (k : ℕ) (r : Row) → slice_get rows k ≡ Some r → lookup (same_row r) places ≡ Some k
   pub there : (k : ℕ) (r : Row) → lookup (same_row r) places ≡ Some k → slice_get rows k ≡ Some r
 

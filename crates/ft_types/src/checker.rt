@@ -1,12 +1,20 @@
 //! What is kept while a command is checked.
 
-ghost use Rattle.std.specs.Prelude.{◌≡◌, ◌∷◌, ◌++◌, [], drop, length, IfOk, IfSome, OnOk, OnErr, option_map, is_some, ◌≤◌, ◌-◌};
+ghost use Rattle.std.specs.Prelude.{◌≡◌, ◌≤◌, ◌-◌, ◌++◌, [], drop, length, option_map, is_some};
+ghost use Rattle.std.specs.Prelude.{IfOk, IfSome, OnOk, OnErr};
 ghost use Rattle.ft_meaning.specs.Names.{named};
 ghost use Rattle.ft_meaning.specs.Trees.{value_type};
-ghost use Rattle.ft_meaning.specs.Typing.{Exactly, Unbound, Twice, Mismatch, Arity, fault_at, meant_by, ensure_arity, ensure_new, same_type, with_value};
+ghost use Rattle.ft_meaning.specs.Typing.{Exactly, Unbound, Twice, Mismatch, fault_at, meant_by};
+ghost use Rattle.ft_meaning.specs.Typing.{ensure_arity, ensure_new, same_type, with_value};
+ghost use Rattle.ft_meaning.specs.Typing.{ensure_type as type_wanted};
+ghost use Rattle.ft_meaning.specs.Typing.{ensure_statement as type_either};
 ghost use Rattle.ft_types.specs.Types.{type_in, type_at, Below, FitsBelow};
 ghost use Rattle.ft_types.specs.Names.{listed};
-ghost use Rattle.ft_types.specs.Checking.{scope_of, with_local, with_top, with_rule, with_operation, rule_in, operation_in, renamed, ValuesBelow, wanted_of, Keeps, Says, Gives, Tests, list_wanted, option_wanted, pair_wanted, last_first};
+ghost use Rattle.ft_types.specs.Checking.{scope_of, with_local, with_top, with_rule};
+ghost use Rattle.ft_types.specs.Checking.{with_operation, rule_in, operation_in, renamed};
+ghost use Rattle.ft_types.specs.Checking.{ValuesBelow, wanted_of, list_wanted, option_wanted};
+ghost use Rattle.ft_types.specs.Checking.{pair_wanted, Keeps, Says, Gives, Tests, last_first};
+ghost use Rattle.ft_types.specs.Checking.{SeesNext};
 
 use crate::fault::{TypeFault, TypeWhy, Wanted};
 use crate::names::{Entry, Names};
@@ -30,9 +38,10 @@ pub struct OperationShape {
     pub result: KnownType,
 }
 
-/// What names stand for, and the table of types. The names that stand for values within a command are a stack: one is pushed for
-/// its scope and popped after it, and the stack is searched from its end, so that no scope is copied, and a name costs a step for
-/// each such name that is declared after it.
+/// What names stand for, and the table of types. The names that stand for values within a command
+/// are a stack: one is pushed for its scope and popped after it, and the stack is searched from its
+/// end, so that no scope is copied, and a name costs a step for each such name that is declared
+/// after it.
 #[derive(Drop)]
 pub struct Checker {
     types: Types,
@@ -65,13 +74,19 @@ impl Model for Checker {
       types = c.types;
     } };
 
-    ghost invariant = { λ c. IsChecker (length c.types) c.values c.operations (listed c.locals.items) };
+    ghost invariant = { λ c.
+        IsChecker (length c.types) c.values c.operations (listed c.locals.items) };
 }
 
 impl Checker {
     /// No names and no types. It takes no memory.
     pub fn new(alloc: Global) -> Checker
-        ensures { result ≡ record { top = record { values = []; rules = []; operations = [] }; locals = []; types = [] } }
+        ensures { result
+            ≡ record {
+              top = record { values = []; rules = []; operations = [] };
+              locals = [];
+              types = [];
+            } }
     {
         Checker {
             types: Types::new(alloc),
@@ -92,7 +107,8 @@ impl Checker {
     #[tactic(auto, using(crate::proofs::Scopes::renamed_some, crate::proofs::Scopes::renamed_none, crate::proofs::Scopes::named_first, crate::proofs::Scopes::named_second, crate::proofs::Scopes::value_below))]
     pub fn value(&self, name: &Name) -> Option<KnownType>
         ensures below { IfSome result (λ t. Below (length self.now.types) t) }
-        ensures means { option_map (type_in self.now.types) result ≡ named (scope_of self.now).values name.now }
+        ensures means { option_map (type_in self.now.types) result
+            ≡ named (scope_of self.now).values name.now }
     {
         match last_named(&self.locals, name) {
             Some(t) => Some(t),
@@ -116,7 +132,8 @@ impl Checker {
     pub fn operation(&self, n: &Named) -> Result<OperationShape, TypeFault>
         ensures argument { IfOk result (λ o. Below (length self.now.types) o.argument) }
         ensures result_below { IfOk result (λ o. Below (length self.now.types) o.result) }
-        ensures means { Gives (meant_by self.now.top.operations n.now) result (operation_in self.now.types) }
+        ensures means { Gives (meant_by self.now.top.operations n.now) result
+            (operation_in self.now.types) }
     {
         match self.operations.get(&n.name) {
             Some(operation) => Ok(operation),
@@ -148,7 +165,9 @@ impl Checker {
     /// The type found is the one wanted.
     pub fn ensure_type(&self, at: u64, wanted: KnownType, found: KnownType) -> Result<(), TypeFault>
         requires { Below (length self.now.types) wanted × Below (length self.now.types) found }
-        ensures { Tests (Rattle.ft_meaning.specs.Typing.ensure_type at (type_in self.now.types wanted) (type_in self.now.types found)) result }
+        ensures { Tests
+            (type_wanted at (type_in self.now.types wanted) (type_in self.now.types found))
+            result }
     {
         if self.types.are_same(found, wanted) {
             Ok(())
@@ -160,7 +179,7 @@ impl Checker {
     /// The type found is `judgement` or `boundary`.
     pub fn ensure_statement(&self, at: u64, found: KnownType) -> Result<(), TypeFault>
         requires { Below (length self.now.types) found }
-        ensures { Tests (Rattle.ft_meaning.specs.Typing.ensure_statement at (type_in self.now.types found)) result }
+        ensures { Tests (type_either at (type_in self.now.types found)) result }
     {
         if self.types.are_same(found, KnownType::Judgement)
             || self.types.are_same(found, KnownType::Boundary)
@@ -174,9 +193,11 @@ impl Checker {
     /// The type found is another one than is wanted.
     pub fn mismatch(&self, at: u64, found: KnownType, wanted: KnownType) -> TypeFault
         requires { Below (length self.now.types) found × Below (length self.now.types) wanted }
-        ensures { Says result (fault_at at (Mismatch (type_in self.now.types found) (Exactly (type_in self.now.types wanted)))) }
+        ensures { Says result
+            (fault_at at
+            (Mismatch (type_in self.now.types found) (Exactly (type_in self.now.types wanted)))) }
     {
-        match self.types.tree(wanted) {
+        match self.types.shared(wanted) {
             Ok(wanted) => self.misfit(at, found, Wanted::Exactly(wanted)),
             Err(e) => e.into(),
         }
@@ -185,9 +206,10 @@ impl Checker {
     // The type found does not fit.
     fn misfit(&self, at: u64, found: KnownType, wanted: Wanted) -> TypeFault
         requires { Below (length self.now.types) found }
-        ensures { Says result (fault_at at (Mismatch (type_in self.now.types found) (wanted_of wanted))) }
+        ensures { Says result
+            (fault_at at (Mismatch (type_in self.now.types found) (wanted_of wanted))) }
     {
-        match self.types.tree(found) {
+        match self.types.shared(found) {
             Ok(found) => TypeFault {
                 at,
                 why: TypeWhy::Mismatch(found, wanted),
@@ -200,7 +222,8 @@ impl Checker {
     pub fn list_part(&self, at: u64, found: KnownType) -> Result<KnownType, TypeFault>
         requires { Below (length self.now.types) found }
         ensures below { IfOk result (λ t. Below (length self.now.types) t) }
-        ensures means { Gives (list_wanted at (type_in self.now.types found)) result (type_in self.now.types) }
+        ensures means { Gives (list_wanted at (type_in self.now.types found)) result
+            (type_in self.now.types) }
     {
         match self.types.list_part(found) {
             Some(part) => Ok(part),
@@ -212,7 +235,8 @@ impl Checker {
     pub fn option_part(&self, at: u64, found: KnownType) -> Result<KnownType, TypeFault>
         requires { Below (length self.now.types) found }
         ensures below { IfOk result (λ t. Below (length self.now.types) t) }
-        ensures means { Gives (option_wanted at (type_in self.now.types found)) result (type_in self.now.types) }
+        ensures means { Gives (option_wanted at (type_in self.now.types found)) result
+            (type_in self.now.types) }
     {
         match self.types.option_part(found) {
             Some(part) => Ok(part),
@@ -223,8 +247,10 @@ impl Checker {
     /// The types of the parts of pairs of the type found.
     pub fn pair_parts(&self, at: u64, found: KnownType) -> Result<(KnownType, KnownType), TypeFault>
         requires { Below (length self.now.types) found }
-        ensures below { IfOk result (λ p. Below (length self.now.types) p.0 × Below (length self.now.types) p.1) }
-        ensures means { Gives (pair_wanted at (type_in self.now.types found)) result (λ p. (type_in self.now.types p.0, type_in self.now.types p.1)) }
+        ensures below { IfOk result
+            (λ p. Below (length self.now.types) p.0 × Below (length self.now.types) p.1) }
+        ensures means { Gives (pair_wanted at (type_in self.now.types found)) result
+            (λ p. (type_in self.now.types p.0, type_in self.now.types p.1)) }
     {
         match self.types.pair_parts(found) {
             Some(parts) => Ok(parts),
@@ -251,7 +277,10 @@ impl Checker {
     /// Gives a name a value of the type from now on. After `Memory` all is as before.
     pub fn add_value(&mut self, name: &Name, t: KnownType) -> Result<(), Memory>
         requires { Below (length self.old.types) t }
-        ensures ok { OnOk result (self.new ≡ with_top self.old (with_value name.now (type_in self.old.types t) self.old.top)) }
+        ensures ok { OnOk result
+            (self.new
+            ≡ with_top self.old
+            (with_value name.now (type_in self.old.types t) self.old.top)) }
         ensures err { OnErr result (self.new ≡ self.old) }
     {
         self.values.add(name, t)
@@ -259,7 +288,8 @@ impl Checker {
 
     /// Gives a name a rule from now on. After `Memory` all is as before.
     pub fn add_rule(&mut self, name: &Name, rule: RuleShape) -> Result<(), Memory>
-        ensures ok { OnOk result (self.new ≡ with_top self.old (with_rule name.now (rule_in rule) self.old.top)) }
+        ensures ok { OnOk result
+            (self.new ≡ with_top self.old (with_rule name.now (rule_in rule) self.old.top)) }
         ensures err { OnErr result (self.new ≡ self.old) }
     {
         self.rules.add(name, rule)
@@ -267,8 +297,12 @@ impl Checker {
 
     /// Gives a name an operation from now on. After `Memory` all is as before.
     pub fn add_operation(&mut self, name: &Name, o: OperationShape) -> Result<(), Memory>
-        requires { Below (length self.old.types) o.argument × Below (length self.old.types) o.result }
-        ensures ok { OnOk result (self.new ≡ with_top self.old (with_operation name.now (operation_in self.old.types o) self.old.top)) }
+        requires { Below (length self.old.types) o.argument
+            × Below (length self.old.types) o.result }
+        ensures ok { OnOk result
+            (self.new
+            ≡ with_top self.old
+            (with_operation name.now (operation_in self.old.types o) self.old.top)) }
         ensures err { OnErr result (self.new ≡ self.old) }
     {
         self.operations.add(name, o)
@@ -277,7 +311,8 @@ impl Checker {
     /// Gives a name within the command a value of the type. After `Memory` all is as before.
     pub fn push(&mut self, name: &Name, t: KnownType) -> Result<(), Memory>
         requires { Below (length self.old.types) t }
-        ensures ok { OnOk result (self.new ≡ with_local name.now (type_in self.old.types t) self.old) }
+        ensures ok { OnOk result
+            (self.new ≡ with_local name.now (type_in self.old.types t) self.old) }
         ensures err { OnErr result (self.new ≡ self.old) }
     {
         let name = name.copy()?;
@@ -288,7 +323,11 @@ impl Checker {
     /// Gives these names values within the command. After `Memory` all is as before.
     pub fn enter(&mut self, found: Vec<Entry<KnownType>>) -> Result<(), Memory>
         requires { ValuesBelow (length self.old.types) (listed found.items) }
-        ensures ok { OnOk result (self.new ≡ record self.old { locals = renamed (type_in self.old.types) (listed found.items) ++ self.old.locals }) }
+        ensures ok { OnOk result
+            (self.new
+            ≡ record self.old {
+              locals = renamed (type_in self.old.types) (listed found.items) ++ self.old.locals;
+            }) }
         ensures err { OnErr result (self.new ≡ self.old) }
     {
         let mut found = found;
@@ -306,7 +345,10 @@ impl Checker {
     /// Takes the last names within the command away, so that so many are left.
     pub fn leave(&mut self, count: usize)
         requires { count ≤ length self.old.locals }
-        ensures { self.new ≡ record self.old { locals = drop (length self.old.locals - count) self.old.locals } }
+        ensures { self.new
+            ≡ record self.old {
+              locals = drop (length self.old.locals - count) self.old.locals;
+            } }
     {
         self.locals.truncate(count);
     }
@@ -372,7 +414,7 @@ pub fn fits_arity(n: &Named, takes: u64, given: u64) -> Result<(), TypeFault>
 #[tactic(auto, using(crate::proofs::Seen::last_seen, crate::proofs::Seen::seen_or_not))]
 pub fn new_name(n: &Named, seen: &mut Vec<Name>) -> Result<(), TypeFault>
     ensures new { Tests (ensure_new n.now (last_first seen.old.items)) result }
-    ensures seen { OnOk result (last_first seen.new.items ≡ n.now.name ∷ last_first seen.old.items) }
+    ensures seen { OnOk result (SeesNext n.now.name seen.old.items seen.new.items) }
 {
     if is_among(seen, &n.name) {
         return Err(twice(n.at, &n.name));

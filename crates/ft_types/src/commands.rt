@@ -1,7 +1,8 @@
 //! The types of commands.
 
 ghost use Rattle.std.specs.Prelude.{◌≡◌, [], map, OnOk, OnErr};
-ghost use Rattle.ft_meaning.specs.Trees.{form, value_type, premise, command_of, rule_command, let_command, operation_command, show_command};
+ghost use Rattle.ft_meaning.specs.Trees.{form, value_type, premise, command_of, rule_command};
+ghost use Rattle.ft_meaning.specs.Trees.{let_command, operation_command, show_command};
 ghost use Rattle.ft_meaning.specs.CommandTyping.{scope_after};
 ghost use Rattle.ft_types.specs.Commands.{Changes, conclusion_in};
 
@@ -24,7 +25,11 @@ impl Checker {
         conclusion: &Conclusion,
     ) -> Result<(), TypeFault>
         requires { self.old.locals ≡ [] }
-        ensures { Changes (scope_after (rule_command 0 n.now (map premise ps.now) 0 (conclusion_in conclusion.now)) self.old.top) result self.old self.new }
+        ensures { Changes
+            (scope_after
+            (rule_command 0 n.now (map premise ps.now) 0 (conclusion_in conclusion.now))
+            self.old.top)
+            result self.old self.new }
     {
         self.premises(alloc, ps)?;
         self.conclusion(conclusion)?;
@@ -41,7 +46,8 @@ impl Checker {
     #[tactic(auto, using(crate::proofs::Rules::keeping, crate::proofs::Alone::alone, crate::proofs::Alone::left_none))]
     fn let_command(&mut self, n: &Named, e: &Ast) -> Result<(), TypeFault>
         requires { self.old.locals ≡ [] }
-        ensures { Changes (scope_after (let_command 0 n.now (form e.now)) self.old.top) result self.old self.new }
+        ensures { Changes (scope_after (let_command 0 n.now (form e.now)) self.old.top)
+            result self.old self.new }
     {
         let t = self.type_of(e)?;
         self.add_value(&n.name, t)?;
@@ -57,7 +63,11 @@ impl Checker {
         to: &AmlType,
     ) -> Result<(), TypeFault>
         requires { self.old.locals ≡ [] }
-        ensures { Changes (scope_after (operation_command 0 n.now (value_type from.now) (value_type to.now)) self.old.top) result self.old self.new }
+        ensures { Changes
+            (scope_after
+            (operation_command 0 n.now (value_type from.now) (value_type to.now))
+            self.old.top)
+            result self.old self.new }
     {
         if self.has_operation(&n.name) {
             return Err(twice(n.at, &n.name));
@@ -78,7 +88,8 @@ impl Checker {
     #[tactic(auto, using(crate::proofs::Rules::keeping, crate::proofs::Alone::alone, crate::proofs::Alone::left_none))]
     fn show_command(&mut self, e: &Ast) -> Result<(), TypeFault>
         requires { self.old.locals ≡ [] }
-        ensures { Changes (scope_after (show_command 0 (form e.now)) self.old.top) result self.old self.new }
+        ensures { Changes (scope_after (show_command 0 (form e.now)) self.old.top)
+            result self.old self.new }
     {
         let found = self.type_of(e)?;
         let option = self.of_row(Row::Opt(KnownType::Judgement))?;

@@ -1,12 +1,20 @@
-//! The types of expressions. The place of a form does not matter to its own type, so clauses write 0 for it.
+//! The types of expressions. The place of a form does not matter to its own type, so clauses write
+//! 0 for it.
 
 ghost use Rattle.std.specs.Prelude.{◌≡◌, ◌∷◌, [], length, map, Some, Ok, OnOk};
-ghost use Rattle.ft_meaning.specs.Trees.{form, place, pattern, pair_of, call, congruence, perform, substitution, abstraction, let_in, if_then, match_with, handle_with, cons_of, argument, one, two, none_of, nil_of, forms, cases, handlers, no_value_case, value_case_of, value_type};
+ghost use Rattle.ft_meaning.specs.Trees.{form, place, pattern, forms, cases, handlers, value_type};
+ghost use Rattle.ft_meaning.specs.Trees.{pair_of, call, congruence, perform, substitution};
+ghost use Rattle.ft_meaning.specs.Trees.{abstraction, let_in, if_then, match_with, handle_with};
+ghost use Rattle.ft_meaning.specs.Trees.{cons_of, argument, one, two, none_of, nil_of};
+ghost use Rattle.ft_meaning.specs.Trees.{no_value_case, value_case_of};
 ghost use Rattle.ft_meaning.specs.CommandTyping.{ensure_judgement};
-ghost use Rattle.ft_meaning.specs.Typing.{with_value, type_of as type_of_form, ensure_judgements, type_of_cases, ensure_cases, ensure_handlers, word_type, first_wanted, word_type_of_two};
+ghost use Rattle.ft_meaning.specs.Typing.{with_value, type_of as type_of_form, ensure_judgements};
+ghost use Rattle.ft_meaning.specs.Typing.{type_of_cases, ensure_cases, ensure_handlers};
+ghost use Rattle.ft_meaning.specs.Typing.{word_type, first_wanted, word_type_of_two};
 ghost use Rattle.ft_meaning.proofs.Written.{case, handler, value};
 ghost use Rattle.ft_types.specs.Types.{type_in, Below};
-ghost use Rattle.ft_types.specs.Checking.{scope_of, Keeps, Finds, Passes, type_of_case, handler_has, last_first};
+ghost use Rattle.ft_types.specs.Checking.{scope_of, Keeps, Finds, FindsType, Passes};
+ghost use Rattle.ft_types.specs.Checking.{type_of_case, handler_has, last_first, SeesNext};
 
 use crate::checker::{Checker, fits_arity, new_name};
 use crate::fault::TypeFault;
@@ -39,7 +47,8 @@ impl Checker {
     fn word(&mut self, at: u64, word: OneForm, t: KnownType) -> Result<KnownType, TypeFault>
         requires { Below (length self.old.types) t }
         ensures keeps { Keeps self.old self.new }
-        ensures finds { Finds (word_type at word (type_in self.old.types t)) result self.old self.new }
+        ensures finds { Finds (word_type at word (type_in self.old.types t))
+            result self.old self.new }
     {
         match word {
             OneForm::Left | OneForm::Right | OneForm::Typeof | OneForm::Domain => {
@@ -89,7 +98,7 @@ impl Checker {
     #[tactic(auto, using(crate::proofs::Rules::keeping))]
     fn none_of(&mut self, t: &AmlType) -> Result<KnownType, TypeFault>
         ensures keeps { Keeps self.old self.new }
-        ensures finds { Finds (type_of_form (none_of 0 (value_type t.now)) (scope_of self.old)) result self.old self.new }
+        ensures finds { FindsType result self.old self.new (none_of 0 (value_type t.now)) }
     {
         let part = self.written(t)?;
         Ok(self.of_row(Row::Opt(part))?)
@@ -98,7 +107,7 @@ impl Checker {
     #[tactic(auto, using(crate::proofs::Rules::keeping))]
     fn nil_of(&mut self, t: &AmlType) -> Result<KnownType, TypeFault>
         ensures keeps { Keeps self.old self.new }
-        ensures finds { Finds (type_of_form (nil_of 0 (value_type t.now)) (scope_of self.old)) result self.old self.new }
+        ensures finds { FindsType result self.old self.new (nil_of 0 (value_type t.now)) }
     {
         let part = self.written(t)?;
         Ok(self.of_row(Row::List(part))?)
@@ -109,7 +118,7 @@ impl Checker {
     #[tactic(auto, using(crate::proofs::Rules::keeping, crate::proofs::Rules::written_forms))]
     pub fn type_of(&mut self, e: &Ast) -> Result<KnownType, TypeFault>
         ensures keeps { Keeps self.old self.new }
-        ensures finds { Finds (type_of_form (form e.now) (scope_of self.old)) result self.old self.new }
+        ensures finds { FindsType result self.old self.new (form e.now) }
     {
         match e {
             Ast::LetIn(_, x, e, f) => self.let_in(x, e.get(), f.get()),
@@ -154,7 +163,10 @@ impl Checker {
     fn under(&mut self, x: &Named, t: KnownType, e: &Ast) -> Result<KnownType, TypeFault>
         requires { Below (length self.old.types) t }
         ensures keeps { Keeps self.old self.new }
-        ensures finds { Finds (type_of_form (form e.now) (with_value x.now.name (type_in self.old.types t) (scope_of self.old))) result self.old self.new }
+        ensures finds { Finds
+            (type_of_form (form e.now)
+            (with_value x.now.name (type_in self.old.types t) (scope_of self.old)))
+            result self.old self.new }
     {
         let count = self.local_count();
         self.push(&x.name, t)?;
@@ -168,7 +180,8 @@ impl Checker {
     #[tactic(auto, using(crate::proofs::Rules::keeping))]
     pub fn judgement(&mut self, e: &Ast) -> Result<(), TypeFault>
         ensures keeps { Keeps self.old self.new }
-        ensures finds { Passes (ensure_judgement (form e.now) (scope_of self.old)) result self.old self.new }
+        ensures finds { Passes (ensure_judgement (form e.now) (scope_of self.old))
+            result self.old self.new }
     {
         let found = self.type_of(e)?;
         self.ensure_type(place_of(e), KnownType::Judgement, found)
@@ -179,7 +192,8 @@ impl Checker {
     #[tactic(auto, using(crate::proofs::Rules::keeping))]
     fn judgements(&mut self, es: &[Ast]) -> Result<(), TypeFault>
         ensures keeps { Keeps self.old self.new }
-        ensures finds { Passes (ensure_judgements (forms (map form es.now)) (scope_of self.old)) result self.old self.new }
+        ensures finds { Passes (ensure_judgements (forms (map form es.now)) (scope_of self.old))
+            result self.old self.new }
     {
         for e in es {
             self.judgement(e)?;
@@ -191,7 +205,8 @@ impl Checker {
     #[tactic(auto, using(crate::proofs::Rules::keeping))]
     fn let_in(&mut self, x: &Named, e: &Ast, f: &Ast) -> Result<KnownType, TypeFault>
         ensures keeps { Keeps self.old self.new }
-        ensures finds { Finds (type_of_form (let_in 0 x.now (form e.now) (form f.now)) (scope_of self.old)) result self.old self.new }
+        ensures finds { FindsType result self.old self.new
+            (let_in 0 x.now (form e.now) (form f.now)) }
     {
         let t = self.type_of(e)?;
         self.under(x, t, f)
@@ -201,7 +216,8 @@ impl Checker {
     #[tactic(auto, using(crate::proofs::Rules::keeping))]
     fn if_then(&mut self, e: &Ast, f: &Ast, g: &Ast) -> Result<KnownType, TypeFault>
         ensures keeps { Keeps self.old self.new }
-        ensures finds { Finds (type_of_form (if_then 0 (form e.now) (form f.now) (form g.now)) (scope_of self.old)) result self.old self.new }
+        ensures finds { FindsType result self.old self.new
+            (if_then 0 (form e.now) (form f.now) (form g.now)) }
     {
         let test = self.type_of(e)?;
         self.ensure_type(place_of(e), KnownType::Bool, test)?;
@@ -215,7 +231,8 @@ impl Checker {
     #[tactic(auto, using(crate::proofs::Rules::keeping))]
     fn match_with(&mut self, e: &Ast, cs: &[Case]) -> Result<KnownType, TypeFault>
         ensures keeps { Keeps self.old self.new }
-        ensures finds { Finds (type_of_form (match_with 0 (form e.now) (cases (map case cs.now))) (scope_of self.old)) result self.old self.new }
+        ensures finds { FindsType result self.old self.new
+            (match_with 0 (form e.now) (cases (map case cs.now))) }
     {
         let t = self.type_of(e)?;
         self.cases(cs, t)
@@ -227,7 +244,9 @@ impl Checker {
     fn cases(&mut self, cs: &[Case], t: KnownType) -> Result<KnownType, TypeFault>
         requires { Below (length self.old.types) t }
         ensures keeps { Keeps self.old self.new }
-        ensures finds { Finds (type_of_cases (cases (map case cs.now)) (type_in self.old.types t) (scope_of self.old)) result self.old self.new }
+        ensures finds { Finds
+            (type_of_cases (cases (map case cs.now)) (type_in self.old.types t) (scope_of self.old))
+            result self.old self.new }
     {
         match cs {
             [] => Ok(KnownType::Judgement),
@@ -245,7 +264,10 @@ impl Checker {
     fn case(&mut self, c: &Case, t: KnownType) -> Result<KnownType, TypeFault>
         requires { Below (length self.old.types) t }
         ensures keeps { Keeps self.old self.new }
-        ensures finds { Finds (type_of_case (pattern c.now.pattern) (form c.now.body) (type_in self.old.types t) (scope_of self.old)) result self.old self.new }
+        ensures finds { Finds
+            (type_of_case (pattern c.now.pattern) (form c.now.body) (type_in self.old.types t)
+            (scope_of self.old))
+            result self.old self.new }
     {
         let mut found = Vec::new(self.allocator());
         self.bindings(&c.pattern, t, &mut found)?;
@@ -262,7 +284,10 @@ impl Checker {
     fn other_cases(&mut self, cs: &[Case], t: KnownType, wanted: KnownType) -> Result<(), TypeFault>
         requires { Below (length self.old.types) t × Below (length self.old.types) wanted }
         ensures keeps { Keeps self.old self.new }
-        ensures finds { Passes (ensure_cases (cases (map case cs.now)) (type_in self.old.types t) (type_in self.old.types wanted) (scope_of self.old)) result self.old self.new }
+        ensures finds { Passes
+            (ensure_cases (cases (map case cs.now)) (type_in self.old.types t)
+            (type_in self.old.types wanted) (scope_of self.old))
+            result self.old self.new }
     {
         for c in cs {
             let found = self.case(c, t)?;
@@ -275,7 +300,8 @@ impl Checker {
     #[tactic(auto, using(crate::proofs::Rules::keeping))]
     fn handle(&mut self, e: &Ast, hs: &[OpCase]) -> Result<KnownType, TypeFault>
         ensures keeps { Keeps self.old self.new }
-        ensures finds { Finds (type_of_form (handle_with 0 (form e.now) no_value_case (handlers (map handler hs.now))) (scope_of self.old)) result self.old self.new }
+        ensures finds { FindsType result self.old self.new
+            (handle_with 0 (form e.now) no_value_case (handlers (map handler hs.now))) }
     {
         let t = self.type_of(e)?;
         self.handlers(hs, t)?;
@@ -286,7 +312,9 @@ impl Checker {
     #[tactic(auto, using(crate::proofs::Rules::keeping, ft_meaning::proofs::Written::value_parts))]
     fn handle_value(&mut self, e: &Ast, v: &ValCase, hs: &[OpCase]) -> Result<KnownType, TypeFault>
         ensures keeps { Keeps self.old self.new }
-        ensures finds { Finds (type_of_form (handle_with 0 (form e.now) (value_case_of (Some (value v.now))) (handlers (map handler hs.now))) (scope_of self.old)) result self.old self.new }
+        ensures finds { FindsType result self.old self.new
+            (handle_with 0 (form e.now) (value_case_of (Some (value v.now)))
+            (handlers (map handler hs.now))) }
     {
         let t = self.type_of(e)?;
         let found = self.under(&v.name, t, v.body.get())?;
@@ -300,7 +328,10 @@ impl Checker {
     fn handlers(&mut self, hs: &[OpCase], t: KnownType) -> Result<(), TypeFault>
         requires { Below (length self.old.types) t }
         ensures keeps { Keeps self.old self.new }
-        ensures finds { Passes (ensure_handlers (handlers (map handler hs.now)) [] (type_in self.old.types t) (scope_of self.old)) result self.old self.new }
+        ensures finds { Passes
+            (ensure_handlers (handlers (map handler hs.now)) [] (type_in self.old.types t)
+            (scope_of self.old))
+            result self.old self.new }
     {
         let mut seen = Vec::new(self.allocator());
         for h in hs {
@@ -315,8 +346,12 @@ impl Checker {
     fn handler(&mut self, h: &OpCase, t: KnownType, seen: &mut Vec<Name>) -> Result<(), TypeFault>
         requires { Below (length self.old.types) t }
         ensures keeps { Keeps self.old self.new }
-        ensures finds { Passes (handler_has h.now.operation h.now.argument (form h.now.body) (last_first seen.old.items) (type_in self.old.types t) (scope_of self.old)) result self.old self.new }
-        ensures seen { OnOk result (last_first seen.new.items ≡ h.now.operation.name ∷ last_first seen.old.items) }
+        ensures finds { Passes
+            (handler_has h.now.operation h.now.argument (form h.now.body)
+            (last_first seen.old.items) (type_in self.old.types t) (scope_of self.old))
+            result self.old self.new }
+        ensures seen { OnOk result
+            (SeesNext h.now.operation.name seen.old.items seen.new.items) }
     {
         let operation = self.operation(&h.operation)?;
         new_name(&h.operation, seen)?;
@@ -328,7 +363,8 @@ impl Checker {
     #[tactic(auto, using(crate::proofs::Rules::keeping))]
     fn abstraction(&mut self, x: &Named, e: &Ast, f: &Ast) -> Result<KnownType, TypeFault>
         ensures keeps { Keeps self.old self.new }
-        ensures finds { Finds (type_of_form (abstraction 0 x.now (form e.now) (form f.now)) (scope_of self.old)) result self.old self.new }
+        ensures finds { FindsType result self.old self.new
+            (abstraction 0 x.now (form e.now) (form f.now)) }
     {
         let domain = self.type_of(e)?;
         self.ensure_type(place_of(e), KnownType::Judgement, domain)?;
@@ -341,7 +377,7 @@ impl Checker {
     #[tactic(auto, using(crate::proofs::Rules::keeping))]
     fn cons(&mut self, e: &Ast, f: &Ast) -> Result<KnownType, TypeFault>
         ensures keeps { Keeps self.old self.new }
-        ensures finds { Finds (type_of_form (cons_of 0 (form e.now) (form f.now)) (scope_of self.old)) result self.old self.new }
+        ensures finds { FindsType result self.old self.new (cons_of 0 (form e.now) (form f.now)) }
     {
         let first = self.type_of(e)?;
         let rest = self.type_of(f)?;
@@ -354,7 +390,7 @@ impl Checker {
     #[tactic(auto, using(crate::proofs::Rules::keeping))]
     fn one(&mut self, word: OneForm, e: &Ast) -> Result<KnownType, TypeFault>
         ensures keeps { Keeps self.old self.new }
-        ensures finds { Finds (type_of_form (one 0 word (form e.now)) (scope_of self.old)) result self.old self.new }
+        ensures finds { FindsType result self.old self.new (one 0 word (form e.now)) }
     {
         let t = self.type_of(e)?;
         self.word(place_of(e), word, t)
@@ -364,7 +400,7 @@ impl Checker {
     #[tactic(auto, using(crate::proofs::Rules::keeping))]
     fn two(&mut self, word: TwoForm, e: &Ast, f: &Ast) -> Result<KnownType, TypeFault>
         ensures keeps { Keeps self.old self.new }
-        ensures finds { Finds (type_of_form (two 0 word (form e.now) (form f.now)) (scope_of self.old)) result self.old self.new }
+        ensures finds { FindsType result self.old self.new (two 0 word (form e.now) (form f.now)) }
     {
         let first = self.type_of(e)?;
         self.ensure_type(place_of(e), self.first_wanted(word), first)?;
@@ -377,7 +413,7 @@ impl Checker {
     #[tactic(auto, using(crate::proofs::Rules::keeping))]
     fn argument(&mut self, e: &Ast) -> Result<KnownType, TypeFault>
         ensures keeps { Keeps self.old self.new }
-        ensures finds { Finds (type_of_form (argument 0 (form e.now) 0) (scope_of self.old)) result self.old self.new }
+        ensures finds { FindsType result self.old self.new (argument 0 (form e.now) 0) }
     {
         self.judgement(e)?;
         Ok(KnownType::Judgement)
@@ -387,7 +423,8 @@ impl Checker {
     #[tactic(auto, using(crate::proofs::Rules::keeping))]
     fn congruence(&mut self, r: &Named, e: &Ast, f: &Ast) -> Result<KnownType, TypeFault>
         ensures keeps { Keeps self.old self.new }
-        ensures finds { Finds (type_of_form (congruence 0 r.now (form e.now) (form f.now)) (scope_of self.old)) result self.old self.new }
+        ensures finds { FindsType result self.old self.new
+            (congruence 0 r.now (form e.now) (form f.now)) }
     {
         self.rule(r)?;
         let list = self.of_row(Row::List(KnownType::Judgement))?;
@@ -402,7 +439,7 @@ impl Checker {
     #[tactic(auto, using(crate::proofs::Rules::keeping))]
     fn perform(&mut self, n: &Named, e: &Ast) -> Result<KnownType, TypeFault>
         ensures keeps { Keeps self.old self.new }
-        ensures finds { Finds (type_of_form (perform 0 n.now (form e.now)) (scope_of self.old)) result self.old self.new }
+        ensures finds { FindsType result self.old self.new (perform 0 n.now (form e.now)) }
     {
         let operation = self.operation(n)?;
         let found = self.type_of(e)?;
@@ -414,7 +451,8 @@ impl Checker {
     #[tactic(auto, using(crate::proofs::Rules::keeping, crate::proofs::Counts::count_forms))]
     fn call(&mut self, x: &Named, es: &[Ast]) -> Result<KnownType, TypeFault>
         ensures keeps { Keeps self.old self.new }
-        ensures finds { Finds (type_of_form (call 0 x.now (forms (map form es.now))) (scope_of self.old)) result self.old self.new }
+        ensures finds { FindsType result self.old self.new
+            (call 0 x.now (forms (map form es.now))) }
     {
         if let Some(t) = self.value(&x.name) {
             fits_arity(x, 0, es.len() as u64)?;
@@ -430,7 +468,8 @@ impl Checker {
     #[tactic(auto, using(crate::proofs::Rules::keeping))]
     fn substitution(&mut self, e: &Ast, es: &[Ast]) -> Result<KnownType, TypeFault>
         ensures keeps { Keeps self.old self.new }
-        ensures finds { Finds (type_of_form (substitution 0 (form e.now) (forms (map form es.now))) (scope_of self.old)) result self.old self.new }
+        ensures finds { FindsType result self.old self.new
+            (substitution 0 (form e.now) (forms (map form es.now))) }
     {
         let t = self.type_of(e)?;
         self.ensure_statement(place_of(e), t)?;
@@ -442,7 +481,7 @@ impl Checker {
     #[tactic(auto, using(crate::proofs::Rules::keeping))]
     fn pair(&mut self, e: &Ast, f: &Ast) -> Result<KnownType, TypeFault>
         ensures keeps { Keeps self.old self.new }
-        ensures finds { Finds (type_of_form (pair_of 0 (form e.now) (form f.now)) (scope_of self.old)) result self.old self.new }
+        ensures finds { FindsType result self.old self.new (pair_of 0 (form e.now) (form f.now)) }
     {
         let first = self.type_of(e)?;
         let second = self.type_of(f)?;

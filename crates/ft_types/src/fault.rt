@@ -3,26 +3,26 @@
 ghost use Rattle.std.specs.Prelude.{◌≡◌};
 ghost use Rattle.ft_types.specs.declared.fault.TypeWhy.TheVariants.{Memory};
 
+use crate::shared::SharedType;
 use ft_base::Name;
-use ft_grammar::AmlType;
 use std::alloc::{AllocError, AllocFailed};
 
 /// What is wanted: a type, or any pair, list or option.
 #[derive(Debug, Drop)]
 pub enum Wanted {
-    Exactly(AmlType),
+    Exactly(SharedType),
     PairOf,
     ListOf,
     OptionOf,
 }
 
-/// Why there is no type: a name has no meaning; it is declared twice; a type is found where another is wanted; a name takes so
-/// many and is given so many. Or memory was refused.
+/// Why there is no type: a name has no meaning; it is declared twice; a type is found where another
+/// is wanted; a name takes so many and is given so many. Or memory was refused.
 #[derive(Debug, Drop)]
 pub enum TypeWhy {
     Unbound(Name),
     Twice(Name),
-    Mismatch(AmlType, Wanted),
+    Mismatch(SharedType, Wanted),
     Arity(Name, u64, u64),
     Memory,
 }

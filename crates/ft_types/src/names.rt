@@ -15,7 +15,8 @@ pub struct Entry<T> {
     pub meaning: T,
 }
 
-/// What names stand for: a list of names with their meanings, in which the last meaning of a name counts.
+/// What names stand for: a list of names with their meanings, in which the last meaning of a name
+/// counts.
 #[derive(Drop)]
 pub struct Names<T> {
     entries: Vec<Entry<T>>,

@@ -5,7 +5,7 @@ ghost use Rattle.ft_meaning.specs.Trees.{pattern, patterns, name_pattern};
 ghost use Rattle.ft_meaning.specs.Typing.{bindings, all_bindings};
 ghost use Rattle.ft_types.specs.Types.{type_in, Below};
 ghost use Rattle.ft_types.specs.Names.{listed};
-ghost use Rattle.ft_types.specs.Checking.{scope_of, ValuesBelow, Gives, Tests, bound, symbol_wanted};
+ghost use Rattle.ft_types.specs.Checking.{scope_of, ValuesBelow, Binds, Tests, symbol_wanted};
 
 use crate::checker::{Checker, fits_arity, last_named, twice, unbound};
 use crate::fault::TypeFault;
@@ -27,7 +27,8 @@ impl Checker {
         requires below { Below (length self.now.types) t }
         requires found_below { ValuesBelow (length self.now.types) (listed found.old.items) }
         ensures below { OnOk result (ValuesBelow (length self.now.types) (listed found.new.items)) }
-        ensures binds { Gives (bindings (name_pattern at name.now) (scope_of self.now) (type_in self.now.types t) (bound self.now.types found.old.items)) result (λ _. bound self.now.types found.new.items) }
+        ensures binds { Binds self.now found.old.items found.new.items result
+            (bindings (name_pattern at name.now) (scope_of self.now) (type_in self.now.types t)) }
     {
         if last_named(found, name).is_some() {
             return Err(twice(at, name));
@@ -37,7 +38,8 @@ impl Checker {
         Ok(())
     }
 
-    /// Puts the names of a pattern against the type after those that were found before, among which they are not.
+    /// Puts the names of a pattern against the type after those that were found before, among which
+    /// they are not.
     #[cycle(binding)]
     #[tactic(auto, using(crate::proofs::Rules::written_patterns, crate::proofs::Bindings::bindings_cons, crate::proofs::Bindings::bindings_some, crate::proofs::Bindings::bindings_none, crate::proofs::Bindings::bindings_nil, crate::proofs::Bindings::bindings_pair, crate::proofs::Bindings::symbol_fails, crate::proofs::Bindings::symbol_goes))]
     pub fn bindings(
@@ -49,7 +51,8 @@ impl Checker {
         requires below { Below (length self.now.types) t }
         requires found_below { ValuesBelow (length self.now.types) (listed found.old.items) }
         ensures below { OnOk result (ValuesBelow (length self.now.types) (listed found.new.items)) }
-        ensures binds { Gives (bindings (pattern p.now) (scope_of self.now) (type_in self.now.types t) (bound self.now.types found.old.items)) result (λ _. bound self.now.types found.new.items) }
+        ensures binds { Binds self.now found.old.items found.new.items result
+            (bindings (pattern p.now) (scope_of self.now) (type_in self.now.types t)) }
     {
         match p {
             Pattern::Cons(at, p, q) => {
@@ -68,7 +71,11 @@ impl Checker {
             }
             Pattern::Name(at, name) => self.bind_name(*at, name, t, found),
             Pattern::Wildcard(_) => Ok(()),
-            Pattern::TrueWord(at) | Pattern::FalseWord(at) => self.ensure_type(*at, KnownType::Bool, t),
+            Pattern::TrueWord(at) | Pattern::FalseWord(at) => self.ensure_type(
+                *at,
+                KnownType::Bool,
+                t,
+            ),
             Pattern::Unit(at) => self.ensure_type(*at, KnownType::Unit, t),
             Pattern::NoneWord(at) => {
                 self.option_part(*at, t)?;
@@ -95,7 +102,8 @@ impl Checker {
     ) -> Result<(), TypeFault>
         requires { ValuesBelow (length self.now.types) (listed found.old.items) }
         ensures below { OnOk result (ValuesBelow (length self.now.types) (listed found.new.items)) }
-        ensures binds { Gives (all_bindings (patterns (map pattern ps.now)) (scope_of self.now) (bound self.now.types found.old.items)) result (λ _. bound self.now.types found.new.items) }
+        ensures binds { Binds self.now found.old.items found.new.items result
+            (all_bindings (patterns (map pattern ps.now)) (scope_of self.now)) }
     {
         for p in ps {
             self.bindings(p, KnownType::Judgement, found)?;

@@ -1,9 +1,10 @@
 //! The types of premises and conclusions.
 
-ghost use Rattle.std.specs.Prelude.{◌≡◌, ◌∷◌, [], map, OnOk};
+ghost use Rattle.std.specs.Prelude.{◌≡◌, [], map, OnOk};
 ghost use Rattle.ft_meaning.specs.Trees.{binder, premise, equation_body};
-ghost use Rattle.ft_meaning.specs.CommandTyping.{binders_scope, body_typed, premise_typed, premises_scope, makes_symbol};
-ghost use Rattle.ft_types.specs.Checking.{scope_of, Keeps, Passes, last_first};
+ghost use Rattle.ft_meaning.specs.CommandTyping.{binders_scope, body_typed, premise_typed};
+ghost use Rattle.ft_meaning.specs.CommandTyping.{premises_scope, makes_symbol};
+ghost use Rattle.ft_types.specs.Checking.{scope_of, Keeps, Passes, last_first, SeesNext};
 ghost use Rattle.ft_types.specs.Commands.{Enters, name_in, body_in, conclusion_in, premise_has};
 
 use crate::checker::{Checker, new_name};
@@ -37,7 +38,8 @@ impl Checker {
     #[tactic(auto, using(crate::proofs::Rules::keeping, crate::proofs::Rules::adding))]
     fn binders(&mut self, bs: &[Binder]) -> Result<(), TypeFault>
         ensures keeps { Keeps self.old self.new }
-        ensures enters { Enters (binders_scope (map binder bs.now) (scope_of self.old)) result self.old self.new }
+        ensures enters { Enters (binders_scope (map binder bs.now) (scope_of self.old))
+            result self.old self.new }
     {
         for b in bs {
             self.judgement(&b.domain)?;
@@ -50,7 +52,8 @@ impl Checker {
     #[tactic(auto, using(crate::proofs::Rules::keeping))]
     fn equation(&mut self, e: &Ast, f: &Ast, a: &Option<Ast>) -> Result<(), TypeFault>
         ensures keeps { Keeps self.old self.new }
-        ensures passes { Passes (body_typed (equation_body e.now f.now a.now) (scope_of self.old)) result self.old self.new }
+        ensures passes { Passes (body_typed (equation_body e.now f.now a.now) (scope_of self.old))
+            result self.old self.new }
     {
         self.judgement(e)?;
         self.judgement(f)?;
@@ -64,7 +67,8 @@ impl Checker {
     #[tactic(auto, using(crate::proofs::Rules::keeping))]
     pub fn conclusion(&mut self, conclusion: &Conclusion) -> Result<(), TypeFault>
         ensures keeps { Keeps self.old self.new }
-        ensures passes { Passes (body_typed (conclusion_in conclusion.now) (scope_of self.old)) result self.old self.new }
+        ensures passes { Passes (body_typed (conclusion_in conclusion.now) (scope_of self.old))
+            result self.old self.new }
     {
         match conclusion {
             Conclusion::Type(_) => Ok(()),
@@ -77,8 +81,12 @@ impl Checker {
     #[tactic(auto, using(crate::proofs::Rules::keeping, crate::proofs::PremiseSteps::typed_equation))]
     fn premise_body(&mut self, body: &Body, seen: &mut Vec<Name>) -> Result<(), TypeFault>
         ensures keeps { Keeps self.old self.new }
-        ensures passes { Passes (premise_typed (name_in body.now) (last_first seen.old.items) (body_in body.now) (scope_of self.old)) result self.old self.new }
-        ensures seen { OnOk result (last_first seen.new.items ≡ (name_in body.now).name ∷ last_first seen.old.items) }
+        ensures passes { Passes
+            (premise_typed (name_in body.now) (last_first seen.old.items) (body_in body.now)
+            (scope_of self.old))
+            result self.old self.new }
+        ensures seen { OnOk result
+            (SeesNext (name_in body.now).name seen.old.items seen.new.items) }
     {
         match body {
             Body::Type(_, name) => new_name(name, seen),
@@ -97,8 +105,10 @@ impl Checker {
     #[tactic(auto, using(crate::proofs::Rules::keeping, crate::proofs::Rules::adding), unfolding(crate::specs::Commands::premise_has))]
     fn premise(&mut self, p: &Premise, seen: &mut Vec<Name>) -> Result<(), TypeFault>
         ensures keeps { Keeps self.old self.new }
-        ensures passes { Passes (premise_has p.now (last_first seen.old.items) (scope_of self.old)) result self.old self.new }
-        ensures seen { OnOk result (last_first seen.new.items ≡ (name_in p.now.body).name ∷ last_first seen.old.items) }
+        ensures passes { Passes (premise_has p.now (last_first seen.old.items) (scope_of self.old))
+            result self.old self.new }
+        ensures seen { OnOk result
+            (SeesNext (name_in p.now.body).name seen.old.items seen.new.items) }
     {
         let count = self.local_count();
         self.binders(p.binders.as_slice())?;
@@ -111,7 +121,8 @@ impl Checker {
     #[tactic(auto, using(crate::proofs::Rules::keeping, crate::proofs::Rules::adding, crate::proofs::PremiseSteps::next_premise, crate::proofs::PremiseSteps::premise_fails))]
     pub fn premises(&mut self, alloc: Global, ps: &[Premise]) -> Result<(), TypeFault>
         ensures keeps { Keeps self.old self.new }
-        ensures enters { Enters (premises_scope (map premise ps.now) [] (scope_of self.old)) result self.old self.new }
+        ensures enters { Enters (premises_scope (map premise ps.now) [] (scope_of self.old))
+            result self.old self.new }
     {
         let mut seen = Vec::new(alloc);
         for p in ps {

@@ -93,7 +93,8 @@ impl Typed {
     }
 }
 
-/// Checks a command: the types of its parts, and the scope after it. After a fault the scope is as before.
+/// Checks a command: the types of its parts, and the scope after it. After a fault the scope is as
+/// before.
 #[tactic(auto, using(crate::proofs::Alone::left_none))]
 pub fn check_command(alloc: Global, s: &mut Scope, c: Command) -> Result<Typed, TypeFault>
     ensures holds { IfOk result (λ t. t ≡ c) }

@@ -4,11 +4,12 @@ ghost use Rattle.std.specs.Prelude.{◌≡◌, ◌<◌, ℕ, [], length, IfOk, I
 ghost use Rattle.ft_meaning.specs.Trees.{ValueType, pair, list, option, value_type};
 ghost use Rattle.ft_meaning.specs.Typing.{same_type};
 ghost use Rattle.ft_types.specs.declared.types.KnownType.TheVariants.{Compound};
-ghost use Rattle.ft_types.specs.Types.{type_in, type_at, Below, FitsBelow, Extends, list_part, option_part, pair_parts};
+ghost use Rattle.ft_types.specs.Types.{type_in, type_at, Below, FitsBelow, Extends, stands_for};
+ghost use Rattle.ft_types.specs.Types.{list_part, option_part, pair_parts};
 
+use crate::shared::SharedType;
 use ft_base::Memory;
 use ft_grammar::AmlType;
-use sqlite_items::Boxed;
 use std::alloc::Global;
 use std::collections::HashMap;
 use std::marker::Model;
@@ -31,7 +32,8 @@ pub enum Row {
     Opt(KnownType),
 }
 
-/// The types with parts, in rows that only grow. The parts of a row stand before it, and no two rows are the same type.
+/// The types with parts, in rows that only grow. The parts of a row stand before it, and no two
+/// rows are the same type.
 #[derive(Drop)]
 pub struct Types {
     rows: Vec<Row>,
@@ -87,7 +89,7 @@ impl Types {
     }
 
     /// The row of a place.
-    #[tactic(auto, using(crate::proofs::Rows::types_len, crate::proofs::Rows::row_at))]
+    #[tactic(auto, using(crate::proofs::Rows::types_len, crate::proofs::Rows::table_row_at))]
     pub fn row(&self, place: u64) -> Row
         requires { place < length self.now }
         ensures parts { FitsBelow place result }
@@ -101,7 +103,8 @@ impl Types {
     pub fn pair(&mut self, a: KnownType, b: KnownType) -> Result<KnownType, Memory>
         requires { Below (length self.old) a × Below (length self.old) b }
         ensures below { IfOk result (λ t. Below (length self.new) t) }
-        ensures means { IfOk result (λ t. type_in self.new t ≡ pair (type_in self.old a) (type_in self.old b)) }
+        ensures means { IfOk result
+            (λ t. type_in self.new t ≡ pair (type_in self.old a) (type_in self.old b)) }
         ensures grows { Extends self.old self.new }
     {
         self.of_row(Row::Pair(a, b))
@@ -155,27 +158,13 @@ impl Types {
         }
     }
 
-    /// The tree of a type.
-    #[tactic(auto, using(crate::proofs::Rows::below_less, crate::proofs::Rows::rank_below, ft_meaning::proofs::Written::type_Judgement, ft_meaning::proofs::Written::type_Boundary, ft_meaning::proofs::Written::type_Unit, ft_meaning::proofs::Written::type_Bool, ft_meaning::proofs::Written::type_Pair, ft_meaning::proofs::Written::type_List, ft_meaning::proofs::Written::type_Opt))]
-    pub fn tree(&self, t: KnownType) -> Result<AmlType, Memory>
+    /// The type by itself, with a table of its own.
+    #[tactic(auto, using(crate::proofs::Rows::types_len))]
+    pub fn shared(&self, t: KnownType) -> Result<SharedType, Memory>
         requires { Below (length self.now) t }
-        ensures { IfOk result (λ a. value_type a ≡ type_in self.now t) }
+        ensures { IfOk result (λ s. stands_for s ≡ type_in self.now t) }
     {
-        let place = match t {
-            KnownType::Judgement => return Ok(AmlType::Judgement),
-            KnownType::Boundary => return Ok(AmlType::Boundary),
-            KnownType::Unit => return Ok(AmlType::Unit),
-            KnownType::Bool => return Ok(AmlType::Bool),
-            KnownType::Compound(place) => place,
-        };
-        match self.row(place) {
-            Row::Pair(a, b) => Ok(AmlType::Pair(
-                Boxed::new(self.alloc, self.tree(a)?)?,
-                Boxed::new(self.alloc, self.tree(b)?)?,
-            )),
-            Row::List(a) => Ok(AmlType::List(Boxed::new(self.alloc, self.tree(a)?)?)),
-            Row::Opt(a) => Ok(AmlType::Opt(Boxed::new(self.alloc, self.tree(a)?)?)),
-        }
+        SharedType::new(self.alloc, &self.rows, t)
     }
 
     /// Whether two types are the same.
@@ -223,8 +212,10 @@ impl Types {
     #[tactic(auto, using(crate::proofs::Rows::below_less, crate::proofs::Rows::fits_less))]
     pub fn pair_parts(&self, t: KnownType) -> Option<(KnownType, KnownType)>
         requires { Below (length self.now) t }
-        ensures below { IfSome result (λ p. Below (length self.now) p.0 × Below (length self.now) p.1) }
-        ensures means { option_map (λ p. (type_in self.now p.0, type_in self.now p.1)) result ≡ pair_parts (type_in self.now t) }
+        ensures below { IfSome result
+            (λ p. Below (length self.now) p.0 × Below (length self.now) p.1) }
+        ensures means { option_map (λ p. (type_in self.now p.0, type_in self.now p.1)) result
+            ≡ pair_parts (type_in self.now t) }
     {
         match t {
             KnownType::Compound(place) => match self.row(place) {

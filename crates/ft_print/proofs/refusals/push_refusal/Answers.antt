@@ -29,8 +29,8 @@ returns-in_ok-push_str-in-DependentVariable c =
     let W = declared_by c.args.k.now.items in
     let ts = c.args.k.now.trees in
     record {
-      ok = two_parts c.push_variable_alone.result c.args.out.now (codes "DependentVariable: ") (atom_text W (var c.in-DependentVariable.v)) c.push_str-in-DependentVariable.new.self c.push_variable_alone.new.out (refusal_text W (refusal_in ts c.args.r.now))
-          (ap (λ r. refusal_text W (refusal_in ts r)) c.in-DependentVariable.is) c.in_ok-push_str-in-DependentVariable.ensures.ok c.push_variable_alone.ensures.ok;
+      ok = two_parts c.push_atom.result c.args.out.now (codes "DependentVariable: ") (atom_text W (var c.in-DependentVariable.v)) c.push_str-in-DependentVariable.new.self c.push_atom.new.out (refusal_text W (refusal_in ts c.args.r.now))
+          (ap (λ r. refusal_text W (refusal_in ts r)) c.in-DependentVariable.is) c.in_ok-push_str-in-DependentVariable.ensures.ok c.push_atom.ensures.ok;
     }
 
 pub returns-in_ok-push_str-in-OpenBoundary : goal.returns-in_ok-push_str-in-OpenBoundary
@@ -38,6 +38,6 @@ returns-in_ok-push_str-in-OpenBoundary c =
     let W = declared_by c.args.k.now.items in
     let ts = c.args.k.now.trees in
     record {
-      ok = two_parts c.push_variable_alone-in-OpenBoundary.result c.args.out.now (codes "OpenBoundary: ") (atom_text W (var c.in-OpenBoundary.v)) c.push_str-in-OpenBoundary.new.self c.push_variable_alone-in-OpenBoundary.new.out (refusal_text W (refusal_in ts c.args.r.now))
-          (ap (λ r. refusal_text W (refusal_in ts r)) c.in-OpenBoundary.is) c.in_ok-push_str-in-OpenBoundary.ensures.ok c.push_variable_alone-in-OpenBoundary.ensures.ok;
+      ok = two_parts c.push_atom-in-OpenBoundary.result c.args.out.now (codes "OpenBoundary: ") (atom_text W (var c.in-OpenBoundary.v)) c.push_str-in-OpenBoundary.new.self c.push_atom-in-OpenBoundary.new.out (refusal_text W (refusal_in ts c.args.r.now))
+          (ap (λ r. refusal_text W (refusal_in ts r)) c.in-OpenBoundary.is) c.in_ok-push_str-in-OpenBoundary.ensures.ok c.push_atom-in-OpenBoundary.ensures.ok;
     }

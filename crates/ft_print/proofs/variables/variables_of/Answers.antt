@@ -1,6 +1,6 @@
 use Rattle.std.proofs.Common.{◌≡◌, ◌∙◌, ap, ℕ, ◌≤◌, Some, slice_get, get_or, length, add-one, arith}
+use Rattle.std.proofs.lemmas.Option.{slice_get-get_or}
 use Rattle.ft_assume.specs.declared.atom.Atom.TheVariants.{Met}
-use Rattle.ft_print.proofs.Joining.{read_there}
 use Rattle.ft_print.proofs.InOrder.{variable_next, other_next, variables_end}
 use Rattle.ft_print.proofs.variables.variables_of.Goals.{in-Var+in_ok-push, in_default}
 use Rattle.ft_print.proofs.variables.variables_of.Goals as goal
@@ -10,7 +10,7 @@ loop-atom-preserved c =
     let atoms = c.atoms-atom-items.result.now in
     let i : ℕ = c.loop-atom.atom-index in
     let a = get_or atoms i (Met 0) in
-    let g : slice_get atoms i ≡ Some a = read_there atoms i (Met 0) c.loop-atom-test.true in
+    let g : slice_get atoms i ≡ Some a = slice_get-get_or atoms i (Met 0) c.loop-atom-test.true in
     record {
       atoms = c.loop-atom.invariant.atoms;
       order = c.loop-atom.invariant.order;

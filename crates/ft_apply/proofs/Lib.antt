@@ -1,0 +1,13 @@
+pub mod Naming
+pub mod Pairing
+pub mod AtInstances
+pub mod Comparing
+pub mod Goals
+pub mod RuleLines
+pub mod Asking
+pub mod Fitted
+pub mod Fits
+pub mod Calls
+pub mod After
+pub mod Instancing
+pub mod Concluded

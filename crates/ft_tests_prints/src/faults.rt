@@ -81,7 +81,8 @@ fn a_run_that_ends_tells_why(rt: HostRuntime) -> Result<(), Fail> {
 fn a_rule_that_is_not_declared_tells_why(rt: HostRuntime) -> Result<(), Fail> {
     let alloc = rt.alloc();
     let nat = name(alloc, "Nat")?;
-    let k = &declared(alloc)?;
+    let kernel = declared(alloc)?;
+    let k = &kernel;
     assert!(rt; is(duplicate_rule_text(alloc, &nat), "rule Nat declared twice"));
     assert!(rt; is(too_many_rules_text(alloc), "too many rules"));
     assert!(rt;

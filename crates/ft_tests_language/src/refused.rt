@@ -1,11 +1,13 @@
-//! Sources with the first fault of their types.
+//! Sources with the first fault of their types, in tables.
 
 use crate::faults::{NATURALS, first_fault};
 use ft_grammar::SyntaxFault;
+use std::alloc::Global;
 
-// Sources, each with its first fault where they stand after the four rules.
-const REFUSED: [(&str, &str); 135] = [
-    // names without a meaning
+// Each table has sources with their first fault, where they stand after the four rules.
+
+// names without a meaning, and names that are declared twice
+const NAMES: [(&str, &str); 30] = [
     ("show x", "5:6 unbound x"),
     ("computation R", "5:13 unbound R"),
     ("extensionality R", "5:16 unbound R"),
@@ -67,7 +69,10 @@ const REFUSED: [(&str, &str); 135] = [
         "operation f unit : unit let a = handle () with | f x -> () | f y -> () end",
         "5:62 f declared twice",
     ),
-    // numbers of arguments
+];
+
+// numbers of arguments, and what is shown
+const COUNTS: [(&str, &str); 17] = [
     ("show Nat Nat", "5:6 Nat takes 0, given 1"),
     ("show S", "5:6 S takes 1, given 0"),
     ("let a = () show a ()", "5:17 a takes 0, given 1"),
@@ -110,7 +115,10 @@ const REFUSED: [(&str, &str); 135] = [
         "5:29 type unit, wanted judgement",
     ),
     ("let a = true\nshow\n  a", "7:3 type bool, wanted judgement"),
-    // rules
+];
+
+// rules
+const RULES: [(&str, &str); 11] = [
     ("rule R : true", "5:10 type bool, wanted judgement"),
     ("rule R : true == true", "5:10 type bool, wanted judgement"),
     ("rule R : O == O : true", "5:19 type bool, wanted judgement"),
@@ -140,7 +148,10 @@ const REFUSED: [(&str, &str); 135] = [
         "rule R (x type) (y type) type show R O true",
         "5:40 type bool, wanted judgement",
     ),
-    // matching and handling
+];
+
+// matching and handling
+const CASES: [(&str, &str); 23] = [
     (
         "let a = match true with | true -> () | false -> true end",
         "5:49 type bool, wanted unit",
@@ -233,7 +244,10 @@ const REFUSED: [(&str, &str); 135] = [
         "let a = match (nil bool, ()) with | (nil, _) -> () | (none, _) -> () end",
         "5:55 type list bool, wanted option",
     ),
-    // other forms
+];
+
+// other forms
+const FORMS: [(&str, &str); 39] = [
     (
         "operation f unit : bool show perform f true",
         "5:40 type bool, wanted unit",
@@ -315,7 +329,10 @@ const REFUSED: [(&str, &str); 135] = [
     ("show rewrite true O", "5:14 type bool, wanted judgement"),
     ("show O{O}{true}", "5:11 type bool, wanted judgement"),
     ("let a = () :: true", "5:15 type bool, wanted list unit"),
-    // of two faults the earlier one
+];
+
+// of two faults the earlier one
+const ORDER: [(&str, &str); 15] = [
     ("show S true true", "5:6 S takes 1, given 2"),
     ("show congruence R true true", "5:17 unbound R"),
     ("show perform f (refl true)", "5:14 unbound f"),
@@ -363,13 +380,65 @@ const REFUSED: [(&str, &str); 135] = [
     ),
 ];
 
+// Whether this is told of the commands after the four rules.
+fn is_told(alloc: Global, commands: &str, wanted: &str) -> Result<bool, SyntaxFault> {
+    let source = format!(in alloc; "{NATURALS}{commands}")?;
+    let found = first_fault(alloc, &source)?;
+    Ok(found.bytes() == wanted.as_bytes())
+}
+
 #[test]
-fn the_first_fault_of_a_source_is_told(rt: HostRuntime) -> Result<(), SyntaxFault> {
+fn a_name_without_a_meaning_or_declared_twice_is_a_fault(
+    rt: HostRuntime,
+) -> Result<(), SyntaxFault> {
     let alloc = rt.alloc();
-    for (commands, wanted) in REFUSED {
-        let source = format!(in alloc; "{NATURALS}{commands}")?;
-        let found = first_fault(alloc, &source)?;
-        assert!(rt; found.bytes() == wanted.as_bytes(), "{source}");
+    for (commands, wanted) in NAMES {
+        assert!(rt; is_told(alloc, commands, wanted)?, "{commands}");
+    }
+    Ok(())
+}
+
+#[test]
+fn a_wrong_count_and_what_cannot_be_shown_are_faults(rt: HostRuntime) -> Result<(), SyntaxFault> {
+    let alloc = rt.alloc();
+    for (commands, wanted) in COUNTS {
+        assert!(rt; is_told(alloc, commands, wanted)?, "{commands}");
+    }
+    Ok(())
+}
+
+#[test]
+fn a_rule_that_has_no_type_is_a_fault(rt: HostRuntime) -> Result<(), SyntaxFault> {
+    let alloc = rt.alloc();
+    for (commands, wanted) in RULES {
+        assert!(rt; is_told(alloc, commands, wanted)?, "{commands}");
+    }
+    Ok(())
+}
+
+#[test]
+fn a_case_that_has_no_type_is_a_fault(rt: HostRuntime) -> Result<(), SyntaxFault> {
+    let alloc = rt.alloc();
+    for (commands, wanted) in CASES {
+        assert!(rt; is_told(alloc, commands, wanted)?, "{commands}");
+    }
+    Ok(())
+}
+
+#[test]
+fn a_form_that_has_no_type_is_a_fault(rt: HostRuntime) -> Result<(), SyntaxFault> {
+    let alloc = rt.alloc();
+    for (commands, wanted) in FORMS {
+        assert!(rt; is_told(alloc, commands, wanted)?, "{commands}");
+    }
+    Ok(())
+}
+
+#[test]
+fn of_two_faults_the_earlier_one_is_told(rt: HostRuntime) -> Result<(), SyntaxFault> {
+    let alloc = rt.alloc();
+    for (commands, wanted) in ORDER {
+        assert!(rt; is_told(alloc, commands, wanted)?, "{commands}");
     }
     Ok(())
 }

@@ -1,0 +1,26 @@
+//! Tests of the calls of the nucleus and of what a run tells.
+
+#![tactic(auto)]
+
+#[cfg(test)]
+mod applying;
+#[cfg(test)]
+mod calls;
+#[cfg(test)]
+mod drafting;
+#[cfg(test)]
+mod expressions;
+#[cfg(test)]
+mod faults;
+#[cfg(test)]
+mod lines;
+#[cfg(test)]
+mod naming;
+#[cfg(test)]
+mod places;
+#[cfg(test)]
+mod script;
+#[cfg(test)]
+mod theories;
+#[cfg(test)]
+mod told;

@@ -21,8 +21,8 @@ def below(crate, lines):
     return found
 
 
-def built(folder, name, main, uses, proofs=None):
-    """The path of the program NAME with this main file and these proofs over the crates `uses`, built in the folder."""
+def built(folder, name, main, uses, proofs=None, files=None):
+    """The path of the program NAME with this main file, these proofs and other files over the crates `uses`, built in the folder."""
     lines = listed()
     lines[name] = " " + " ".join(uses)
     crates = below(name, lines)
@@ -32,9 +32,10 @@ def built(folder, name, main, uses, proofs=None):
     os.makedirs(f"{folder}/crates/{name}/src")
     with open(f"{folder}/crates/{name}/src/main.rt", "w") as file:
         file.write(main)
-    for path, text in (proofs or {}).items():
-        os.makedirs(os.path.dirname(f"{folder}/crates/{name}/proofs/{path}"), exist_ok=True)
-        with open(f"{folder}/crates/{name}/proofs/{path}", "w") as file:
+    others = {f"proofs/{path}": text for path, text in (proofs or {}).items()} | (files or {})
+    for path, text in others.items():
+        os.makedirs(os.path.dirname(f"{folder}/crates/{name}/{path}"), exist_ok=True)
+        with open(f"{folder}/crates/{name}/{path}", "w") as file:
             file.write(text)
     with open(f"{folder}/crates.txt", "w") as file:
         file.write("".join(f"{crate}:{lines[crate]}\n" for crate in crates + [name]))

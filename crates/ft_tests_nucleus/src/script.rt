@@ -145,9 +145,9 @@ fn bound_goal(k: &mut Kernel, call: Call) -> Option<Result<B, Fault>>
     }
 }
 
-// A call that makes a thesis.
+/// A call that makes a thesis.
 #[tactic(auto, using(crate::proofs::Faults::answers_below, crate::proofs::Growing::answers_grow))]
-fn judged(alloc: Global, k: &mut Kernel, call: Call) -> Option<Result<J, Fault>>
+pub fn judged(alloc: Global, k: &mut Kernel, call: Call) -> Option<Result<J, Fault>>
     ensures grows { Grows k.old k.new }
     ensures thesis { IfSome result (λ r. IfOk r (λ j. IsThesisOf k.new j)) }
     ensures below { IfSome result (λ r. IfErr r (λ f. FaultBelow (length k.new.trees) f)) }

@@ -55,4 +55,3 @@ begun items n d h e =
 
 pub begun_draft : (items : List Item) (n : Name) (d : Drafted) → name_fault (declared_by items) n ≡ None → d ≡ record { name = n; premises = [] } → IsDraftOver items d
 begun_draft items n d h e = drafts_grow.0 (declared_by items) n (draft_in items d) (begun items n d h e)
-

@@ -5,7 +5,6 @@ use Rattle.std.proofs.lemmas.Option.{same_Some}
 use Rattle.ft_common.proofs.Booleans.{true_false}
 use Rattle.ft_common.proofs.Choices.{if_true}
 use Rattle.ft_items.specs.Sets.{Atom, met}
-use Rattle.ft_items.specs.Equal.{is_thesis}
 use Rattle.ft_items.specs.Item.{Name, metavariable}
 use Rattle.ft_items.specs.Store.{Assertion, Declared, Declarations, nth, declared_metavariable, add_metavariable, empty_store, declared_by, metavariables_in}
 use Rattle.ft_items.specs.Rows.{atoms}
@@ -19,7 +18,7 @@ use Rattle.ft_nucleus_laws.specs.Laws.{IsDraft}
 use Rattle.ft_nucleus_laws.proofs.Declaring.{drafts_grow}
 use Rattle.ft_kernel.specs.State.{State, with_item, entry_at, set_at, IsBoundaryOf}
 use Rattle.ft_rules.specs.Drafts.{Drafted, declared_or, met_of, mets_of, draft_in, IsDraftOver, RestsOnOwn}
-use Rattle.ft_rules.specs.Answers.{PremisesWith, Premises}
+use Rattle.ft_rules.specs.Answers.{Premises}
 use Rattle.ft_rules.specs.declared.fault.RuleFault.{RuleFault}
 use Rattle.ft_rules.specs.declared.fault.RuleFault.TheVariants.{OpenPremise, Memory}
 use Rattle.ft_rules.proofs.Own.{only_own}

@@ -1,4 +1,4 @@
-use Rattle.std.proofs.Common.{◌≡◌, ◌∙◌, suc, length, ap, arith}
+use Rattle.std.proofs.Common.{◌≡◌, ◌∙◌, length, ap, arith}
 use Rattle.std.specs.Prelude.{Some}
 use Rattle.ft_rules.specs.Drafts.{Drafted}
 use Rattle.ft_rules.proofs.Premises.{looked, premise_refused}

@@ -1,4 +1,4 @@
-use Rattle.std.proofs.Common.{◌≡◌, ◌∙◌, ap, refl}
+use Rattle.std.proofs.Common.{◌∙◌, ap, refl}
 use Rattle.ft_rules.specs.Drafts.{Drafted}
 use Rattle.ft_rules.proofs.Finishing.{MayFinish, may_finish, finish_allowed, finish_made, finish_finitary, stays_finitary, rule_there}
 use Rattle.ft_rules.proofs.drafts.Draft.push.Goals as goal

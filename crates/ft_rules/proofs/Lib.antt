@@ -1,0 +1,5 @@
+pub mod Own
+pub mod Mets
+pub mod Names
+pub mod Premises
+pub mod Finishing

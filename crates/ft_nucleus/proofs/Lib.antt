@@ -6,3 +6,4 @@ pub mod Parted
 pub mod Seeking
 pub mod Abstracting
 pub mod Substituting
+pub mod Equating

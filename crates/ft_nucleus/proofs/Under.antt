@@ -15,7 +15,7 @@ pub has_head-under : (ts : List Expression) (ds : List ℕ) (x : Statement) → 
 has_head-under ts [] x = refl
 has_head-under ts (d ∷ ds) x = has_head-under ts ds x
 
-head-under : (ts : List Expression) (ds : List ℕ) (x : Statement) → head (under ts ds x) ≡ head x
+pub head-under : (ts : List Expression) (ds : List ℕ) (x : Statement) → head (under ts ds x) ≡ head x
 head-under ts [] x = refl
 head-under ts (d ∷ ds) x = head-under ts ds x
 
@@ -23,7 +23,7 @@ pub boundary_of-under : (ts : List Expression) (ds : List ℕ) (x : Statement) �
 boundary_of-under ts [] x = refl
 boundary_of-under ts (d ∷ ds) x = ap (abstracted (tree ts d)) (boundary_of-under ts ds x)
 
-equate-under : (ts : List Expression) (ds : List ℕ) (x : Statement) (h k : Expression) → equate (under ts ds x) h k ≡ under ts ds (equate x h k)
+pub equate-under : (ts : List Expression) (ds : List ℕ) (x : Statement) (h k : Expression) → equate (under ts ds x) h k ≡ under ts ds (equate x h k)
 equate-under ts [] x h k = refl
 equate-under ts (d ∷ ds) x h k = ap (abstracted (tree ts d)) (equate-under ts ds x h k)
 

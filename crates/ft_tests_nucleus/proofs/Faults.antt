@@ -1,5 +1,5 @@
 -- What a fault of a call names is in the table.
-use Rattle.std.proofs.Common.{◌≡◌, ℕ, Bool, true, false, Option, Some, None, List, length, absurd}
+use Rattle.std.proofs.Common.{◌≡◌, ℕ, Bool, true, false, Option, Some, None, List, length, subst, absurd}
 use Rattle.std.specs.Prelude.{Result, Ok, Err, IfErr, option_map}
 use Rattle.ft_items.specs.Item.{Stated, Name}
 use Rattle.ft_items.specs.Store.{Annotation, Declared, Declarations, declared_by, declared_variable, add_variable, add_metavariable}
@@ -53,3 +53,13 @@ metavariable_below s n p (Err (Refused (OpenBoundary w))) t h = tt
 metavariable_below s n p (Err (Refused (ArgumentCount a b))) t h = tt
 metavariable_below s n p (Err (Refused TooBig)) t h = tt
 metavariable_below s n p (Err (Refused NotApplication)) t h = tt
+
+-- the fault of a call
+pub fault_below : {A : Type 0} (n : ℕ) (r : Result A Fault) (f : Fault) → IfErr r (λ f. FaultBelow n f) → r ≡ Err f → FaultBelow n f
+fault_below n r f h e = subst (λ r. IfErr r (λ f. FaultBelow n f)) e h
+
+pub variable_fault : (s : State) (v : ℕ) (n : Name) (p : ℕ) (r : Result ℕ Fault) (t : State) (f : Fault) → DeclaresVariable s v n p r t → r ≡ Err f → FaultBelow (length t.trees) f
+variable_fault s v n p r t f h e = fault_below (length t.trees) r f (variable_below s v n p r t h) e
+
+pub metavariable_fault : (s : State) (n : Name) (p : ℕ) (r : Result ℕ Fault) (t : State) (f : Fault) → DeclaresMetavariable s n p r t → r ≡ Err f → FaultBelow (length t.trees) f
+metavariable_fault s n p r t f h e = fault_below (length t.trees) r f (metavariable_below s n p r t h) e

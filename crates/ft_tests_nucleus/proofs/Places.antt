@@ -1,10 +1,16 @@
 -- The entry at a place of a list has as its number how many entries stand before it.
-use Rattle.std.proofs.Common.{◌≡◌, ◌∙◌, ℕ, zero, suc, Some, None, true, false, List, [], ◌∷◌, ap, length, take}
-use Rattle.ft_theory.specs.Statements.{Statement}
-use Rattle.ft_items.specs.Item.{Item, Entry, variable, metavariable, rule, entry, shown}
-use Rattle.ft_items.specs.Store.{Assertion, nth, entries_in}
-use Rattle.ft_items.specs.Equal.{is_thesis}
-use Rattle.ft_kernel.specs.State.{State, IsThesisOf, IsBoundaryOf}
+use Rattle.std.proofs.Common.{◌≡◌, ◌∙◌, ℕ, zero, suc, Option, Some, None, true, false, List, [], ◌∷◌, ap, sym, refl, subst, arith, length, take}
+use Rattle.std.specs.Prelude.{option_map}
+use Rattle.std.proofs.lemmas.Option.{same_Some}
+use Rattle.ft_common.proofs.Options.{none_some}
+use Rattle.ft_theory.specs.Statements.{Statement, plain}
+use Rattle.ft_items.specs.Item.{Name, Item, Entry, variable, metavariable, rule, entry, shown}
+use Rattle.ft_items.specs.Store.{Assertion, nth, entries_in, variables_in}
+use Rattle.ft_items.specs.Equal.{is_thesis, is_plain}
+use Rattle.ft_judge.specs.Meaning.{under, boundary_in, goal_in}
+use Rattle.ft_judge.specs.declared.judgement.Boundary.{Boundary}
+use Rattle.ft_rules.specs.Drafts.{IsPlainBoundaryOf}
+use Rattle.ft_kernel.specs.State.{State, statement_at, variable_numbered, IsThesisOf, IsBoundaryOf, IsVariableOf}
 use Rattle.ft_kernel.specs.Steps.{step_of}
 use Rattle.ft_kernel.specs.Shown.{IsShownAs}
 use Rattle.ft_tests_nucleus.specs.Faults.{IsNamed}
@@ -42,7 +48,20 @@ shown_named s i (item.Boundary j t) h = (
 shown_named s i (item.Shown j) h = tt
 
 -- a boundary without domains
-pub plain_there : (s : State) (b : ℕ) (x : Boundary) → IsBoundaryOf s b → statement_at s b ≡ Some (boundary_in s.trees x) → x.domains ≡ [] → IsPlainBoundaryOf s b
-plain_there s b x h e d =
-    let same : h.0.statement ≡ boundary_in s.trees x = cc in
-    (h.0, h.1, h.2, ap is_plain same ∙ ap (λ ds. is_plain (under s.trees ds (plain (goal_in s.trees x.goal)))) d)
+pub plain_there : (s : State) (b : ℕ) (x : Boundary) → IsBoundaryOf s b → statement_at s b ≡ Some (boundary_in s.trees x) → length x.domains ≡ 0 → IsPlainBoundaryOf s b
+plain_there s b x h e d = (h.0, h.1, h.2, ap is_plain same ∙ none_around x.domains d)
+  where
+    same : h.0.statement ≡ boundary_in s.trees x
+    same = same_Some h.0.statement (boundary_in s.trees x) (ap (option_map (λ (a : Assertion). a.statement)) (sym h.1) ∙ e)
+
+    none_around : (ds : List ℕ) → length ds ≡ 0 → is_plain (under s.trees ds (plain (goal_in s.trees x.goal))) ≡ true
+    none_around [] e = refl
+    none_around (d ∷ ds) e = absurd (omega (arith, e))
+
+-- a variable of the number that was looked for
+pub variable_found : (s : State) (v w : ℕ) (o : Option ℕ) → o ≡ option_map (λ _. v) (variable_numbered (variables_in s.items) v) → o ≡ Some w → IsVariableOf s w
+variable_found s v w o h e = go (variable_numbered (variables_in s.items) v) refl (sym h ∙ e)
+  where
+    go : (x : Option (Name × ℕ)) → variable_numbered (variables_in s.items) v ≡ x → option_map (λ _. v) x ≡ Some w → IsVariableOf s w
+    go None k q = none_some q
+    go (Some x) k q = subst (λ w. IsVariableOf s w) (same_Some v w q) (x, k)

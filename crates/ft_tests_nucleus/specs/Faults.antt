@@ -6,11 +6,19 @@ use Rattle.ft_kernel.specs.State.{State, IsThesisOf, IsBoundaryOf}
 use Rattle.ft_kernel.specs.declared.item.Item.{Item}
 use Rattle.ft_kernel.specs.declared.item.Item.TheVariants.{Var, Met, Rule, Thesis, Boundary, Shown}
 use Rattle.ft_calls.specs.Answers.{RefusalBelow}
+use Rattle.ft_tests_nucleus.specs.declared.stop.Stop.{Stop}
+use Rattle.ft_tests_nucleus.specs.declared.stop.Stop.TheVariants as stop
 
 -- each expression of the fault is among the first n trees
 abbrev pub FaultBelow : ℕ → Fault → Type 0
 FaultBelow n (Refused r) = RefusalBelow n r
 FaultBelow n Memory = Unit {0}
+
+-- each expression of the stop is among the first n trees
+abbrev pub StopBelow : ℕ → Stop → Type 0
+StopBelow n stop.Script = Unit {0}
+StopBelow n (stop.Refused r) = RefusalBelow n r
+StopBelow n stop.Memory = Unit {0}
 
 -- the entry that an item is shown by is a thesis or a boundary of the list
 abbrev pub IsNamed : State → Item → Type 0

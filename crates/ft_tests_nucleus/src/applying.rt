@@ -4,12 +4,12 @@ ghost use Rattle.std.specs.Prelude.{IfOk, IfErr, IfSome, length};
 ghost use Rattle.ft_kernel.specs.State.{IsThesisOf};
 ghost use Rattle.ft_apply.specs.Named.{AreThesesOf};
 ghost use Rattle.ft_tests_nucleus.specs.Drafts.{Grows};
-ghost use Rattle.ft_tests_nucleus.specs.Faults.{FaultBelow};
+ghost use Rattle.ft_tests_nucleus.specs.Faults.{StopBelow};
 
 use crate::naming::{boundary, metavariable, rule, thesis};
 use crate::script::Call;
+use crate::stop::{Stop, boundary_or, thesis_or};
 use ft_apply::{apply, apply_with, congruence, convert_premise, next_boundary};
-use ft_judge::Fault;
 use ft_kernel::{B, J, Judgements, Kernel};
 use ft_metas::{generic, meta_apply, meta_congruence};
 use std::alloc::Global;
@@ -29,90 +29,99 @@ fn theses(alloc: Global, k: &Kernel, places: &[u64]) -> Option<Judgements>
 
 /// The boundary of the premise after theses.
 #[tactic(auto, using(crate::proofs::Faults::answers_below, crate::proofs::Growing::answers_grow))]
-pub fn next(alloc: Global, k: &mut Kernel, r: u64, args: &[u64]) -> Option<Result<B, Fault>>
+pub fn next(alloc: Global, k: &mut Kernel, r: u64, args: &[u64]) -> Result<B, Stop>
     ensures grows { Grows k.old k.new }
-    ensures below { IfSome result (λ r. IfErr r (λ f. FaultBelow (length k.new.trees) f)) }
+    ensures below { IfErr result (λ f. StopBelow (length k.new.trees) f) }
 {
-    let named = rule(k, r)?;
-    let given = theses(alloc, k, args)?;
-    Some(next_boundary(alloc, k, named, given.items()))
+    let named = rule(k, r).ok_or(Stop::Script)?;
+    let given = theses(alloc, k, args).ok_or(Stop::Script)?;
+    let made = next_boundary(alloc, k, named, given.items());
+    boundary_or(k, made)
 }
 
 /// A call on a rule at theses.
 #[tactic(auto, using(crate::proofs::Faults::answers_below, crate::proofs::Growing::answers_grow))]
-pub fn at_theses(alloc: Global, k: &mut Kernel, call: Call) -> Option<Result<J, Fault>>
+pub fn at_theses(alloc: Global, k: &mut Kernel, call: Call) -> Result<J, Stop>
     ensures grows { Grows k.old k.new }
-    ensures thesis { IfSome result (λ r. IfOk r (λ j. IsThesisOf k.new j)) }
-    ensures below { IfSome result (λ r. IfErr r (λ f. FaultBelow (length k.new.trees) f)) }
+    ensures thesis { IfOk result (λ j. IsThesisOf k.new j) }
+    ensures below { IfErr result (λ f. StopBelow (length k.new.trees) f) }
 {
     match call {
         Call::Apply(r, args) => {
-            let named = rule(k, r)?;
-            let given = theses(alloc, k, args)?;
-            Some(apply(alloc, k, named, given.items()))
+            let named = rule(k, r).ok_or(Stop::Script)?;
+            let given = theses(alloc, k, args).ok_or(Stop::Script)?;
+            let made = apply(alloc, k, named, given.items());
+            thesis_or(k, made)
         }
         Call::ApplyWith(r, b, args) => {
-            let named = rule(k, r)?;
-            let goal = boundary(k, b)?;
-            let given = theses(alloc, k, args)?;
-            Some(apply_with(alloc, k, named, goal, given.items()))
+            let named = rule(k, r).ok_or(Stop::Script)?;
+            let goal = boundary(k, b).ok_or(Stop::Script)?;
+            let given = theses(alloc, k, args).ok_or(Stop::Script)?;
+            let made = apply_with(alloc, k, named, goal, given.items());
+            thesis_or(k, made)
         }
         Call::Again(r) => {
-            let named = rule(k, r)?;
-            let last = thesis(k, k.len().saturating_sub(1))?;
-            Some(apply(alloc, k, named, &[last]))
+            let named = rule(k, r).ok_or(Stop::Script)?;
+            let last = thesis(k, k.len().saturating_sub(1)).ok_or(Stop::Script)?;
+            let made = apply(alloc, k, named, &[last]);
+            thesis_or(k, made)
         }
-        _ => None,
+        _ => Err(Stop::Script),
     }
 }
 
 /// A call on a rule at theses and equations that start at them.
 #[tactic(auto, using(crate::proofs::Faults::answers_below, crate::proofs::Growing::answers_grow))]
-pub fn at_equations(alloc: Global, k: &mut Kernel, call: Call) -> Option<Result<J, Fault>>
+pub fn at_equations(alloc: Global, k: &mut Kernel, call: Call) -> Result<J, Stop>
     ensures grows { Grows k.old k.new }
-    ensures thesis { IfSome result (λ r. IfOk r (λ j. IsThesisOf k.new j)) }
-    ensures below { IfSome result (λ r. IfErr r (λ f. FaultBelow (length k.new.trees) f)) }
+    ensures thesis { IfOk result (λ j. IsThesisOf k.new j) }
+    ensures below { IfErr result (λ f. StopBelow (length k.new.trees) f) }
 {
     match call {
         Call::Congruence(r, args, equations) => {
-            let named = rule(k, r)?;
-            let given = theses(alloc, k, args)?;
-            let equal = theses(alloc, k, equations)?;
-            Some(congruence(alloc, k, named, given.items(), equal.items()))
+            let named = rule(k, r).ok_or(Stop::Script)?;
+            let given = theses(alloc, k, args).ok_or(Stop::Script)?;
+            let equal = theses(alloc, k, equations).ok_or(Stop::Script)?;
+            let made = congruence(alloc, k, named, given.items(), equal.items());
+            thesis_or(k, made)
         }
         Call::Move(r, args, equations, j, back) => {
-            let named = rule(k, r)?;
-            let given = theses(alloc, k, args)?;
-            let equal = theses(alloc, k, equations)?;
-            let moved = thesis(k, j)?;
-            Some(convert_premise(alloc, k, named, given.items(), equal.items(), moved, back))
+            let named = rule(k, r).ok_or(Stop::Script)?;
+            let given = theses(alloc, k, args).ok_or(Stop::Script)?;
+            let equal = theses(alloc, k, equations).ok_or(Stop::Script)?;
+            let moved = thesis(k, j).ok_or(Stop::Script)?;
+            let made = convert_premise(alloc, k, named, given.items(), equal.items(), moved, back);
+            thesis_or(k, made)
         }
-        _ => None,
+        _ => Err(Stop::Script),
     }
 }
 
 /// A call on a metavariable.
 #[tactic(auto, using(crate::proofs::Faults::answers_below, crate::proofs::Growing::answers_grow, crate::proofs::Listing::theses_same))]
-pub fn at_metavariable(alloc: Global, k: &mut Kernel, call: Call) -> Option<Result<J, Fault>>
+pub fn at_metavariable(alloc: Global, k: &mut Kernel, call: Call) -> Result<J, Stop>
     ensures grows { Grows k.old k.new }
-    ensures thesis { IfSome result (λ r. IfOk r (λ j. IsThesisOf k.new j)) }
-    ensures below { IfSome result (λ r. IfErr r (λ f. FaultBelow (length k.new.trees) f)) }
+    ensures thesis { IfOk result (λ j. IsThesisOf k.new j) }
+    ensures below { IfErr result (λ f. StopBelow (length k.new.trees) f) }
 {
     match call {
         Call::Generic(m) => {
-            let named = metavariable(k, m)?;
-            Some(generic(alloc, k, named))
+            let named = metavariable(k, m).ok_or(Stop::Script)?;
+            let made = generic(alloc, k, named);
+            thesis_or(k, made)
         }
         Call::Meta(m, args) => {
-            let named = metavariable(k, m)?;
-            let given = theses(alloc, k, args)?;
-            Some(meta_apply(alloc, k, named, given.items()))
+            let named = metavariable(k, m).ok_or(Stop::Script)?;
+            let given = theses(alloc, k, args).ok_or(Stop::Script)?;
+            let made = meta_apply(alloc, k, named, given.items());
+            thesis_or(k, made)
         }
         Call::MetaCongruence(m, equations) => {
-            let named = metavariable(k, m)?;
-            let equal = theses(alloc, k, equations)?;
-            Some(meta_congruence(alloc, k, named, equal.items()))
+            let named = metavariable(k, m).ok_or(Stop::Script)?;
+            let equal = theses(alloc, k, equations).ok_or(Stop::Script)?;
+            let made = meta_congruence(alloc, k, named, equal.items());
+            thesis_or(k, made)
         }
-        _ => None,
+        _ => Err(Stop::Script),
     }
 }

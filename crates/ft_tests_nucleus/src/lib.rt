@@ -21,6 +21,8 @@ mod places;
 #[cfg(test)]
 mod script;
 #[cfg(test)]
+mod stop;
+#[cfg(test)]
 mod theories;
 #[cfg(test)]
 mod told;

@@ -8,35 +8,39 @@ ghost use Rattle.ft_tests_nucleus.specs.Faults.{IsNamed};
 
 use ft_kernel::{B, Item, J, Kernel, M, RuleId, V};
 
-// The item at a place, or None where there is none.
-#[tactic(auto, using(crate::proofs::Places::shown_named))]
-fn at(k: &Kernel, place: u64) -> Option<Item<'_>>
-    ensures { IfSome result (λ x. IsNamed k.now x) }
-{
-    if place < k.len() {
-        Some(k.item(place))
-    } else {
-        None
-    }
-}
-
 /// The thesis at a place.
+#[tactic(auto, using(crate::proofs::Places::shown_named))]
 pub fn thesis(k: &Kernel, place: u64) -> Option<J>
     ensures { IfSome result (λ j. IsThesisOf k.now j) }
 {
-    match at(k, place)? {
-        Item::Thesis(j, _) => Some(j),
-        _ => None,
+    if place >= k.len() {
+        return None;
+    }
+    match k.item(place) {
+        Item::Thesis(j, _step) => Some(j),
+        Item::Boundary(_b, _step) => None,
+        Item::Var(_v) => None,
+        Item::Met(_m) => None,
+        Item::Rule(_r) => None,
+        Item::Shown(_j) => None,
     }
 }
 
 /// The boundary at a place.
+#[tactic(auto, using(crate::proofs::Places::shown_named))]
 pub fn boundary(k: &Kernel, place: u64) -> Option<B>
     ensures { IfSome result (λ b. IsBoundaryOf k.now b) }
 {
-    match at(k, place)? {
-        Item::Boundary(b, _) => Some(b),
-        _ => None,
+    if place >= k.len() {
+        return None;
+    }
+    match k.item(place) {
+        Item::Boundary(b, _step) => Some(b),
+        Item::Thesis(_j, _step) => None,
+        Item::Var(_v) => None,
+        Item::Met(_m) => None,
+        Item::Rule(_r) => None,
+        Item::Shown(_j) => None,
     }
 }
 
@@ -54,31 +58,58 @@ pub fn plain_boundary(k: &Kernel, place: u64) -> Option<B>
 }
 
 /// The variable at a place.
+#[tactic(auto, using(crate::proofs::Places::shown_named, crate::proofs::Places::variable_found))]
 pub fn variable(k: &Kernel, place: u64) -> Option<V>
     ensures { IfSome result (λ v. IsVariableOf k.now v) }
 {
-    match at(k, place)? {
-        Item::Var(v) => k.var_numbered(v.number()),
-        _ => None,
+    if place >= k.len() {
+        return None;
+    }
+    match k.item(place) {
+        Item::Var(v) => match k.var_numbered(v.number()) {
+            Some(found) => Some(found),
+            None => None,
+        },
+        Item::Thesis(_j, _step) => None,
+        Item::Boundary(_b, _step) => None,
+        Item::Met(_m) => None,
+        Item::Rule(_r) => None,
+        Item::Shown(_j) => None,
     }
 }
 
 /// The metavariable at a place.
+#[tactic(auto, using(crate::proofs::Places::shown_named))]
 pub fn metavariable(k: &Kernel, place: u64) -> Option<M>
     ensures { IfSome result (λ m. m < length (metavariables_in k.now.items)) }
 {
-    match at(k, place)? {
+    if place >= k.len() {
+        return None;
+    }
+    match k.item(place) {
         Item::Met(m) => k.met_numbered(m.number()),
-        _ => None,
+        Item::Thesis(_j, _step) => None,
+        Item::Boundary(_b, _step) => None,
+        Item::Var(_v) => None,
+        Item::Rule(_r) => None,
+        Item::Shown(_j) => None,
     }
 }
 
 /// The rule at a place.
+#[tactic(auto, using(crate::proofs::Places::shown_named))]
 pub fn rule(k: &Kernel, place: u64) -> Option<RuleId>
     ensures { IfSome result (λ r. r < length (rules_in k.now.items)) }
 {
-    match at(k, place)? {
+    if place >= k.len() {
+        return None;
+    }
+    match k.item(place) {
         Item::Rule(r) => k.rule_numbered(r.number()),
-        _ => None,
+        Item::Thesis(_j, _step) => None,
+        Item::Boundary(_b, _step) => None,
+        Item::Var(_v) => None,
+        Item::Met(_m) => None,
+        Item::Shown(_j) => None,
     }
 }

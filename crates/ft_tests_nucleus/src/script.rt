@@ -1,17 +1,19 @@
 //! Scripts: calls in a row, each of which takes the answers of earlier ones.
 
-ghost use Rattle.std.specs.Prelude.{IfOk, IfErr, IfSome, length};
+ghost use Rattle.std.specs.Prelude.{IfOk, IfErr, length};
 ghost use Rattle.ft_kernel.specs.State.{IsThesisOf};
+ghost use Rattle.ft_calls.specs.Answers.{RefusalBelow};
 ghost use Rattle.ft_tests_nucleus.specs.Drafts.{Grows, MayDraft};
-ghost use Rattle.ft_tests_nucleus.specs.Faults.{FaultBelow};
+ghost use Rattle.ft_tests_nucleus.specs.Faults.{StopBelow};
 
 use crate::applying::{at_equations, at_metavariable, at_theses, next};
 use crate::calls::{One, Two, of_one, of_two};
 use crate::drafting::drafted;
 use crate::naming::{boundary, thesis, variable};
+use crate::stop::{Stop, boundary_or, stop_of, thesis_or};
 use crate::told::name;
-use ft_base::{Memory, Text};
-use ft_judge::Fault;
+use ft_base::Text;
+use ft_judge::Refusal;
 use ft_kernel::{B, J, Kernel};
 use ft_nucleus::{
     Which, abstract_boundary, abstract_var, boundary as boundary_of, boundary_eq_term,
@@ -20,7 +22,7 @@ use ft_nucleus::{
 };
 use ft_parts::argument;
 use ft_print::{refusal_text, sequent_text};
-use ft_rules::Draft;
+use ft_rules::{Draft, drafts_stay};
 use std::alloc::Global;
 
 /// A call. The numbers are the places of items that earlier calls have added to the list, from 0.
@@ -82,176 +84,215 @@ pub enum Call {
     With(Two, u64, u64),
 }
 
-// The greatest number that no variable has.
-const LAST: u64 = u64::MAX;
-
-/// Why a script does not go on: a call names what is not there, or memory was refused.
-#[derive(Clone, Copy, Debug, PartialEq, Eq)]
-pub enum Stop {
-    Script,
-    Memory,
-}
-
-impl From<Memory> for Stop {
-    fn from(_: Memory) -> Stop {
-        Stop::Memory
-    }
-}
-
 // A call that makes a boundary.
 #[tactic(auto, using(crate::proofs::Faults::answers_below, crate::proofs::Growing::answers_grow))]
-fn goal(alloc: Global, k: &mut Kernel, call: Call) -> Option<Result<B, Fault>>
+fn goal(alloc: Global, k: &mut Kernel, call: Call) -> Result<B, Stop>
     ensures grows { Grows k.old k.new }
-    ensures below { IfSome result (λ r. IfErr r (λ f. FaultBelow (length k.new.trees) f)) }
+    ensures below { IfErr result (λ f. StopBelow (length k.new.trees) f) }
 {
     match call {
-        Call::Type => Some(boundary_type(alloc, k)),
-        Call::Term(a) => Some(boundary_term(alloc, k, thesis(k, a)?)),
+        Call::Type => {
+            let made = boundary_type(alloc, k);
+            boundary_or(k, made)
+        }
+        Call::Term(a) => {
+            let ty = thesis(k, a).ok_or(Stop::Script)?;
+            let made = boundary_term(alloc, k, ty);
+            boundary_or(k, made)
+        }
         Call::Types(a, b) => {
-            let first = thesis(k, a)?;
-            let second = thesis(k, b)?;
-            Some(boundary_eq_type(alloc, k, first, second))
+            let first = thesis(k, a).ok_or(Stop::Script)?;
+            let second = thesis(k, b).ok_or(Stop::Script)?;
+            let made = boundary_eq_type(alloc, k, first, second);
+            boundary_or(k, made)
         }
         Call::Terms(a, s, t) => {
-            let ty = thesis(k, a)?;
-            let left = thesis(k, s)?;
-            let right = thesis(k, t)?;
-            Some(boundary_eq_term(alloc, k, ty, left, right))
+            let ty = thesis(k, a).ok_or(Stop::Script)?;
+            let left = thesis(k, s).ok_or(Stop::Script)?;
+            let right = thesis(k, t).ok_or(Stop::Script)?;
+            let made = boundary_eq_term(alloc, k, ty, left, right);
+            boundary_or(k, made)
         }
-        Call::Boundary(j) => Some(boundary_of(alloc, k, thesis(k, j)?)),
         Call::Next(r, args) => next(alloc, k, r, args),
-        _ => bound_goal(k, call),
+        _ => further_goal(alloc, k, call),
     }
 }
 
-// A call that makes a boundary of another one.
+// A call that makes a boundary of what is there.
 #[tactic(auto, using(crate::proofs::Faults::answers_below, crate::proofs::Growing::answers_grow))]
-fn bound_goal(k: &mut Kernel, call: Call) -> Option<Result<B, Fault>>
+fn further_goal(alloc: Global, k: &mut Kernel, call: Call) -> Result<B, Stop>
     ensures grows { Grows k.old k.new }
-    ensures below { IfSome result (λ r. IfErr r (λ f. FaultBelow (length k.new.trees) f)) }
+    ensures below { IfErr result (λ f. StopBelow (length k.new.trees) f) }
 {
     match call {
+        Call::Boundary(j) => {
+            let first = thesis(k, j).ok_or(Stop::Script)?;
+            let made = boundary_of(alloc, k, first);
+            boundary_or(k, made)
+        }
         Call::BindBoundary(v, b) => {
-            let bound = variable(k, v)?;
-            let goal = boundary(k, b)?;
-            Some(abstract_boundary(k, bound, goal))
+            let bound = variable(k, v).ok_or(Stop::Script)?;
+            let goal = boundary(k, b).ok_or(Stop::Script)?;
+            let made = abstract_boundary(k, bound, goal);
+            boundary_or(k, made)
         }
         Call::PutBoundary(b, t) => {
-            let goal = boundary(k, b)?;
-            let term = thesis(k, t)?;
-            Some(substitute_boundary(k, goal, term))
+            let goal = boundary(k, b).ok_or(Stop::Script)?;
+            let term = thesis(k, t).ok_or(Stop::Script)?;
+            let made = substitute_boundary(k, goal, term);
+            boundary_or(k, made)
         }
-        _ => None,
+        _ => Err(Stop::Script),
     }
 }
 
 /// A call that makes a thesis.
 #[tactic(auto, using(crate::proofs::Faults::answers_below, crate::proofs::Growing::answers_grow))]
-pub fn judged(alloc: Global, k: &mut Kernel, call: Call) -> Option<Result<J, Fault>>
+pub fn judged(alloc: Global, k: &mut Kernel, call: Call) -> Result<J, Stop>
     ensures grows { Grows k.old k.new }
-    ensures thesis { IfSome result (λ r. IfOk r (λ j. IsThesisOf k.new j)) }
-    ensures below { IfSome result (λ r. IfErr r (λ f. FaultBelow (length k.new.trees) f)) }
+    ensures thesis { IfOk result (λ j. IsThesisOf k.new j) }
+    ensures below { IfErr result (λ f. StopBelow (length k.new.trees) f) }
 {
     match call {
-        Call::Variable(v) => {
-            let named = variable(k, v)?;
-            Some(variable_at(alloc, k, named))
-        }
-        Call::Bind(v, j) => {
-            let bound = variable(k, v)?;
-            let below = thesis(k, j)?;
-            Some(abstract_var(k, bound, below))
-        }
-        Call::Part(which, b) => {
-            let goal = boundary(k, b)?;
-            Some(side_of_boundary(alloc, k, goal, which))
-        }
         Call::Of(one, j) => {
-            let first = thesis(k, j)?;
-            Some(of_one(alloc, k, one, first))
-        }
-        Call::Argument(j, i) => {
-            let first = thesis(k, j)?;
-            Some(argument(alloc, k, first, i))
+            let first = thesis(k, j).ok_or(Stop::Script)?;
+            let made = of_one(alloc, k, one, first);
+            thesis_or(k, made)
         }
         Call::With(two, i, j) => {
-            let first = thesis(k, i)?;
-            let second = thesis(k, j)?;
-            Some(of_two(alloc, k, two, first, second))
+            let first = thesis(k, i).ok_or(Stop::Script)?;
+            let second = thesis(k, j).ok_or(Stop::Script)?;
+            let made = of_two(alloc, k, two, first, second);
+            thesis_or(k, made)
         }
         Call::Apply(..) | Call::ApplyWith(..) | Call::Again(_) => at_theses(alloc, k, call),
         Call::Congruence(..) | Call::Move(..) => at_equations(alloc, k, call),
         Call::Generic(_) | Call::Meta(..) | Call::MetaCongruence(..) => {
             at_metavariable(alloc, k, call)
         }
-        _ => None,
+        _ => further_judged(alloc, k, call),
     }
 }
 
-// A call that declares.
-#[tactic(auto, using(crate::proofs::Faults::variable_below, crate::proofs::Faults::metavariable_below, crate::proofs::Growing::variable_grows, crate::proofs::Growing::metavariable_grows))]
-fn declared(alloc: Global, k: &mut Kernel, call: Call) -> Result<Option<Fault>, Stop>
+// A call on a variable, a part of a boundary, or an argument.
+#[tactic(auto, using(crate::proofs::Faults::answers_below, crate::proofs::Growing::answers_grow))]
+fn further_judged(alloc: Global, k: &mut Kernel, call: Call) -> Result<J, Stop>
     ensures grows { Grows k.old k.new }
-    ensures below { IfOk result (λ o. IfSome o (λ f. FaultBelow (length k.new.trees) f)) }
+    ensures thesis { IfOk result (λ j. IsThesisOf k.new j) }
+    ensures below { IfErr result (λ f. StopBelow (length k.new.trees) f) }
 {
     match call {
-        Call::NewVar(text, a) => {
-            let ty = thesis(k, a).ok_or(Stop::Script)?;
-            let number = k.next_number();
-            if number >= LAST {
-                return Err(Stop::Script);
-            }
-            let name = name(alloc, text)?;
-            Ok(new_var(k, number, &name, ty).err())
+        Call::Variable(v) => {
+            let named = variable(k, v).ok_or(Stop::Script)?;
+            let made = variable_at(alloc, k, named);
+            thesis_or(k, made)
         }
-        Call::NewMeta(text, b) => {
+        Call::Bind(v, j) => {
+            let bound = variable(k, v).ok_or(Stop::Script)?;
+            let below = thesis(k, j).ok_or(Stop::Script)?;
+            let made = abstract_var(k, bound, below);
+            thesis_or(k, made)
+        }
+        Call::Part(which, b) => {
             let goal = boundary(k, b).ok_or(Stop::Script)?;
-            let name = name(alloc, text)?;
-            Ok(new_meta(k, &name, goal).err())
+            let made = side_of_boundary(alloc, k, goal, which);
+            thesis_or(k, made)
+        }
+        Call::Argument(j, i) => {
+            let first = thesis(k, j).ok_or(Stop::Script)?;
+            let made = argument(alloc, k, first, i);
+            thesis_or(k, made)
         }
         _ => Err(Stop::Script),
     }
 }
 
-// The text of a fault.
-fn fault_text(alloc: Global, k: &Kernel, fault: &Fault) -> Result<Text, Stop>
-    requires { FaultBelow (length k.now.trees) fault.now }
+// A call that declares.
+#[tactic(auto, using(crate::proofs::Faults::variable_fault, crate::proofs::Faults::metavariable_fault, crate::proofs::Growing::variable_grows, crate::proofs::Growing::metavariable_grows))]
+fn declared(alloc: Global, k: &mut Kernel, call: Call) -> Result<(), Stop>
+    ensures grows { Grows k.old k.new }
+    ensures below { IfErr result (λ f. StopBelow (length k.new.trees) f) }
 {
-    match fault {
-        Fault::Refused(refusal) => Ok(refusal_text(alloc, k, refusal)?),
-        Fault::Memory => Err(Stop::Memory),
+    match call {
+        Call::NewVar(text, a) => {
+            let ty = thesis(k, a).ok_or(Stop::Script)?;
+            let number = k.next_number();
+            if number == u64::MAX {
+                return Err(Stop::Script);
+            }
+            let name = name(alloc, text)?;
+            match new_var(k, number, &name, ty) {
+                Ok(_) => Ok(()),
+                Err(fault) => Err(stop_of(k, fault)),
+            }
+        }
+        Call::NewMeta(text, b) => {
+            let goal = boundary(k, b).ok_or(Stop::Script)?;
+            let name = name(alloc, text)?;
+            match new_meta(k, &name, goal) {
+                Ok(_) => Ok(()),
+                Err(fault) => Err(stop_of(k, fault)),
+            }
+        }
+        _ => Err(Stop::Script),
     }
 }
 
-// The text of what a call on theses and boundaries answers: the sequent of a thesis, nothing for a boundary, or why it is refused;
-// None where it is no such call.
-fn answered(alloc: Global, k: &mut Kernel, call: Call) -> Option<Result<Text, Stop>>
+// The text of a refusal.
+fn refused(alloc: Global, k: &Kernel, refusal: Refusal) -> Result<Text, Stop>
+    requires { RefusalBelow (length k.now.trees) refusal }
+{
+    Ok(refusal_text(alloc, k, &refusal)?)
+}
+
+// The text of a refusal; other stops stay.
+fn stopped(alloc: Global, k: &Kernel, stop: Stop) -> Result<Text, Stop>
+    requires { StopBelow (length k.now.trees) stop }
+{
+    match stop {
+        Stop::Refused(refusal) => refused(alloc, k, refusal),
+        other => Err(other),
+    }
+}
+
+// The text of what a call answers that is none on a draft.
+fn answered(alloc: Global, k: &mut Kernel, call: Call) -> Result<Text, Stop>
     ensures { Grows k.old k.new }
 {
-    if let Some(answer) = judged(alloc, k, call) {
-        return Some(match answer {
-            Ok(j) => sequent_text(alloc, k, j).map_err(Stop::from),
-            Err(fault) => fault_text(alloc, k, &fault),
-        });
-    }
-    match goal(alloc, k, call)? {
-        Ok(_) => Some(Ok(Text::new(alloc))),
-        Err(fault) => Some(fault_text(alloc, k, &fault)),
-    }
+    let stop = match call {
+        Call::Type
+        | Call::Term(_)
+        | Call::Types(..)
+        | Call::Terms(..)
+        | Call::Boundary(_)
+        | Call::BindBoundary(..)
+        | Call::PutBoundary(..)
+        | Call::Next(..) => match goal(alloc, k, call) {
+            Ok(_) => return Ok(Text::new(alloc)),
+            Err(stop) => stop,
+        },
+        Call::NewVar(..) | Call::NewMeta(..) => match declared(alloc, k, call) {
+            Ok(()) => return Ok(Text::new(alloc)),
+            Err(stop) => stop,
+        },
+        _ => match judged(alloc, k, call) {
+            Ok(j) => return Ok(sequent_text(alloc, k, j)?),
+            Err(stop) => stop,
+        },
+    };
+    stopped(alloc, k, stop)
 }
 
 /// What a call answers: the sequent of a thesis, why a call is refused, and nothing for others.
+#[tactic(auto, using(crate::proofs::Growing::draft_stays))]
 fn told(alloc: Global, k: &mut Kernel, draft: &mut Option<Draft>, call: Call) -> Result<Text, Stop>
     requires draft { MayDraft k.old.items draft.old }
     ensures draft { IfOk result (λ t. MayDraft k.new.items draft.new) }
 {
+    drafts_stay();
     match call {
         Call::Begin(_) | Call::Premise(..) | Call::Finish(_) => drafted(alloc, k, draft, call),
-        Call::NewVar(..) | Call::NewMeta(..) => match declared(alloc, k, call)? {
-            Some(fault) => fault_text(alloc, k, &fault),
-            None => Ok(Text::new(alloc)),
-        },
-        _ => answered(alloc, k, call).ok_or(Stop::Script)?,
+        _ => answered(alloc, k, call),
     }
 }
 

@@ -2,7 +2,8 @@
 
 use crate::calls::{One, Two};
 use crate::script::Call::{self, *};
-use crate::script::{Stop, first_other};
+use crate::script::first_other;
+use crate::stop::Stop;
 use ft_kernel::Kernel;
 use ft_nucleus::Which;
 use std::alloc::Global;

@@ -19,7 +19,7 @@ use Rattle.ft_reference.specs.Refusals.{Check, first_refusal, AllSmall, claim_ex
 use Rattle.ft_reference.specs.Refusals as reference
 use Rattle.ft_reference.specs.Declare.{first_of}
 use Rattle.ft_reference.specs.Checks.{all_argument_checks, all_equation_checks, rule_checks, congruence_checks}
-use Rattle.ft_nucleus_laws.proofs.Lists.{none_after, passed, first_append}
+use Rattle.ft_nucleus_laws.proofs.Lists.{passed, first_append}
 use Rattle.ft_nucleus_laws.proofs.Tests.{Theses, equations_asked}
 use Rattle.ft_syntax.specs.Table.{arguments_in}
 use Rattle.ft_syntax.specs.declared.syntax.Arg.{Arg}
@@ -45,6 +45,11 @@ use Rattle.ft_apply.proofs.Asking.{both_pass, refused_first, refused_later}
 use Rattle.ft_apply.proofs.Calls.{formed_ok}
 use Rattle.ft_apply.proofs.Concluded.{all_fit, conclusion_read, concluded, rule_row}
 
+-- a test that is passed
+pub test_passes : (b : Bool) (o : Option reference.Refusal) (r : reference.Refusal) → cond b o (Some r) ≡ None → (b ≡ true) × (o ≡ None)
+test_passes true o r h = (refl, h)
+test_passes false o r h = some_none h
+
 -- two lists of checks that pass
 pub parts_pass : (cs ds : List Check) → first_refusal (cs ++ ds) ≡ None → (first_refusal cs ≡ None) × (first_refusal ds ≡ None)
 parts_pass cs ds h = go (first_refusal cs) refl (sym (first_append cs ds) ∙ h)
@@ -57,7 +62,7 @@ parts_pass cs ds h = go (first_refusal cs) refl (sym (first_append cs ds) ∙ h)
 pub forms_small : (es : List Expression) → first_refusal (forms_all es) ≡ None → AllSmall es
 forms_small [] h = tt
 forms_small (e ∷ es) h =
-    let p : (is_small e ≡ true) × (first_refusal (forms_all es) ≡ None) = none_after (is_small e) (first_refusal (forms_all es)) reference.TooBig h in
+    let p : (is_small e ≡ true) × (first_refusal (forms_all es) ≡ None) = test_passes (is_small e) (first_refusal (forms_all es)) reference.TooBig h in
     (true_small e p.0, forms_small es p.1)
 
 -- theses, and theses after them

@@ -18,7 +18,7 @@ use Rattle.ft_reference.specs.Refusals.{Check, first_refusal, AllSmall, expressi
 use Rattle.ft_reference.specs.Refusals as reference
 use Rattle.ft_reference.specs.Compare.{same_form, is_alike, domain_checks, fit_checks}
 use Rattle.ft_reference.specs.Checks.{first_argument_checks, all_equation_checks, equal_argument_checks, moved_checks}
-use Rattle.ft_nucleus_laws.proofs.Lists.{none_after, passed}
+use Rattle.ft_nucleus_laws.proofs.Lists.{passed}
 use Rattle.ft_nucleus_laws.proofs.Tests.{Theses, fit_asked}
 use Rattle.ft_syntax.specs.Table.{Extends, BodyBelow, arguments_in, ArgumentsBelow}
 use Rattle.ft_syntax.specs.Instances.{instance_in, PairsBelow}
@@ -54,7 +54,7 @@ use Rattle.ft_apply.proofs.RuleLines.{IsRuleOf, rule_resolved}
 use Rattle.ft_apply.proofs.Asking.{both_pass, refused_first, refused_later}
 use Rattle.ft_apply.proofs.Instancing.{first_is, premises_many, length_taken, given_fit, next_is}
 use Rattle.ft_apply.proofs.Calls.{formed_answered, formed_fault}
-use Rattle.ft_apply.proofs.Congruences.{parts_pass, object_at, starts_all, theses_after}
+use Rattle.ft_apply.proofs.Congruences.{test_passes, parts_pass, object_at, starts_all, theses_after}
 
 -- A boundary at an instance, while the table goes on.
 pub at_later : (ts us : List Expression) (ps : List (ℕ × Arg)) (b : Boundary) → Extends ts us → PairsBelow (length ts) ps → BoundaryBelow (length ts) b → boundary_at us ps (boundary_in us b) ≡ boundary_at ts ps (boundary_in ts b)
@@ -115,7 +115,7 @@ head_for ts (Tm t A) (goal.EqTm u v B) h = false_true h
 -- the comparison says that the forms are alike
 fits_alike : (y b : Statement) → first_refusal (one_argument_checks b y) ≡ None → is_alike (boundary_of y) b ≡ true
 fits_alike y b h =
-    (none_after (is_alike (boundary_of y) b) (first_refusal (domain_checks zero (boundary_of y) b)) reference.WrongForm (parts_pass (forms_statement b) (fit_checks y b) h).1).0
+    (test_passes (is_alike (boundary_of y) b) (first_refusal (domain_checks zero (boundary_of y) b)) reference.WrongForm (parts_pass (forms_statement b) (fit_checks y b) h).1).0
 
 pub moved_head : (s : State) (us : List Expression) (ps qs : List (ℕ × Arg)) (n : Boundary) (x : Thesis) (b : Boundary) (j : ℕ) → IsThesisOf s j
     → first_refusal (one_argument_checks (boundary_at s.trees ps (boundary_in s.trees n)) (entry_of s.items j).statement) ≡ None → thesis_in us x ≡ (entry_of s.items j).statement
@@ -268,7 +268,7 @@ moved_row R xs es a c y t k h m =
     (sym (fit_asked y (boundary_after R xs a) k) ∙ (passed (fit_checks y (boundary_after R xs a)) fit).0)))
   where
     few : (nat_lt (length xs) (length R.premises) ≡ true) × (first_refusal (first_argument_checks R xs ++ all_equation_checks xs es) ≡ None)
-    few = none_after (nat_lt (length xs) (length R.premises)) (first_refusal (first_argument_checks R xs ++ all_equation_checks xs es)) (reference.ArgumentCount (length xs) (length R.premises)) h
+    few = test_passes (nat_lt (length xs) (length R.premises)) (first_refusal (first_argument_checks R xs ++ all_equation_checks xs es)) (reference.ArgumentCount (length xs) (length R.premises)) h
 
     both : (first_refusal (first_argument_checks R xs) ≡ None) × (first_refusal (all_equation_checks xs es) ≡ None)
     both = parts_pass (first_argument_checks R xs) (all_equation_checks xs es) few.1

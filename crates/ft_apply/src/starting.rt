@@ -98,9 +98,8 @@ fn right_at(k: &Kernel, j: J, equations: &[J], next: usize) -> Result<(Arg, usiz
     ensures checks { Asks k.now.trees (next_checks (entry_of k.now.items j).statement
         (statements_from k.now.items next equations.now)) result }
 {
-    let own = head(k, j);
-    if own.body.is_none() {
-        return Ok((own, next));
+    if !has_head(k, j) {
+        return Ok((head(k, j), next));
     }
     match right_of(k, j, equations[next]) {
         Ok(right) => Ok((right, next + 1)),

@@ -1,5 +1,4 @@
 use Rattle.std.proofs.Common.{◌≡◌, ◌∙◌, None, true, subst, sym, ap}
-use Rattle.std.proofs.lemmas.Bool.{not-true, not-false}
 use Rattle.ft_items.specs.Equal.{is_object_goal}
 use Rattle.ft_reference.specs.Refusals.{AllSmall, claim_expressions}
 use Rattle.ft_apply.specs.Named.{statements_of, rule_of}
@@ -15,13 +14,13 @@ pub returns-then-not-has_symbol-clause-formed : goal.returns-then-not-has_symbol
 returns-then-not-has_symbol-clause-formed c =
     let s = c.args.k.now in
     congruence_wrong s.trees c.args.r (rule_of s.items c.args.r) (statements_of s.items c.args.args.now) (statements_of s.items c.args.equations.now)
-    (sym c.has_symbol.ensures ∙ not-true c.has_symbol.result c.if-not-has_symbol.true)
+    (sym c.has_symbol.ensures ∙ c.if-not-has_symbol.true)
 
 pub returns-in-Err-clause-formed : goal.returns-in-Err-clause-formed
 returns-in-Err-clause-formed c =
     let s = c.args.k.now in
     congruence_misfit c.applied_formed.new.k.trees c.args.r (rule_of s.items c.args.r) (statements_of s.items c.args.args.now) (statements_of s.items c.args.equations.now) c.in-Err.fault
-    (sym c.has_symbol.ensures ∙ not-false c.has_symbol.result c.if-not-has_symbol.false) c.in-Err.ensures.formed
+    (sym c.has_symbol.ensures ∙ c.if-not-has_symbol.false) c.in-Err.ensures.formed
 
 pub right_heads-requires-clause-arguments : goal.right_heads-requires-clause-arguments
 right_heads-requires-clause-arguments c = theses_stay c.args.k.now c.applied_formed.new.k c.args.args.now c.in-Ok.ensures.stays.0 c.requires.arguments
@@ -34,7 +33,7 @@ returns-in-Err-right_heads-clause-formed c =
     let s = c.args.k.now in
     let t = c.applied_formed.new.k in
     congruence_misstart t.trees c.args.r (rule_of s.items c.args.r) (statements_of s.items c.args.args.now) (statements_of s.items c.args.equations.now) c.in-Err-right_heads.fault
-    (sym c.has_symbol.ensures ∙ not-false c.has_symbol.result c.if-not-has_symbol.false) c.in-Ok.ensures.formed.0
+    (sym c.has_symbol.ensures ∙ c.if-not-has_symbol.false) c.in-Ok.ensures.formed.0
     (subst (λ items. Stops t.trees (equation_checks_in items c.args.args.now c.args.equations.now) c.in-Err-right_heads.fault) c.in-Ok.ensures.stays.0 c.in-Err-right_heads.ensures.checks)
 
 pub equated-requires-clause-small : goal.equated-requires-clause-small
@@ -50,7 +49,7 @@ returns-in-Ok-equated-clause-formed c =
     let R = rule_of s.items c.args.r in
     let xs = statements_of s.items c.args.args.now in
     let es = statements_of s.items c.args.equations.now in
-    let o : is_object_goal R.conclusion ≡ true = sym c.has_symbol.ensures ∙ not-false c.has_symbol.result c.if-not-has_symbol.false in
+    let o : is_object_goal R.conclusion ≡ true = sym c.has_symbol.ensures ∙ c.if-not-has_symbol.false in
     let q : equated_at t.trees c.in-Ok.left c.args.r c.items.result.now ≡ equated_claim R c.args.r xs es =
     equated_there s t c.args.r c.args.args.now c.args.equations.now c.in-Ok.left c.items.result.now c.in-Ok.ensures.stays.0 o (theses_are s c.args.args.now c.requires.arguments) c.in-Ok.ensures.formed
     (ap (Rattle.ft_syntax.specs.Table.arguments_in t.trees) c.items.ensures ∙ c.in-Ok-right_heads.ensures.heads) in
@@ -66,7 +65,7 @@ returns-clause-formed c =
     let R = rule_of s.items c.args.r in
     let xs = statements_of s.items c.args.args.now in
     let es = statements_of s.items c.args.equations.now in
-    let o : is_object_goal R.conclusion ≡ true = sym c.has_symbol.ensures ∙ not-false c.has_symbol.result c.if-not-has_symbol.false in
+    let o : is_object_goal R.conclusion ≡ true = sym c.has_symbol.ensures ∙ c.if-not-has_symbol.false in
     let q : equated_at t.trees c.in-Ok.left c.args.r c.items.result.now ≡ equated_claim R c.args.r xs es =
     equated_there s t c.args.r c.args.args.now c.args.equations.now c.in-Ok.left c.items.result.now c.in-Ok.ensures.stays.0 o (theses_are s c.args.args.now c.requires.arguments) c.in-Ok.ensures.formed
     (ap (Rattle.ft_syntax.specs.Table.arguments_in t.trees) c.items.ensures ∙ c.in-Ok-right_heads.ensures.heads) in

@@ -53,8 +53,13 @@ use Rattle.ft_apply.proofs.Pairing.{instance_is}
 use Rattle.ft_apply.proofs.RuleLines.{IsRuleOf, rule_resolved}
 use Rattle.ft_apply.proofs.Asking.{both_pass, refused_first, refused_later}
 use Rattle.ft_apply.proofs.Instancing.{first_is, premises_many, length_taken, given_fit, next_is}
+use Rattle.ft_apply.proofs.Fitted.{theses_stay}
 use Rattle.ft_apply.proofs.Calls.{formed_answered, formed_fault}
 use Rattle.ft_apply.proofs.Congruences.{test_passes, parts_pass, object_at, starts_all, theses_after}
+
+-- a thesis stays one
+pub thesis_stays : (s t : State) (j : ℕ) → t.items ≡ s.items → IsThesisOf s j → IsThesisOf t j
+thesis_stays s t j e h = (theses_stay s t (j ∷ []) e (h, tt)).0
 
 -- A boundary at an instance, while the table goes on.
 pub at_later : (ts us : List Expression) (ps : List (ℕ × Arg)) (b : Boundary) → Extends ts us → PairsBelow (length ts) ps → BoundaryBelow (length ts) b → boundary_at us ps (boundary_in us b) ≡ boundary_at ts ps (boundary_in ts b)

@@ -45,10 +45,11 @@ pub fn congruence(
         Err(fault) => return Err(fault),
     };
     let left = sets(alloc, k, args)?;
-    let set = left.union(&sets(alloc, k, equations)?)?;
+    let right = sets(alloc, k, equations)?;
+    let set = left.union(&right)?;
     let lefts = Judgements::of(alloc, args)?;
-    let step = Step::Cong(r, lefts, Judgements::of(alloc, equations)?);
-    conclude(k, plain(alloc, form), set, step)
+    let rights = Judgements::of(alloc, equations)?;
+    conclude(k, plain(alloc, form), set, Step::Cong(r, lefts, rights))
 }
 
 // The equation between the symbol at the arguments, which fit the premises, and at the right sides of the equations.

@@ -58,7 +58,8 @@ pub fn convert_premise(
     };
     let left = sets(alloc, k, args)?;
     let right = sets(alloc, k, equations)?;
-    let set = left.union(&right.union(k.asm_of(arg))?)?;
+    let joined = right.union(k.asm_of(arg))?;
+    let set = left.union(&joined)?;
     let lefts = Judgements::of(alloc, args)?;
     let rights = Judgements::of(alloc, equations)?;
     conclude(k, thesis, set, conversion(r, lefts, rights, arg, back))

@@ -17,8 +17,8 @@ use Rattle.ft_apply.proofs.equating.congruence.Goals as goal
 pub sets-left-requires : goal.sets-left-requires
 sets-left-requires c = theses_stay c.args.k.now c.congruence_formed.new.k c.args.args.now c.in-Ok.ensures.stays.0 c.requires.arguments
 
-pub sets-requires : goal.sets-requires
-sets-requires c = theses_stay c.args.k.now c.congruence_formed.new.k c.args.equations.now c.in-Ok.ensures.stays.0 c.requires.equations
+pub sets-right-requires : goal.sets-right-requires
+sets-right-requires c = theses_stay c.args.k.now c.congruence_formed.new.k c.args.equations.now c.in-Ok.ensures.stays.0 c.requires.equations
 
 pub returns-in-Err-clause-answers : goal.returns-in-Err-clause-answers
 returns-in-Err-clause-answers c =
@@ -35,11 +35,19 @@ conclude-requires-clause-answer c =
     let js = c.args.args.now in
     let ks = c.args.equations.now in
     let x = thesis_in t.trees c.plain.result in
-    subst (λ js. IsAnswer t (by_cong c.args.r js c.in_ok-of.of) (Ok (rests x c.in_ok-set.set))) (sym c.in_ok-lefts.ensures)
-    (subst (λ ks. IsAnswer t (by_cong c.args.r js ks) (Ok (rests x c.in_ok-set.set))) (sym c.in_ok-of.ensures)
+    subst (λ ks. IsAnswer t (by_cong c.args.r c.in_ok-lefts.lefts ks) (Ok (rests x c.in_ok-set.set))) (sym c.in_ok-rights.ensures)
+    (subst (λ js. IsAnswer t (by_cong c.args.r js ks) (Ok (rests x c.in_ok-set.set))) (sym c.in_ok-lefts.ensures)
     (formed_answered s t (by_cong c.args.r js ks) (by_cong (c.args.r, rule_of s.items c.args.r) (entries_of s.items js) (entries_of s.items ks)) x c.in_ok-set.set c.in-Ok.ensures.stays
     (congruence_step s c.args.r js ks c.terms-terms.ensures.good c.requires.rule c.requires.arguments c.requires.equations) (congruence_kind s c.args.r js ks c.requires.arguments c.requires.equations)
     (subst (Gives (congruence_checks_in s.items c.args.r js ks) (congruence_in s.items c.args.r js ks)) (ap (thesis_in t.trees) (sym c.plain.ensures)) c.in-Ok.ensures.formed)
     (c.in_ok-set.ensures
-    ∙ ap₂ union c.in_ok-left.ensures c.in_ok-sets.ensures
+    ∙ ap₂ union c.in_ok-left.ensures c.in_ok-right.ensures
     ∙ ap (λ items. union (unions (sets (entries_of items js))) (unions (sets (entries_of items ks)))) c.in-Ok.ensures.stays.0)))
+
+pub returns-clause-answers : goal.returns-clause-answers
+returns-clause-answers c =
+    let t = c.congruence_formed.new.k in
+    let u = c.conclude.new.k in
+    answers_later c.args.k.now t u (by_cong c.args.r c.args.args.now c.args.equations.now) c.conclude.result c.in-Ok.ensures.stays
+    (subst (λ js. Answers t (by_cong c.args.r js c.args.equations.now) c.conclude.result u) c.in_ok-lefts.ensures
+    (subst (λ ks. Answers t (by_cong c.args.r c.in_ok-lefts.lefts ks) c.conclude.result u) c.in_ok-rights.ensures c.conclude.ensures.answers))

@@ -48,7 +48,7 @@ use Rattle.ft_apply.specs.Named as named
 use Rattle.ft_apply.specs.Outcomes.{BigOr, Stops, Asks, Formed, one_argument_checks, given_checks, moved_between}
 use Rattle.ft_apply.specs.Instances.{boundary_at}
 use Rattle.ft_apply.specs.Equations.{side_of, side_instance, conversion_step, conversion_checks_in, conversion_in}
-use Rattle.ft_apply.proofs.Naming.{entry_found, thesis_is, theses_are, theses_of, each_named, as_many}
+use Rattle.ft_apply.proofs.Naming.{entry_found, theses_are, theses_of, each_named, as_many}
 use Rattle.ft_apply.proofs.Pairing.{instance_is}
 use Rattle.ft_apply.proofs.RuleLines.{IsRuleOf, rule_resolved}
 use Rattle.ft_apply.proofs.Asking.{both_pass, refused_first, refused_later}
@@ -56,6 +56,10 @@ use Rattle.ft_apply.proofs.Instancing.{first_is, premises_many, length_taken, gi
 use Rattle.ft_apply.proofs.Fitted.{theses_stay}
 use Rattle.ft_apply.proofs.Calls.{formed_answered, formed_fault}
 use Rattle.ft_apply.proofs.Congruences.{test_passes, parts_pass, object_at, starts_all, theses_after}
+
+-- what a number of a thesis names is one
+thesis_is : (s : State) (j : ℕ) → IsThesisOf s j → is_thesis (entry_of s.items j).statement ≡ true
+thesis_is s j h = (theses_are s (j ∷ []) (h, tt)).0
 
 -- a thesis stays one
 pub thesis_stays : (s t : State) (j : ℕ) → t.items ≡ s.items → IsThesisOf s j → IsThesisOf t j

@@ -60,7 +60,7 @@ unlike_under ts (A ∷ As) (B ∷ Bs) c d h = unlike_under ts As Bs c d h
 wrong_start : (ts : List Expression) (x y : Thesis) → start_of x.form y.form ≡ None → Refuses ts (start_checks (thesis_in ts x) (thesis_in ts y)) WrongForm
 wrong_start ts x y h = (
   ap (λ b. cond b (first_refusal (left_checks_under zero (thesis_in ts x) (thesis_in ts y))) (Some reference.WrongForm))
-  (unlike_under ts x.domains y.domains (claim_in ts x.form) (claim_in ts y.form) (other_form ts x.form y.form h)),
+      (unlike_under ts x.domains y.domains (claim_in ts x.form) (claim_in ts y.form) (other_form ts x.form y.form h)),
   tt,
 )
 

@@ -143,7 +143,10 @@ fn equal_arguments(
         Err(fault) => return Err(fault),
     };
     let right = instance(alloc, firsts, rights.items())?;
-    let Given { heads: _, instance: left } = given;
+    let Given {
+        heads: _,
+        instance: left,
+    } = given;
     Ok(Sides { left, right })
 }
 

@@ -58,9 +58,10 @@ fn start(form: &Form, equation: &Form) -> Option<(Goal, E)>
 fn right_of(k: &Kernel, j: J, e: J) -> Result<Arg, Fault>
     requires thesis { IsThesisOf k.now j }
     requires equation { IsThesisOf k.now e }
-    ensures right { IfOk result (λ a. argument_in k.now.trees a ≡
-        (domain_count (entry_of k.now.items j).statement,
-        Some (right_head (entry_of k.now.items e).statement))) }
+    ensures right { IfOk result (λ a. argument_in k.now.trees a ≡ (
+      domain_count (entry_of k.now.items j).statement,
+      Some (right_head (entry_of k.now.items e).statement),
+    )) }
     ensures below { IfOk result (λ a. BodyBelow (length k.now.trees) a.body) }
     ensures checks { Asks k.now.trees (start_checks (entry_of k.now.items j).statement
         (entry_of k.now.items e).statement) result }
@@ -109,12 +110,7 @@ fn right_at(k: &Kernel, j: J, equations: &[J], next: usize) -> Result<(Arg, usiz
 
 // The right sides as arguments in the places of the theses, where each equation starts at its thesis.
 #[tactic(auto, using(crate::proofs::Starts::starting_start, crate::proofs::Starts::starting_heads, crate::proofs::Starts::starting_there, crate::proofs::Starts::starting_end, crate::proofs::Naming::thesis_named))]
-fn all_right(
-    alloc: Global,
-    k: &Kernel,
-    args: &[J],
-    equations: &[J],
-) -> Result<Sequence<Arg>, Fault>
+fn all_right(alloc: Global, k: &Kernel, args: &[J], equations: &[J]) -> Result<Sequence<Arg>, Fault>
     requires arguments { AreThesesOf k.now args.now }
     requires equations { AreThesesOf k.now equations.now }
     requires count { length equations.now ≡ head_count (statements_of k.now.items args.now) }

@@ -14,11 +14,11 @@ use Rattle.ft_apply.proofs.Calls.{formed_answered, formed_fault}
 use Rattle.ft_apply.proofs.Congruences.{congruence_step, congruence_kind}
 use Rattle.ft_apply.proofs.equating.congruence.Goals as goal
 
-pub sets-left-requires : goal.sets-left-requires
-sets-left-requires c = theses_stay c.args.k.now c.congruence_formed.new.k c.args.args.now c.in-Ok.ensures.stays.0 c.requires.arguments
+pub sets-requires : goal.sets-requires
+sets-requires c = theses_stay c.args.k.now c.congruence_formed.new.k c.args.args.now c.in-Ok.ensures.stays.0 c.requires.arguments
 
-pub sets-right-requires : goal.sets-right-requires
-sets-right-requires c = theses_stay c.args.k.now c.congruence_formed.new.k c.args.equations.now c.in-Ok.ensures.stays.0 c.requires.equations
+pub sets-requires-2 : goal.sets-requires-2
+sets-requires-2 c = theses_stay c.args.k.now c.congruence_formed.new.k c.args.equations.now c.in-Ok.ensures.stays.0 c.requires.equations
 
 pub returns-in-Err-clause-answers : goal.returns-in-Err-clause-answers
 returns-in-Err-clause-answers c =

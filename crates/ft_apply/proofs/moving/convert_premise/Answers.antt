@@ -10,11 +10,11 @@ use Rattle.ft_apply.proofs.Fitted.{theses_stay}
 use Rattle.ft_apply.proofs.Moved.{thesis_stays, conversion_set, conversion_answer, conversion_fault}
 use Rattle.ft_apply.proofs.moving.convert_premise.Goals as goal
 
-pub sets-left-requires : goal.sets-left-requires
-sets-left-requires c = theses_stay c.args.k.now c.converted.new.k c.args.args.now c.in-Ok.ensures.stays.0 c.requires.arguments
+pub sets-requires : goal.sets-requires
+sets-requires c = theses_stay c.args.k.now c.converted.new.k c.args.args.now c.in-Ok.ensures.stays.0 c.requires.arguments
 
-pub sets-right-requires : goal.sets-right-requires
-sets-right-requires c = theses_stay c.args.k.now c.converted.new.k c.args.equations.now c.in-Ok.ensures.stays.0 c.requires.equations
+pub sets-requires-2 : goal.sets-requires-2
+sets-requires-2 c = theses_stay c.args.k.now c.converted.new.k c.args.equations.now c.in-Ok.ensures.stays.0 c.requires.equations
 
 pub asm_of-requires : goal.asm_of-requires
 asm_of-requires c = thesis_stays c.args.k.now c.converted.new.k c.args.arg c.in-Ok.ensures.stays.0 c.requires.argument

@@ -33,7 +33,7 @@ returns-in-Err-put_boundary-clause-checks c =
     let B = boundary_at s.trees c.args.from.now.pairs n in
     let C = boundary_at s.trees c.args.to.now.pairs n in
     let Y = (entry_of s.items c.args.j).statement in
-    subst (Stops v.trees (moved_between B C Y)) (sym c.from-put_boundary.ensures)
+    subst (Stops v.trees (moved_between B C Y)) (sym c.from.ensures)
     (moved_big v.trees B C Y c.in-Err-put_boundary.fault c.in-Ok.ensures.checks
     (subst (λ z. BigOr (AllSmall (expressions z)) c.in-Err-put_boundary.fault) (at_later s.trees u.trees c.args.to.now.pairs c.args.next.now c.in-Ok.ensures.stays.1 c.requires.to c.requires.next) c.in-Err-put_boundary.ensures.small))
 

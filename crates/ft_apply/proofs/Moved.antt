@@ -13,14 +13,14 @@ use Rattle.ft_items.specs.Equal.{is_thesis_claim, is_thesis, is_object_goal, is_
 use Rattle.ft_items.specs.Equal as items
 use Rattle.ft_items.specs.Store.{Assertion, Resolved, each, entry_named, resolve, rules_in, with_four}
 use Rattle.ft_items.specs.Good.{Good, of_kind}
-use Rattle.ft_items.specs.Rows.{when, sets, are_arguments, first_premises, boundary_after, moved, result_set}
-use Rattle.ft_reference.specs.Refusals.{Check, first_refusal, AllSmall, expressions, forms_statement}
+use Rattle.ft_items.specs.Rows.{when, sets, are_arguments, first_premises, boundary_after, moved}
+use Rattle.ft_reference.specs.Refusals.{first_refusal, AllSmall, expressions, forms_statement}
 use Rattle.ft_reference.specs.Refusals as reference
 use Rattle.ft_reference.specs.Compare.{same_form, is_alike, domain_checks, fit_checks}
 use Rattle.ft_reference.specs.Checks.{first_argument_checks, all_equation_checks, equal_argument_checks, moved_checks}
 use Rattle.ft_nucleus_laws.proofs.Lists.{passed}
 use Rattle.ft_nucleus_laws.proofs.Tests.{Theses, fit_asked}
-use Rattle.ft_syntax.specs.Table.{Extends, BodyBelow, arguments_in, ArgumentsBelow}
+use Rattle.ft_syntax.specs.Table.{Extends, BodyBelow, arguments_in}
 use Rattle.ft_syntax.specs.Instances.{instance_in, PairsBelow}
 use Rattle.ft_syntax.specs.Laws.{instance_extends}
 use Rattle.ft_syntax.specs.declared.syntax.Arg.{Arg}

@@ -10,17 +10,17 @@ use Rattle.ft_theory.specs.Statements.{Claim, plain, Statement, domain_count, bo
 use Rattle.ft_items.specs.Item.{Item}
 use Rattle.ft_items.specs.Equal.{equal_expressions, has_head, right_of_claim, right_head, right_heads}
 use Rattle.ft_sound.proofs.EqualLemmas.{expression_self}
-use Rattle.ft_reference.specs.Refusals.{Check, first_refusal}
+use Rattle.ft_reference.specs.Refusals.{first_refusal}
 use Rattle.ft_reference.specs.Refusals as reference
 use Rattle.ft_reference.specs.Declare.{first_of}
-use Rattle.ft_reference.specs.Compare.{differ_at, type_check, side_check, same_form, is_alike, goal_checks, domain_checks, fit_checks, is_equation_for, is_equation_of, left_checks, left_checks_under, start_checks, head_count, equation_checks}
+use Rattle.ft_reference.specs.Compare.{differ_at, side_check, same_form, is_alike, goal_checks, domain_checks, fit_checks, is_equation_for, is_equation_of, left_checks, left_checks_under, start_checks, head_count, equation_checks}
 use Rattle.ft_reference.specs.Checks.{all_equation_checks}
 use Rattle.ft_nucleus_laws.proofs.Lists.{first_append}
 use Rattle.ft_syntax.specs.Arguments.{Argument, as_arguments, with_argument}
 use Rattle.ft_syntax.specs.Table.{tree, argument_in, arguments_in, BodyBelow, ArgumentsBelow}
 use Rattle.ft_syntax.specs.Laws.{arguments_push}
 use Rattle.ft_syntax.specs.declared.syntax.Arg.{Arg}
-use Rattle.ft_judge.specs.Meaning.{claim_in, goal_in, under, thesis_in, boundary_in, head_of_statement, FormBelow, GoalBelow, ThesisBelow, BoundaryBelow}
+use Rattle.ft_judge.specs.Meaning.{claim_in, goal_in, under, thesis_in, boundary_in, FormBelow, GoalBelow, ThesisBelow, BoundaryBelow}
 use Rattle.ft_judge.specs.declared.judgement.Form.{Form}
 use Rattle.ft_judge.specs.declared.judgement.Form.TheVariants.{Ty, Tm, EqTy, EqTm}
 use Rattle.ft_judge.specs.declared.judgement.Goal.{Goal}
@@ -34,7 +34,7 @@ use Rattle.ft_judge.specs.declared.fault.Fault.TheVariants.{Refused, Memory}
 use Rattle.ft_kernel.specs.State.{State, statement_at}
 use Rattle.ft_calls.specs.Forming.{Refuses}
 use Rattle.ft_apply.specs.Named.{entry_of, statements_of, head_argument}
-use Rattle.ft_apply.specs.Outcomes.{Tests, Asks, Stops}
+use Rattle.ft_apply.specs.Outcomes.{Tests, Stops}
 use Rattle.ft_apply.specs.Starting.{start_of, statements_from, next_checks, next_right, later_equations}
 use Rattle.ft_apply.proofs.Naming.{drop_one, statement_found, statement_head, count_under, as_many, length_push}
 

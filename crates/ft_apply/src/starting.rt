@@ -149,7 +149,8 @@ pub(crate) fn right_heads(
         (statements_of k.now.items equations.now)) }
     ensures below { IfOk result (λ r. ArgumentsBelow (length k.now.trees) r) }
     ensures count { IfOk result (λ r. length r ≡ length args.now) }
-    ensures checks { Asks k.now.trees (equation_checks_in k.now.items args.now equations.now) result }
+    ensures checks { Asks k.now.trees
+        (equation_checks_in k.now.items args.now equations.now) result }
 {
     let wanted = count_heads(k, args);
     if equations.len() != wanted {

@@ -1,7 +1,6 @@
-use Rattle.std.proofs.Common.{◌≡◌, ◌∙◌, sym, ap}
+use Rattle.std.proofs.Common.{◌∙◌, sym, ap}
 use Rattle.ft_items.specs.Equal.{is_object_goal}
 use Rattle.ft_judge.specs.Meaning.{goal_in}
-use Rattle.ft_apply.specs.Named.{rule_of}
 use Rattle.ft_apply.proofs.RuleLines.{IsRuleOf, rule_there}
 use Rattle.ft_apply.proofs.Congruences.{symbol_told}
 use Rattle.ft_apply.proofs.equating.has_symbol.Goals as goal

@@ -1,4 +1,4 @@
-use Rattle.std.proofs.Common.{◌∙◌, true, false, subst, sym}
+use Rattle.std.proofs.Common.{true, false, subst, sym}
 use Rattle.ft_judge.specs.Meaning.{thesis_in}
 use Rattle.ft_apply.specs.Outcomes.{Formed}
 use Rattle.ft_apply.specs.Equations.{conversion_checks_in, conversion_in}

@@ -1,5 +1,5 @@
-use Rattle.std.proofs.Common.{◌∙◌, sym, subst, add-one, rules}
-use Rattle.ft_apply.proofs.Starts.{Counting, counting_head, counting_other}
+use Rattle.std.proofs.Common.{◌∙◌, sym, add-one, rules}
+use Rattle.ft_apply.proofs.Starts.{counting_head, counting_other}
 use Rattle.ft_apply.proofs.starting.count_heads.Goals as goal
 use Rattle.ft_apply.proofs.starting.count_heads.Goals.{then-has_head, else-has_head}
 

@@ -135,7 +135,7 @@ pub rule_misfit : (ts : List Expression) (r : ℕ) (R : Rule) (xs : List Stateme
 rule_misfit ts r R xs (Refused q) h = refused_first ts (all_argument_checks R.premises xs) (forms_result (rule_instance r R xs)) q h
 rule_misfit ts r R xs Memory h = tt
 
-rule_row : (r : ℕ) (R : Rule) (xs : List Statement) → Theses xs → first_refusal (all_argument_checks R.premises xs) ≡ None → rule_instance r R xs ≡ Some (plain (concluded R r xs))
+pub rule_row : (r : ℕ) (R : Rule) (xs : List Statement) → Theses xs → first_refusal (all_argument_checks R.premises xs) ≡ None → rule_instance r R xs ≡ Some (plain (concluded R r xs))
 rule_row r R xs t h = ap (λ b. when b (plain (concluded R r xs))) (all_fit R.premises xs t h)
 
 pub rule_big : (ts : List Expression) (r : ℕ) (R : Rule) (xs : List Statement) (P : Type 0) (f : SynFault) → Theses xs → first_refusal (all_argument_checks R.premises xs) ≡ None

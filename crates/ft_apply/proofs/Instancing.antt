@@ -2,7 +2,7 @@
 use Rattle.std.proofs.Common.{◌≡◌, ◌∙◌, ℕ, zero, suc, ◌<◌, ◌≤◌, true, cond, nat_eq, nat_le, ◌&&◌, Option, Some, None, List, [], ◌∷◌, ◌++◌, length, take, drop, refl, sym, ap, ap₂, subst, arith}
 use Rattle.std.specs.Prelude.{Ok}
 use Rattle.std.proofs.lemmas.Bool.{and_from, le-leb, lt-leb, eq-eqb}
-use Rattle.ft_theory.specs.Expressions.{Expression, free}
+use Rattle.ft_theory.specs.Expressions.{Expression, free, Arguments}
 use Rattle.ft_theory.specs.Statements.{Statement, plain, act_statement}
 use Rattle.ft_theory.specs.Rules.{Rule, instance_of}
 use Rattle.ft_items.specs.Item.{Item, by_inst}
@@ -52,7 +52,7 @@ taken_below n zero ms h = tt
 taken_below n (suc k) [] h = tt
 taken_below n (suc k) (m ∷ ms) h = (h.0, taken_below n k ms h.1)
 
-length_taken : {A : Type 0} (n : ℕ) (xs : List A) → n ≤ length xs → length (take n xs) ≡ n
+pub length_taken : {A : Type 0} (n : ℕ) (xs : List A) → n ≤ length xs → length (take n xs) ≡ n
 length_taken zero xs l = refl
 length_taken (suc n) [] l = absurd (omega arith)
 length_taken (suc n) (x ∷ xs) l = ap suc (length_taken n xs (omega arith))
@@ -64,10 +64,10 @@ given_fit ps xs t l h =
     ∙ and_from (nat_eq (length xs) (length ps)) (asked (given_checks ps xs)) (eq-eqb (length xs) (length ps) l) (passed (given_checks ps xs) h).0
 
 -- the first premises of a rule of the list
-first_is : (items : List Item) (r : ℕ) (ms : List ℕ) (p : ℕ) (js : List ℕ) → IsRuleOf items r ms p → first_premises (rule_of items r) (statements_of items js) ≡ premises_in items (take (length js) ms)
+pub first_is : (items : List Item) (r : ℕ) (ms : List ℕ) (p : ℕ) (js : List ℕ) → IsRuleOf items r ms p → first_premises (rule_of items r) (statements_of items js) ≡ premises_in items (take (length js) ms)
 first_is items r ms p js R = ap₂ take (as_many items js) R.premises ∙ premises_taken items (length js) ms
 
-premises_many : (items : List Item) (r : ℕ) (ms : List ℕ) (p : ℕ) → IsRuleOf items r ms p → length (rule_of items r).premises ≡ length ms
+pub premises_many : (items : List Item) (r : ℕ) (ms : List ℕ) (p : ℕ) → IsRuleOf items r ms p → length (rule_of items r).premises ≡ length ms
 premises_many items r ms p R = ap length R.premises ∙ premises_count items ms
 
 -- too many
@@ -118,11 +118,11 @@ none_left zero xs e = sym e
 none_left (suc n) [] e = refl
 none_left (suc n) (x ∷ xs) e = ap (λ ys. x ∷ ys) (none_left n xs e)
 
-next_is : (R : Rule) (xs : List Statement) → act_statement free (instance_of (first_premises R xs) (heads xs)) (boundary_after R (length xs)) ≡ next_boundary R (first_premises R xs) (heads xs) (later_premises R xs)
-next_is R xs = go (later_premises R xs) refl
+pub next_is : (R : Rule) (xs : List Statement) (a : Arguments) → act_statement free (instance_of (first_premises R xs) a) (boundary_after R (length xs)) ≡ next_boundary R (first_premises R xs) a (later_premises R xs)
+next_is R xs a = go (later_premises R xs) refl
   where
-    go : (qs : List (ℕ × Statement)) → later_premises R xs ≡ qs → act_statement free (instance_of (first_premises R xs) (heads xs)) (next_of R qs) ≡ next_boundary R (first_premises R xs) (heads xs) qs
-    go [] e = ap (λ ps. act_statement free (instance_of ps (heads xs)) (plain R.conclusion)) (none_left (length xs) R.premises e)
+    go : (qs : List (ℕ × Statement)) → later_premises R xs ≡ qs → act_statement free (instance_of (first_premises R xs) a) (next_of R qs) ≡ next_boundary R (first_premises R xs) a qs
+    go [] e = ap (λ ps. act_statement free (instance_of ps a) (plain R.conclusion)) (none_left (length xs) R.premises e)
     go (q ∷ qs) e = refl
 
 -- the row
@@ -133,7 +133,7 @@ row_is items r ms p js R t l h =
     ap (λ b. when b (next_boundary (rule_of items r) P (heads xs) (later_premises (rule_of items r) xs)))
     (given_fit P xs t long (subst (λ ps. first_refusal (given_checks ps xs) ≡ None) (sym first) h))
     ∙ ap Some
-    (sym (next_is (rule_of items r) xs)
+    (sym (next_is (rule_of items r) xs (heads xs))
     ∙ ap₂ (λ ps n. act_statement free (instance_of ps (heads xs)) (boundary_after (rule_of items r) n)) first (as_many items js))
   where
     xs : List Statement

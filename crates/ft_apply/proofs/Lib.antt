@@ -11,3 +11,6 @@ pub mod Calls
 pub mod After
 pub mod Instancing
 pub mod Concluded
+pub mod Starts
+pub mod Congruences
+pub mod Moved

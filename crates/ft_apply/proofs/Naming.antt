@@ -86,7 +86,7 @@ claim_head (term_goal A) = refl
 claim_head (type_equation_goal A B) = refl
 claim_head (term_equation_goal s t A) = refl
 
-statement_head : (x : Statement) → head_of_statement x ≡ cond (has_head x) (Some (head x)) None
+pub statement_head : (x : Statement) → head_of_statement x ≡ cond (has_head x) (Some (head x)) None
 statement_head (plain c) = claim_head c
 statement_head (abstracted A x) = statement_head x
 
@@ -99,7 +99,7 @@ heads_listed (x ∷ xs) = ap₂ (λ o r. with_argument (domain_count x, o) r) (s
     go true = refl
     go false = refl
 
-count_under : (ts : List Expression) (ds : List ℕ) (c : Claim) → domain_count (under ts ds (plain c)) ≡ length ds
+pub count_under : (ts : List Expression) (ds : List ℕ) (c : Claim) → domain_count (under ts ds (plain c)) ≡ length ds
 count_under ts [] c = refl
 count_under ts (d ∷ ds) c = ap suc (count_under ts ds c)
 
@@ -127,7 +127,7 @@ pub record Heading (s : State) (js : List ℕ) (i : ℕ) (found : List Arg) : Ty
 pub heading_start : (s : State) (js : List ℕ) → Heading s js 0 []
 heading_start s js = record { done = heads_listed (statements_of s.items js); below = tt; long = refl }
 
-length_push : {A : Type 0} (xs : List A) (x : A) → length (xs ++ x ∷ []) ≡ suc (length xs)
+pub length_push : {A : Type 0} (xs : List A) (x : A) → length (xs ++ x ∷ []) ≡ suc (length xs)
 length_push [] x = refl
 length_push (y ∷ xs) x = ap suc (length_push xs x)
 

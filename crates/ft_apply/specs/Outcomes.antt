@@ -50,3 +50,7 @@ one_argument_checks b x = forms_statement b ++ fit_checks x b
 -- the theses are arguments for the premises, at the instance that they are
 abbrev pub given_checks : List (ℕ × Statement) → List Statement → List Check
 given_checks ps xs = argument_checks (at_arguments ps (heads xs)) ps xs
+
+-- the first boundary is formed, the thesis fits it, and the second is formed
+abbrev pub moved_between : Statement → Statement → Statement → List Check
+moved_between b c y = forms_statement b ++ (fit_checks y b ++ forms_statement c)

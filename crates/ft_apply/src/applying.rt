@@ -12,8 +12,6 @@ ghost use Rattle.ft_reference.specs.Checks.{all_argument_checks, rule_checks, ru
 ghost use Rattle.ft_syntax.specs.Table.{arguments_in, ArgumentsBelow};
 ghost use Rattle.ft_syntax.specs.Instances.{instance_in, PairsBelow};
 ghost use Rattle.ft_judge.specs.Meaning.{claim_in, goal_in, boundary_in, FormBelow, GoalBelow, BoundaryBelow};
-ghost use Rattle.ft_judge.specs.declared.fault.Refusal.TheVariants.{ArgumentCount};
-ghost use Rattle.ft_judge.specs.declared.fault.Fault.TheVariants.{Refused};
 ghost use Rattle.ft_kernel.specs.State.{IsThesisOf, IsBoundaryOf};
 ghost use Rattle.ft_calls.specs.Answers.{Answers, Stays};
 ghost use Rattle.ft_calls.specs.Forming.{plain_in, plain_goal_in};
@@ -21,7 +19,7 @@ ghost use Rattle.ft_apply.specs.Named.{entry_of, statements_of, AreThesesOf, rul
 ghost use Rattle.ft_apply.specs.Outcomes.{SmallOr, Asks, Tests, Formed};
 ghost use Rattle.ft_apply.specs.Instances.{goal_at, filled_at};
 
-use crate::fitting::{Given, arguments};
+use crate::fitting::{Given, arguments, counts};
 use crate::named::sets;
 use crate::putting::{put_boundary, put_goal};
 use ft_base::Memory;
@@ -75,15 +73,8 @@ fn next_formed(alloc: Global, k: &mut Kernel, r: RuleId, args: &[J]) -> Result<B
     }
 }
 
-// So many were given, so many are wanted.
-fn counts(given: usize, wanted: usize) -> Fault
-    ensures { result ≡ Refused (ArgumentCount given wanted) }
-{
-    Fault::Refused(Refusal::ArgumentCount(given as u64, wanted as u64))
-}
-
-// The boundary of the premise after so many, or of the conclusion where no premise is left.
-fn boundary_after(k: &Kernel, r: RuleId, count: usize) -> Result<Boundary, Memory>
+/// The boundary of the premise after so many, or of the conclusion where no premise is left.
+pub(crate) fn boundary_after(k: &Kernel, r: RuleId, count: usize) -> Result<Boundary, Memory>
     requires rule { r < length (rules_in k.now.items) }
     ensures within { IfOk result (λ b. BoundaryBelow (length k.now.trees) b) }
     ensures boundary { IfOk result (λ b.
@@ -115,8 +106,13 @@ pub fn apply(alloc: Global, k: &mut Kernel, r: RuleId, args: &[J]) -> Result<J, 
     conclude(k, plain(alloc, form), set, step)
 }
 
-// The conclusion at the arguments, which fit the premises.
-fn applied_formed(alloc: Global, k: &mut Kernel, r: RuleId, args: &[J]) -> Result<Form, Fault>
+/// The conclusion at the arguments, which fit the premises.
+pub(crate) fn applied_formed(
+    alloc: Global,
+    k: &mut Kernel,
+    r: RuleId,
+    args: &[J],
+) -> Result<Form, Fault>
     requires rule { r < length (rules_in k.old.items) }
     requires arguments { AreThesesOf k.old args.now }
     ensures within { IfOk result (λ f. FormBelow (length k.new.trees) f) }

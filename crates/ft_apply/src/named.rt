@@ -16,8 +16,8 @@ use ft_kernel::{J, Kernel, M};
 use ft_syntax::{Arg, Instance, Pairs};
 use std::alloc::Global;
 
-// The head of a thesis.
-fn head(k: &Kernel, j: J) -> Arg
+/// The head of a thesis.
+pub(crate) fn head(k: &Kernel, j: J) -> Arg
     requires { IsThesisOf k.now j }
     ensures head { argument_in k.now.trees result ≡
         head_argument (entry_of k.now.items j).statement }

@@ -1,30 +1,17 @@
-use Rattle.std.proofs.Common.{subst, sym, Ok, Err}
-use Rattle.std.specs.Prelude.{⊤}
-use Rattle.ft_reference.specs.Refusals.{AllSmall, expressions}
-use Rattle.ft_reference.specs.Compare.{fit_checks}
-use Rattle.ft_judge.specs.Meaning.{thesis_in, boundary_in}
-use Rattle.ft_apply.specs.Named.{entry_of, boundary_of_met}
-use Rattle.ft_apply.specs.Outcomes.{Stops, Tests, one_argument_checks}
+use Rattle.std.proofs.Common.{subst}
+use Rattle.ft_apply.specs.Named.{entry_of}
+use Rattle.ft_apply.specs.Outcomes.{Asks, one_argument_checks}
 use Rattle.ft_apply.specs.Instances.{boundary_at}
-use Rattle.ft_apply.proofs.Asking.{forming_refused}
-use Rattle.ft_apply.proofs.Fits.{fit_result}
+use Rattle.ft_apply.proofs.RuleLines.{met_boundary}
+use Rattle.ft_apply.proofs.Fits.{met_is}
 use Rattle.ft_apply.proofs.fitting.fit.Goals as goal
 
-pub returns-in-Err-clause-checks : goal.returns-in-Err-clause-checks
-returns-in-Err-clause-checks c =
-    let us = c.premise_at.new.k.trees in
-    let B = boundary_at c.args.k.now.trees c.args.i.now.pairs (boundary_of_met c.args.k.now.items c.args.m) in
-    let X = (entry_of c.args.k.now.items c.args.j).statement in
-    subst (Stops us (one_argument_checks B X)) (sym c.from.ensures) (forming_refused us (AllSmall (expressions B)) (expressions B) (fit_checks X B) c.in-Err.fault (λ h. h) c.in-Err.ensures.small)
-
-pub returns-in-Ok-compare-clause-checks : goal.returns-in-Ok-compare-clause-checks
-returns-in-Ok-compare-clause-checks c =
-    let B = boundary_at c.args.k.now.trees c.args.i.now.pairs (boundary_of_met c.args.k.now.items c.args.m) in
-    fit_result c.args.k.now c.premise_at.new.k c.args.j c.thesis_of.result.now c.in-Ok.wanted B (Ok c.in-Ok-compare.field-0) c.in-Ok.ensures.stays.0 c.thesis_of.ensures.thesis c.in-Ok.ensures.boundary c.in-Ok.ensures.small
-    (subst (λ ts. Tests {A = ⊤} ts (fit_checks (thesis_in ts c.thesis_of.result.now) (boundary_in ts c.in-Ok.wanted)) (Ok c.in-Ok-compare.field-0)) c.terms.ensures.terms c.in-Ok-compare.ensures)
+pub boundary_at-requires : goal.boundary_at-requires
+boundary_at-requires c = met_boundary c.args.k.now c.args.m (c.met.result.now.name, c.met.result.now.boundary) c.met.ensures.good c.met.ensures.metavariable
 
 pub returns-clause-checks : goal.returns-clause-checks
 returns-clause-checks c =
-    let B = boundary_at c.args.k.now.trees c.args.i.now.pairs (boundary_of_met c.args.k.now.items c.args.m) in
-    fit_result c.args.k.now c.premise_at.new.k c.args.j c.thesis_of.result.now c.in-Ok.wanted B (Err c.in-Err-compare.refusal) c.in-Ok.ensures.stays.0 c.thesis_of.ensures.thesis c.in-Ok.ensures.boundary c.in-Ok.ensures.small
-    (subst (λ ts. Tests {A = ⊤} ts (fit_checks (thesis_in ts c.thesis_of.result.now) (boundary_in ts c.in-Ok.wanted)) (Err c.in-Err-compare.refusal)) c.terms.ensures.terms c.in-Err-compare.ensures)
+    let s = c.args.k.now in
+    subst (λ b. Asks c.fit_at.new.k.trees (one_argument_checks (boundary_at s.trees c.args.i.now.pairs b) (entry_of s.items c.args.j).statement) c.fit_at.result)
+    (met_is s c.args.m (c.met.result.now.name, c.met.result.now.boundary) c.boundary_at.result.now c.in_ok-boundary.boundary c.met.ensures.metavariable c.boundary_at.ensures.boundary c.in_ok-boundary.ensures)
+    c.fit_at.ensures.checks

@@ -1,38 +1,34 @@
 -- Metavariables at terms, and at equal terms.
-use Rattle.std.proofs.Common.{◌≡◌, ◌∙◌, ℕ, suc, ◌<◌, ◌≤◌, true, false, ◌&&◌, cond, Some, None, List, [], ◌∷◌, ◌++◌, length, drop, get_or, map, refl, sym, ap, ap₂, subst, append-nil, append_assoc, drop_of_length-le}
-use Rattle.std.specs.Prelude.{Ok, Err}
-use Rattle.std.proofs.lemmas.List.{length-map, map-append}
-use Rattle.std.proofs.lemmas.Option.{same_Some}
+use Rattle.std.proofs.Common.{◌≡◌, ◌∙◌, ℕ, true, false, ◌&&◌, Some, None, List, [], ◌∷◌, ◌++◌, length, map, refl, sym, ap, ap₂, subst}
+use Rattle.std.specs.Prelude.{Ok}
+use Rattle.std.proofs.lemmas.List.{length-map}
 use Rattle.ft_common.proofs.Booleans.{true_false}
 use Rattle.ft_common.proofs.Choices.{if_true}
-use Rattle.ft_common.proofs.Options.{none_some, some_none}
-use Rattle.ft_theory.specs.Expressions.{Expression, meta, also}
-use Rattle.ft_theory.specs.Small.{IsSmall, is_small}
-use Rattle.ft_theory.specs.Statements.{Claim, is_type, has_type, equal_types, equal_terms, type_goal, term_goal, type_equation_goal, term_equation_goal, Statement, plain, abstracted, map_claim, at, fill_goal, fill, equate_goal, equate, domain}
-use Rattle.ft_items.specs.Equal.{equal_expressions, terms, left_terms, right_terms, right_head, is_object_goal, is_object}
+use Rattle.ft_theory.specs.Expressions.{Expression, meta}
+use Rattle.ft_theory.specs.Statements.{Claim, is_type, has_type, equal_types, equal_terms, type_goal, term_goal, type_equation_goal, term_equation_goal, Statement, plain, at, fill_goal, fill, equate_goal, equate}
+use Rattle.ft_items.specs.Equal.{terms, left_terms, right_terms, is_object_goal, is_object}
 use Rattle.ft_items.specs.Rows.{when, applied_meta, meta_congruence}
 use Rattle.ft_reference.specs.Refusals.{AllSmall, claim_expressions, expressions, first_refusal, forms_result}
 use Rattle.ft_reference.specs.Refusals as reference
-use Rattle.ft_reference.specs.Compare.{pair_checks}
 use Rattle.ft_reference.specs.Checks.{meta_checks, meta_congruence_checks}
 use Rattle.ft_nucleus_laws.proofs.Lists.{passed}
 use Rattle.ft_nucleus_laws.proofs.Tests.{terms_asked, pairs_asked}
 use Rattle.ft_syntax.specs.Table.{tree, terms_in, Extends, AllBelow}
-use Rattle.ft_syntax.specs.Laws.{trees_extend, all_push}
+use Rattle.ft_syntax.specs.Laws.{trees_extend}
 use Rattle.ft_syntax.specs.declared.syntax.SynFault.{SynFault}
 use Rattle.ft_judge.specs.Faults as faults
-use Rattle.ft_judge.specs.Meaning.{claim_in, goal_in, under, boundary_in, thesis_in, BoundaryBelow}
+use Rattle.ft_judge.specs.Meaning.{claim_in, goal_in, under, boundary_in, BoundaryBelow}
 use Rattle.ft_judge.specs.Laws.{boundary_extends}
 use Rattle.ft_judge.specs.declared.judgement.Boundary.{Boundary}
 use Rattle.ft_judge.specs.declared.judgement.Form.{Form}
 use Rattle.ft_judge.specs.declared.judgement.Goal.{Goal}
 use Rattle.ft_judge.specs.declared.fault.Fault.{Fault}
-use Rattle.ft_judge.specs.declared.fault.Fault.TheVariants.{Refused, Memory}
+use Rattle.ft_judge.specs.declared.fault.Fault.TheVariants.{Refused}
 use Rattle.ft_calls.specs.Forming.{plain_in}
 use Rattle.ft_calls.proofs.Later.{forms_pass}
 use Rattle.ft_metas.specs.Outcomes.{BigOr, Stops, Formed}
 use Rattle.ft_metas.specs.Putting.{terms_of, goal_with, claim_with, filled_at, equated_at}
-use Rattle.ft_metas.specs.Operands.{operand_in, operands_of, all_checks, AreEquations}
+use Rattle.ft_metas.specs.Operands.{operands_of, all_checks}
 use Rattle.ft_metas.specs.declared.operands.Given.{Given}
 use Rattle.ft_metas.specs.declared.operands.Given.TheVariants as given
 use Rattle.ft_metas.proofs.Asking.{both_pass, stops_first, big_last}

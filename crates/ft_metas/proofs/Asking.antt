@@ -8,7 +8,6 @@ use Rattle.ft_syntax.specs.declared.syntax.SynFault.{SynFault}
 use Rattle.ft_syntax.specs.declared.syntax.SynFault.TheVariants as syntax
 use Rattle.ft_judge.specs.Faults as faults
 use Rattle.ft_judge.specs.declared.fault.Refusal.{Refusal}
-use Rattle.ft_judge.specs.declared.fault.Refusal.TheVariants.{TooBig}
 use Rattle.ft_judge.specs.declared.fault.Fault.{Fault}
 use Rattle.ft_judge.specs.declared.fault.Fault.TheVariants.{Refused, Memory}
 use Rattle.ft_calls.specs.Forming.{Refuses}

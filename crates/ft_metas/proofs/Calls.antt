@@ -1,5 +1,5 @@
 -- What calls of metavariables answer, by what their parts formed.
-use Rattle.std.proofs.Common.{◌≡◌, ◌∙◌, ℕ, ◌<◌, true, ◌&&◌, Option, Some, None, List, length, sym, ap, ap₂, subst}
+use Rattle.std.proofs.Common.{◌≡◌, ℕ, ◌<◌, true, ◌&&◌, Some, List, length, sym, ap, ap₂, subst}
 use Rattle.std.specs.Prelude.{Ok, Err}
 use Rattle.ft_theory.specs.Statements.{Statement}
 use Rattle.ft_items.specs.Sets.{Atom}

@@ -1,9 +1,8 @@
 -- The loop that puts terms for the variables of domains.
-use Rattle.std.proofs.Common.{◌≡◌, ◌∙◌, ℕ, zero, suc, ◌-◌, ◌<◌, ◌≤◌, List, [], ◌∷◌, length, drop, get_or, map, refl, sym, ap, ap₂, subst, arith, length-drop, drop_of_length-le}
+use Rattle.std.proofs.Common.{◌≡◌, ◌∙◌, ℕ, suc, ◌-◌, ◌<◌, ◌≤◌, List, [], ◌∷◌, length, drop, get_or, map, refl, sym, ap, ap₂, subst, arith, length-drop, drop_of_length-le}
 use Rattle.std.proofs.lemmas.List.{length-map}
 use Rattle.ft_theory.specs.Expressions.{Expression, open_at}
 use Rattle.ft_theory.specs.Small.{IsSmall}
-use Rattle.ft_theory.specs.Statements.{term_goal, type_equation_goal, term_equation_goal}
 use Rattle.ft_syntax.specs.Table.{tree, Extends, AllBelow}
 use Rattle.ft_syntax.specs.Laws.{tree_extends, trees_extend, below_extends, one_below}
 use Rattle.ft_syntax.specs.declared.syntax.SynFault.{SynFault}

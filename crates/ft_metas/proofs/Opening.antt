@@ -1,5 +1,5 @@
 -- What is opened is no less deep and no smaller, and its numbers keep their limits; so an expression that is not small stays so.
-use Rattle.std.proofs.Common.{◌≡◌, ℕ, suc, ◌+◌, ◌≤◌, max, nat_eq, List, [], ◌∷◌, length, arith}
+use Rattle.std.proofs.Common.{ℕ, ◌+◌, ◌≤◌, nat_eq, List, [], ◌∷◌, length, arith}
 use Rattle.ft_common.proofs.Choices.{if_both}
 use Rattle.ft_theory.specs.Expressions.{Expression, bound, free, symbol, meta, Arguments, no_arguments, with_body, dummy, Terms, no_terms, also, open_at, open_arguments, open_terms}
 use Rattle.ft_theory.specs.Small.{IsSmall, depth, depth_of_arguments, depth_of_terms, size, size_of_arguments, size_of_terms, NumbersFit, NumbersFitInArguments, NumbersFitInTerms}

@@ -1,12 +1,11 @@
 -- The right sides of plain equations.
 use Rattle.std.proofs.Common.{◌≡◌, ◌∙◌, ℕ, zero, suc, ◌<◌, ◌≤◌, Bool, true, false, cond, nat_eq, Some, None, List, [], ◌∷◌, ◌++◌, length, drop, get_or, map, refl, sym, ap, ap₂, subst, arith, append-nil, append_assoc, drop_of_length-le}
 use Rattle.std.proofs.lemmas.List.{map-append}
-use Rattle.std.proofs.lemmas.Option.{same_Some}
 use Rattle.ft_common.proofs.Booleans.{true_false}
 use Rattle.ft_common.proofs.Options.{none_some}
 use Rattle.ft_theory.specs.Expressions.{Expression, also, meta}
 use Rattle.ft_theory.specs.Small.{IsSmall, is_small}
-use Rattle.ft_theory.specs.Statements.{Claim, is_type, has_type, equal_types, equal_terms, type_goal, term_goal, type_equation_goal, term_equation_goal, Statement, plain, abstracted, opened, domain, domain_count, equate_goal}
+use Rattle.ft_theory.specs.Statements.{Claim, is_type, has_type, equal_types, equal_terms, type_goal, term_goal, type_equation_goal, term_equation_goal, Statement, plain, opened, domain, domain_count, equate_goal}
 use Rattle.ft_items.specs.Equal.{equal_expressions, right_head, right_terms, is_object_goal}
 use Rattle.ft_items.specs.Item.{Item}
 use Rattle.ft_reference.specs.Refusals as reference

@@ -1,15 +1,14 @@
 -- Terms or equations for the domains of a boundary, one after the other.
-use Rattle.std.proofs.Common.{◌≡◌, ◌≢◌, ◌∙◌, ◌⊎◌, inl, inr, ℕ, zero, suc, ◌<◌, ◌≤◌, true, false, cond, nat_eq, Option, Some, None, List, [], ◌∷◌, ◌++◌, length, drop, get_or, map, refl, sym, ap, ap₂, subst, arith, append-nil, append_assoc, drop_of_length-le}
-use Rattle.std.specs.Prelude.{Result, Ok, Err, ⊤}
+use Rattle.std.proofs.Common.{◌≡◌, ◌≢◌, ◌∙◌, ◌⊎◌, inl, inr, ℕ, zero, suc, ◌<◌, ◌≤◌, true, false, cond, nat_eq, Option, Some, None, List, [], ◌∷◌, ◌++◌, length, drop, get_or, map, refl, sym, ap, ap₂, subst, append-nil, append_assoc, drop_of_length-le}
 use Rattle.std.proofs.lemmas.Bool.{eq-eqb}
 use Rattle.std.proofs.lemmas.Bool.Decides.{eqb_tells}
 use Rattle.std.proofs.lemmas.List.{map-append}
 use Rattle.std.proofs.lemmas.Option.{same_Some}
 use Rattle.ft_common.proofs.Choices.{if_true, if_false}
-use Rattle.ft_common.proofs.Options.{none_some, some_none}
+use Rattle.ft_common.proofs.Options.{none_some}
 use Rattle.ft_theory.specs.Expressions.{Expression, also}
 use Rattle.ft_theory.specs.Small.{IsSmall, is_small}
-use Rattle.ft_theory.specs.Statements.{Claim, is_type, has_type, equal_types, equal_terms, type_goal, term_goal, type_equation_goal, term_equation_goal, Statement, plain, abstracted, opened, domain, domain_count, at}
+use Rattle.ft_theory.specs.Statements.{Claim, has_type, equal_terms, Statement, plain, opened, domain, domain_count, at}
 use Rattle.ft_items.specs.Equal.{equal_expressions, head, left_head}
 use Rattle.ft_items.specs.Item.{Item}
 use Rattle.ft_items.proofs.Smallness.{small_true}
@@ -28,10 +27,10 @@ use Rattle.ft_judge.specs.declared.fault.Fault.{Fault}
 use Rattle.ft_judge.specs.declared.fault.Fault.TheVariants.{Refused, Memory}
 use Rattle.ft_kernel.specs.State.{State, statement_at}
 use Rattle.ft_calls.specs.Answers.{Stays}
-use Rattle.ft_calls.specs.Forming.{equal_in, differ_at, Refuses}
+use Rattle.ft_calls.specs.Forming.{equal_in, differ_at}
 use Rattle.ft_calls.proofs.Declared.{stays_same}
 use Rattle.ft_metas.specs.Named.{entry_of, statements_of}
-use Rattle.ft_metas.specs.Outcomes.{BigOr, Stops, Asks}
+use Rattle.ft_metas.specs.Outcomes.{BigOr, Stops}
 use Rattle.ft_metas.specs.Putting.{terms_of, put_in}
 use Rattle.ft_metas.specs.Operands.{operand_in, operand_of, operands_of, operand_checks, all_checks, type_checks, one_checks, StatesOperand, StatesNone}
 use Rattle.ft_metas.specs.declared.operands.Given.{Given}

@@ -1,5 +1,5 @@
 -- What is given for the domains of a metavariable's boundary: terms, or equations of terms.
-use Rattle.std.specs.Prelude.{ℕ, zero, ◌≡◌, true, false, Option, Some, None, List, [], ◌∷◌, length}
+use Rattle.std.specs.Prelude.{ℕ, zero, ◌≡◌, false, Option, Some, None, List, [], ◌∷◌, length}
 use Rattle.ft_theory.specs.Expressions.{Expression, Terms}
 use Rattle.ft_theory.specs.Statements.{has_type, equal_terms, Statement, plain, domain_count}
 use Rattle.ft_items.specs.Equal.{head, left_head, terms, left_terms}

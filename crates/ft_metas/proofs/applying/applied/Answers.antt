@@ -1,21 +1,17 @@
-use Rattle.std.proofs.Common.{◌≡◌, ◌<◌, ◌∙◌, length, subst, sym, ap, Some, None}
+use Rattle.std.proofs.Common.{◌≡◌, ◌∙◌, length, subst, sym, ap}
 use Rattle.std.specs.Prelude.{Ok}
-use Rattle.ft_items.specs.Equal.{terms}
 use Rattle.ft_items.specs.Rows.{applied_meta}
-use Rattle.ft_items.specs.Store.{metavariables_in}
 use Rattle.ft_theory.specs.Statements.{plain}
-use Rattle.ft_reference.specs.Refusals.{AllSmall, claim_expressions, expressions, first_refusal}
+use Rattle.ft_reference.specs.Refusals.{AllSmall, claim_expressions, expressions}
 use Rattle.ft_reference.specs.Checks.{meta_checks}
 use Rattle.ft_syntax.specs.Table.{terms_in, AllBelow}
 use Rattle.ft_syntax.specs.Laws.{all_below_extends}
 use Rattle.ft_judge.specs.Meaning.{goal_in, boundary_in}
 use Rattle.ft_judge.specs.Laws.{boundary_below_extends}
 use Rattle.ft_calls.specs.Forming.{plain_in}
-use Rattle.ft_metas.specs.Named.{statements_of, declared_of}
+use Rattle.ft_metas.specs.Named.{statements_of}
 use Rattle.ft_metas.specs.Outcomes.{Stops, Formed}
-use Rattle.ft_metas.specs.Operands.{all_checks}
 use Rattle.ft_metas.specs.Putting.{goal_with, filled_at}
-use Rattle.ft_metas.specs.declared.operands.Given.TheVariants as given
 use Rattle.ft_metas.proofs.Applied.{applied_at, applied_misfit, applied_big, applied_formed, filled_is, applied_goal_small}
 use Rattle.ft_metas.proofs.applying.applied.Goals as goal
 

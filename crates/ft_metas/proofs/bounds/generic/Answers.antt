@@ -1,17 +1,14 @@
 use Rattle.std.proofs.Common.{◌≡◌, ◌∙◌, length, subst, sym, ap, refl}
 use Rattle.std.specs.Prelude.{Ok}
 use Rattle.ft_theory.specs.Statements.{fill}
-use Rattle.ft_items.specs.Sets.{met, insert}
 use Rattle.ft_items.specs.Item.{by_generic}
 use Rattle.ft_items.specs.Rows.{bounds}
-use Rattle.ft_items.specs.Good.{Good}
 use Rattle.ft_items.specs.Equal.{is_object}
 use Rattle.ft_reference.specs.Checks.{forms_application}
 use Rattle.ft_syntax.specs.Table.{terms_in, AllBelow}
 use Rattle.ft_syntax.specs.Laws.{extends_trans}
-use Rattle.ft_judge.specs.Meaning.{thesis_in, GoalBelow, BoundaryBelow}
 use Rattle.ft_judge.specs.Laws.{boundary_below_extends}
-use Rattle.ft_calls.specs.Answers.{IsAnswer, Answers, Stays}
+use Rattle.ft_calls.specs.Answers.{IsAnswer, Stays}
 use Rattle.ft_calls.proofs.Answering.{rests}
 use Rattle.ft_calls.proofs.Later.{AreSmallTrees, answers_later}
 use Rattle.ft_metas.specs.Named.{declared_of}

@@ -1,7 +1,7 @@
-use Rattle.std.proofs.Common.{◌≡◌, ◌<◌, ◌∙◌, length, true, false, subst, sym, ap, ap₂, map}
+use Rattle.std.proofs.Common.{◌≡◌, ◌∙◌, length, true, subst, sym, ap, ap₂, map}
 use Rattle.std.specs.Prelude.{Ok}
 use Rattle.ft_theory.specs.Statements.{plain}
-use Rattle.ft_items.specs.Equal.{is_object, is_object_goal, right_terms}
+use Rattle.ft_items.specs.Equal.{is_object, right_terms}
 use Rattle.ft_items.specs.Rows.{meta_congruence}
 use Rattle.ft_reference.specs.Refusals.{AllSmall, claim_expressions, expressions}
 use Rattle.ft_reference.specs.Checks.{meta_congruence_checks}
@@ -12,7 +12,7 @@ use Rattle.ft_judge.specs.Laws.{boundary_below_extends}
 use Rattle.ft_judge.specs.declared.fault.Refusal.TheVariants.{WrongForm}
 use Rattle.ft_judge.specs.declared.fault.Fault.TheVariants.{Refused}
 use Rattle.ft_calls.specs.Forming.{plain_in}
-use Rattle.ft_metas.specs.Named.{statements_of, declared_of}
+use Rattle.ft_metas.specs.Named.{statements_of}
 use Rattle.ft_metas.specs.Outcomes.{Stops, Formed}
 use Rattle.ft_metas.specs.Operands.{AreEquations}
 use Rattle.ft_metas.specs.Putting.{goal_with, equated_at}

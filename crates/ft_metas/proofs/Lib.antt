@@ -1,0 +1,12 @@
+pub mod Opening
+pub mod Places
+pub mod OpenedTerms
+pub mod Naming
+pub mod Declared
+pub mod Asking
+pub mod At
+pub mod Taking
+pub mod Calls
+pub mod Applied
+pub mod Bounding
+pub mod Sides

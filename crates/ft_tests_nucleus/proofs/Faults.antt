@@ -1,5 +1,5 @@
 -- What a fault of a call names is in the table.
-use Rattle.std.proofs.Common.{◌≡◌, ℕ, Bool, true, false, Option, Some, None, List, length, subst, absurd}
+use Rattle.std.proofs.Common.{◌≡◌, ℕ, Bool, true, false, Option, Some, None, List, length, subst}
 use Rattle.std.specs.Prelude.{Result, Ok, Err, IfErr, option_map}
 use Rattle.ft_items.specs.Item.{Stated, Name}
 use Rattle.ft_items.specs.Store.{Annotation, Declared, Declarations, declared_by, declared_variable, add_variable, add_metavariable}

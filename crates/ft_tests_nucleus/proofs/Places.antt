@@ -1,6 +1,6 @@
 -- The entry at a place of a list has as its number how many entries stand before it.
 use Rattle.std.proofs.Common.{◌≡◌, ◌∙◌, ℕ, zero, suc, Option, Some, None, true, false, List, [], ◌∷◌, ap, sym, refl, subst, arith, length, take}
-use Rattle.std.specs.Prelude.{option_map}
+use Rattle.std.specs.Prelude.{option_map, IfSome}
 use Rattle.std.proofs.lemmas.Option.{same_Some}
 use Rattle.ft_common.proofs.Options.{none_some}
 use Rattle.ft_theory.specs.Statements.{Statement, plain}
@@ -59,9 +59,9 @@ plain_there s b x h e d = (h.0, h.1, h.2, ap is_plain same ∙ none_around x.dom
     none_around (d ∷ ds) e = absurd (omega (arith, e))
 
 -- a variable of the number that was looked for
-pub variable_found : (s : State) (v w : ℕ) (o : Option ℕ) → o ≡ option_map (λ _. v) (variable_numbered (variables_in s.items) v) → o ≡ Some w → IsVariableOf s w
-variable_found s v w o h e = go (variable_numbered (variables_in s.items) v) refl (sym h ∙ e)
+pub variable_found : (s : State) (v : ℕ) (o : Option ℕ) → o ≡ option_map (λ _. v) (variable_numbered (variables_in s.items) v) → IfSome o (λ v. IsVariableOf s v)
+variable_found s v o h = subst (λ o. IfSome o (λ v. IsVariableOf s v)) (sym h) (go (variable_numbered (variables_in s.items) v) refl)
   where
-    go : (x : Option (Name × ℕ)) → variable_numbered (variables_in s.items) v ≡ x → option_map (λ _. v) x ≡ Some w → IsVariableOf s w
-    go None k q = none_some q
-    go (Some x) k q = subst (λ w. IsVariableOf s w) (same_Some v w q) (x, k)
+    go : (x : Option (Name × ℕ)) → variable_numbered (variables_in s.items) v ≡ x → IfSome (option_map (λ _. v) x) (λ v. IsVariableOf s v)
+    go None k = tt
+    go (Some x) k = (x, k)

@@ -66,10 +66,7 @@ pub fn variable(k: &Kernel, place: u64) -> Option<V>
         return None;
     }
     match k.item(place) {
-        Item::Var(v) => match k.var_numbered(v.number()) {
-            Some(found) => Some(found),
-            None => None,
-        },
+        Item::Var(v) => k.var_numbered(v.number()),
         Item::Thesis(_j, _step) => None,
         Item::Boundary(_b, _step) => None,
         Item::Met(_m) => None,

@@ -84,7 +84,7 @@ pub enum Call {
     With(Two, u64, u64),
 }
 
-// A call that makes a boundary.
+// A call that makes a boundary of theses.
 #[tactic(auto, using(crate::proofs::Faults::answers_below, crate::proofs::Growing::answers_grow))]
 fn goal(alloc: Global, k: &mut Kernel, call: Call) -> Result<B, Stop>
     ensures grows { Grows k.old k.new }
@@ -113,14 +113,13 @@ fn goal(alloc: Global, k: &mut Kernel, call: Call) -> Result<B, Stop>
             let made = boundary_eq_term(alloc, k, ty, left, right);
             boundary_or(k, made)
         }
-        Call::Next(r, args) => next(alloc, k, r, args),
-        _ => further_goal(alloc, k, call),
+        _ => Err(Stop::Script),
     }
 }
 
-// A call that makes a boundary of what is there.
+// A call that makes a boundary of a thesis or of another boundary.
 #[tactic(auto, using(crate::proofs::Faults::answers_below, crate::proofs::Growing::answers_grow))]
-fn further_goal(alloc: Global, k: &mut Kernel, call: Call) -> Result<B, Stop>
+fn goal_of(alloc: Global, k: &mut Kernel, call: Call) -> Result<B, Stop>
     ensures grows { Grows k.old k.new }
     ensures below { IfErr result (λ f. StopBelow (length k.new.trees) f) }
 {
@@ -146,7 +145,7 @@ fn further_goal(alloc: Global, k: &mut Kernel, call: Call) -> Result<B, Stop>
     }
 }
 
-/// A call that makes a thesis.
+/// A call on one or two theses.
 #[tactic(auto, using(crate::proofs::Faults::answers_below, crate::proofs::Growing::answers_grow))]
 pub fn judged(alloc: Global, k: &mut Kernel, call: Call) -> Result<J, Stop>
     ensures grows { Grows k.old k.new }
@@ -165,18 +164,13 @@ pub fn judged(alloc: Global, k: &mut Kernel, call: Call) -> Result<J, Stop>
             let made = of_two(alloc, k, two, first, second);
             thesis_or(k, made)
         }
-        Call::Apply(..) | Call::ApplyWith(..) | Call::Again(_) => at_theses(alloc, k, call),
-        Call::Congruence(..) | Call::Move(..) => at_equations(alloc, k, call),
-        Call::Generic(_) | Call::Meta(..) | Call::MetaCongruence(..) => {
-            at_metavariable(alloc, k, call)
-        }
-        _ => further_judged(alloc, k, call),
+        _ => Err(Stop::Script),
     }
 }
 
-// A call on a variable, a part of a boundary, or an argument.
+/// A call on a variable, a part of a boundary, or an argument.
 #[tactic(auto, using(crate::proofs::Faults::answers_below, crate::proofs::Growing::answers_grow))]
-fn further_judged(alloc: Global, k: &mut Kernel, call: Call) -> Result<J, Stop>
+pub fn part(alloc: Global, k: &mut Kernel, call: Call) -> Result<J, Stop>
     ensures grows { Grows k.old k.new }
     ensures thesis { IfOk result (λ j. IsThesisOf k.new j) }
     ensures below { IfErr result (λ f. StopBelow (length k.new.trees) f) }
@@ -255,11 +249,90 @@ fn stopped(alloc: Global, k: &Kernel, stop: Stop) -> Result<Text, Stop>
     }
 }
 
+// The text where a boundary is answered.
+fn of_boundary(alloc: Global, k: &Kernel, made: Result<B, Stop>) -> Result<Text, Stop>
+    requires { IfErr made (λ f. StopBelow (length k.now.trees) f) }
+{
+    match made {
+        Ok(_) => Ok(Text::new(alloc)),
+        Err(stop) => stopped(alloc, k, stop),
+    }
+}
+
+// The text where a thesis is answered.
+fn of_thesis(alloc: Global, k: &Kernel, made: Result<J, Stop>) -> Result<Text, Stop>
+    requires thesis { IfOk made (λ j. IsThesisOf k.now j) }
+    requires below { IfErr made (λ f. StopBelow (length k.now.trees) f) }
+{
+    match made {
+        Ok(j) => Ok(sequent_text(alloc, k, j)?),
+        Err(stop) => stopped(alloc, k, stop),
+    }
+}
+
+// The text of what a call that makes a boundary answers.
+fn goal_text(alloc: Global, k: &mut Kernel, call: Call) -> Result<Text, Stop>
+    ensures { Grows k.old k.new }
+{
+    match call {
+        Call::Next(r, args) => {
+            let made = next(alloc, k, r, args);
+            of_boundary(alloc, k, made)
+        }
+        Call::Boundary(_) | Call::BindBoundary(..) | Call::PutBoundary(..) => {
+            let made = goal_of(alloc, k, call);
+            of_boundary(alloc, k, made)
+        }
+        _ => {
+            let made = goal(alloc, k, call);
+            of_boundary(alloc, k, made)
+        }
+    }
+}
+
+// The text of what a call that makes a thesis answers.
+fn judged_text(alloc: Global, k: &mut Kernel, call: Call) -> Result<Text, Stop>
+    ensures { Grows k.old k.new }
+{
+    match call {
+        Call::Of(..) | Call::With(..) => {
+            let made = judged(alloc, k, call);
+            of_thesis(alloc, k, made)
+        }
+        Call::Apply(..) | Call::ApplyWith(..) | Call::Again(_) => {
+            let made = at_theses(alloc, k, call);
+            of_thesis(alloc, k, made)
+        }
+        Call::Congruence(..) | Call::Move(..) => {
+            let made = at_equations(alloc, k, call);
+            of_thesis(alloc, k, made)
+        }
+        Call::Generic(_) | Call::Meta(..) | Call::MetaCongruence(..) => {
+            let made = at_metavariable(alloc, k, call);
+            of_thesis(alloc, k, made)
+        }
+        _ => {
+            let made = part(alloc, k, call);
+            of_thesis(alloc, k, made)
+        }
+    }
+}
+
+// The text of what a call that declares answers.
+fn declared_text(alloc: Global, k: &mut Kernel, call: Call) -> Result<Text, Stop>
+    ensures { Grows k.old k.new }
+{
+    match declared(alloc, k, call) {
+        Ok(()) => Ok(Text::new(alloc)),
+        Err(stop) => stopped(alloc, k, stop),
+    }
+}
+
 // The text of what a call answers that is none on a draft.
 fn answered(alloc: Global, k: &mut Kernel, call: Call) -> Result<Text, Stop>
     ensures { Grows k.old k.new }
 {
-    let stop = match call {
+    match call {
         Call::Type
         | Call::Term(_)
         | Call::Types(..)
@@ -267,20 +340,10 @@ fn answered(alloc: Global, k: &mut Kernel, call: Call) -> Result<Text, Stop>
         | Call::Boundary(_)
         | Call::BindBoundary(..)
         | Call::PutBoundary(..)
-        | Call::Next(..) => match goal(alloc, k, call) {
-            Ok(_) => return Ok(Text::new(alloc)),
-            Err(stop) => stop,
-        },
-        Call::NewVar(..) | Call::NewMeta(..) => match declared(alloc, k, call) {
-            Ok(()) => return Ok(Text::new(alloc)),
-            Err(stop) => stop,
-        },
-        _ => match judged(alloc, k, call) {
-            Ok(j) => return Ok(sequent_text(alloc, k, j)?),
-            Err(stop) => stop,
-        },
-    };
-    stopped(alloc, k, stop)
+        | Call::Next(..) => goal_text(alloc, k, call),
+        Call::NewVar(..) | Call::NewMeta(..) => declared_text(alloc, k, call),
+        _ => judged_text(alloc, k, call),
+    }
 }
 
 /// What a call answers: the sequent of a thesis, why a call is refused, and nothing for others.

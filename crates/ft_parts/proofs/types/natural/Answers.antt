@@ -24,7 +24,7 @@ conclude-requires-clause-answer c =
     let small : AreSmallTrees t.trees = subst AreSmallTrees c.terms.ensures.terms c.are_small.ensures in
     subst (λ S. IsAnswer t (by_natural c.args.j) (Ok (rests (thesis_in t.trees c.plain-thesis.result) S))) (sym c.in_ok-set.ensures)
     (subst (λ x. IsAnswer t (by_natural c.args.j) (Ok (rests (thesis_in t.trees x) c.asm_of.result.now))) (sym c.plain-thesis.ensures)
-    (natural_given s t c.args.j n c.in-Ok.ty (tree s.trees c.in-Ok.term) c.asm_of.result.now c.in-Ok.ensures.statement c.asm_of.ensures c.in-Ok-natural_type.ensures.finds
+    (natural_given s t c.args.j n _ _ c.asm_of.result.now c.in-Ok.ensures.statement c.asm_of.ensures c.in-Ok-natural_type.ensures.finds
     (small n c.in-Ok-natural_type.ensures.within) c.in-Ok-natural_type.ensures.stays c.in-Ok.ensures.ty))
 
 pub returns-clause-answers : goal.returns-clause-answers

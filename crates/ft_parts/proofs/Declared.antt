@@ -6,12 +6,12 @@ use Rattle.std.proofs.lemmas.Option.{same_Some}
 use Rattle.ft_common.proofs.Options.{none_some}
 use Rattle.ft_common.proofs.Booleans.{true_false}
 use Rattle.ft_theory.specs.Expressions.{Expression, bound, free, symbol, meta, Terms, no_terms, also, open_at, instantiate}
-use Rattle.ft_theory.specs.Statements.{Claim, is_type, has_type, equal_types, equal_terms, type_goal, term_goal, type_equation_goal, term_equation_goal, Statement, plain, abstracted, map_claim, open_statement, opened, domain_count, at}
-use Rattle.ft_theory.specs.Rules.{Rule, rule_at, look_up, conclusion_at, instance_of}
+use Rattle.ft_theory.specs.Statements.{Claim, is_type, has_type, equal_types, equal_terms, type_goal, term_goal, type_equation_goal, term_equation_goal, Statement, plain, abstracted, map_claim, open_statement, domain_count, at}
+use Rattle.ft_theory.specs.Rules.{Rule, rule_at, instance_of}
 use Rattle.ft_items.specs.Equal.{is_plain}
 use Rattle.ft_items.specs.Item.{Name}
 use Rattle.ft_items.specs.Good.{Good}
-use Rattle.ft_items.specs.Store.{variables_in, metavariables_in, rules_in, Assertion, Declared, Declarations, nth, type_in, claim_in as claim_of, declared_by, declared_variable}
+use Rattle.ft_items.specs.Store.{variables_in, metavariables_in, rules_in, Declared, Declarations, nth, type_in, claim_in as claim_of, declared_by}
 use Rattle.ft_items.specs.Rows.{type_of_boundary, natural_of_rule, natural_of_meta, natural_type}
 use Rattle.ft_syntax.specs.Arguments.{Argument, arguments_of, list_of_terms, node_of, AreTerms}
 use Rattle.ft_syntax.specs.Table.{tree}
@@ -20,7 +20,7 @@ use Rattle.ft_judge.specs.Meaning.{goal_in, under, boundary_in}
 use Rattle.ft_judge.specs.declared.judgement.Boundary.{Boundary}
 use Rattle.ft_judge.specs.declared.judgement.Goal.{Goal}
 use Rattle.ft_judge.specs.declared.judgement.Goal.TheVariants.{Ty, Tm, EqTy, EqTm}
-use Rattle.ft_kernel.specs.State.{State, entry_at, statement_at, variable_numbered, IsVariableOf, if_below}
+use Rattle.ft_kernel.specs.State.{State, statement_at, variable_numbered, IsVariableOf, if_below}
 use Rattle.ft_calls.specs.Named.{IsVariableAt}
 use Rattle.ft_calls.proofs.Entries.{stated_is}
 use Rattle.ft_calls.proofs.Variables.{no_variable}

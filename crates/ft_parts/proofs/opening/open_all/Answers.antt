@@ -1,4 +1,4 @@
-use Rattle.std.proofs.Common.{◌∙◌, ◌<◌, refl, rules, add-one, subst}
+use Rattle.std.proofs.Common.{◌∙◌, refl, rules, add-one, subst}
 use Rattle.ft_syntax.specs.Laws.{below_extends, extends_trans}
 use Rattle.ft_calls.proofs.Later.{AreSmallTrees}
 use Rattle.ft_parts.proofs.Opened.{opening_more, opening_big, terms_later, count_later}

@@ -1,7 +1,6 @@
 use Rattle.std.proofs.Common.{subst, sym}
 use Rattle.std.specs.Prelude.{Ok}
 use Rattle.ft_items.specs.Item.{by_natural}
-use Rattle.ft_syntax.specs.Table.{tree}
 use Rattle.ft_judge.specs.Meaning.{thesis_in}
 use Rattle.ft_calls.specs.Answers.{IsAnswer}
 use Rattle.ft_calls.proofs.Answering.{rests}

@@ -1,28 +1,32 @@
 -- Types by declaration: what is read of variables, rules and metavariables.
-use Rattle.std.proofs.Common.{◌≡◌, ◌∙◌, ◌⊎◌, inl, inr, ℕ, zero, suc, ◌+◌, ◌<◌, ◌≤◌, true, false, Option, Some, None, List, [], ◌∷◌, length, refl, sym, ap, ap₂, subst, arith}
+use Rattle.std.proofs.Common.{Bool, nat_lt, if◌then◌else◌, ◌≡◌, ◌∙◌, ◌⊎◌, inl, inr, ℕ, zero, suc, ◌+◌, ◌<◌, ◌≤◌, true, false, Option, Some, None, List, [], ◌∷◌, length, refl, sym, ap, ap₂, subst, arith}
 use Rattle.std.specs.Prelude.{option_map}
-use Rattle.std.proofs.lemmas.Bool.{cases_lt}
+use Rattle.std.proofs.lemmas.Bool.{cases_lt, ltb-false}
 use Rattle.std.proofs.lemmas.Option.{same_Some}
 use Rattle.ft_common.proofs.Options.{none_some}
 use Rattle.ft_common.proofs.Booleans.{true_false}
 use Rattle.ft_theory.specs.Expressions.{Expression, bound, free, symbol, meta, Terms, no_terms, also, open_at, instantiate}
-use Rattle.ft_theory.specs.Statements.{Claim, is_type, has_type, equal_types, equal_terms, type_goal, term_goal, type_equation_goal, term_equation_goal, Statement, plain, abstracted, map_claim, open_statement, opened, domain_count, at}
-use Rattle.ft_theory.specs.Rules.{Rule, rule_at, look_up, conclusion_at, instance_of}
+use Rattle.ft_theory.specs.Statements.{Claim, is_type, has_type, equal_types, equal_terms, type_goal, term_goal, type_equation_goal, term_equation_goal, Statement, plain, abstracted, map_claim, open_statement, domain_count, at}
+use Rattle.ft_theory.specs.Rules.{Rule, rule_at, instance_of}
 use Rattle.ft_items.specs.Equal.{is_plain}
-use Rattle.ft_items.specs.Store.{Assertion, Declared, Declarations, nth, type_in, claim_in as claim_of, declared_by, declared_variable}
+use Rattle.ft_items.specs.Item.{Name}
+use Rattle.ft_items.specs.Good.{Good}
+use Rattle.ft_items.specs.Store.{variables_in, metavariables_in, rules_in, Declared, Declarations, nth, type_in, claim_in as claim_of, declared_by}
 use Rattle.ft_items.specs.Rows.{type_of_boundary, natural_of_rule, natural_of_meta, natural_type}
 use Rattle.ft_syntax.specs.Arguments.{Argument, arguments_of, list_of_terms, node_of, AreTerms}
 use Rattle.ft_syntax.specs.Table.{tree}
 use Rattle.ft_syntax.specs.declared.syntax.Node.TheVariants.{Bound, Free, Sym, Meta}
 use Rattle.ft_judge.specs.Meaning.{goal_in, under, boundary_in}
 use Rattle.ft_judge.specs.declared.judgement.Boundary.{Boundary}
-use Rattle.ft_kernel.specs.State.{State, entry_at, statement_at}
+use Rattle.ft_judge.specs.declared.judgement.Goal.{Goal}
+use Rattle.ft_judge.specs.declared.judgement.Goal.TheVariants.{Ty, Tm, EqTy, EqTm}
+use Rattle.ft_kernel.specs.State.{State, statement_at, variable_numbered, IsVariableOf, if_below}
 use Rattle.ft_calls.specs.Named.{IsVariableAt}
 use Rattle.ft_calls.proofs.Entries.{stated_is}
 use Rattle.ft_calls.proofs.Variables.{no_variable}
 use Rattle.ft_parts.specs.Types.{concluded_type, instance_at, type_below, type_of_metavariable, opened_by}
-use Rattle.ft_parts.proofs.Lines.{IsRule, IsMet}
-use Rattle.ft_parts.proofs.Opening.{all_terms}
+use Rattle.ft_parts.proofs.Lines.{IsRule, IsMet, no_rule, no_met}
+use Rattle.ft_parts.proofs.Opened.{all_terms}
 
 -- Variables.
 
@@ -126,7 +130,7 @@ open_below (plain (has_type u A)) k t = refl
 open_below (plain (equal_types A B)) k t = refl
 open_below (plain (equal_terms u v A)) k t = refl
 open_below (plain type_goal) k t = refl
-open_below (plain (term_goal A)) k t = refl
+open_below (plain (term_goal A)) k t = let same : k ≡ 0 + k = omega arith in ap (λ n. Some (open_at n t A)) same
 open_below (plain (type_equation_goal A B)) k t = refl
 open_below (plain (term_equation_goal u v A)) k t = refl
 open_below (abstracted A x) k t =
@@ -173,17 +177,21 @@ meta_terms (free v) m e = let no : ⊥ = cc in absurd no
 meta_terms (symbol f a) m e = let no : ⊥ = cc in absurd no
 
 -- what is looked for, of a metavariable
-type_found : (b : Statement) (A : Expression) (n : ℕ) → option_map (λ A. (A, domain_count b)) (type_below b) ≡ Some (A, n) → (type_below b ≡ Some A) × (domain_count b ≡ n)
+-- a type with the number of a boundary's domains
+abbrev counted : Statement → Option Expression → Option (Expression × ℕ)
+counted b o = option_map (λ A. (A, domain_count b)) o
+
+type_found : (b : Statement) (A : Expression) (n : ℕ) → counted b (type_below b) ≡ Some (A, n) → (type_below b ≡ Some A) × (domain_count b ≡ n)
 type_found b A n h = go (type_below b) refl h
   where
-    go : (o : Option Expression) → type_below b ≡ o → option_map (λ A. (A, domain_count b)) o ≡ Some (A, n) → (type_below b ≡ Some A) × (domain_count b ≡ n)
+    go : (o : Option Expression) → type_below b ≡ o → counted b o ≡ Some (A, n) → (type_below b ≡ Some A) × (domain_count b ≡ n)
     go None e k = none_some k
     go (Some B) e k = let same : (B, domain_count b) ≡ (A, n) = same_Some (B, domain_count b) (A, n) k in (e ∙ ap (λ (p : Expression × ℕ). Some p.0) same, ap (λ (p : Expression × ℕ). p.1) same)
 
-type_lacking : (b : Statement) → option_map (λ A. (A, domain_count b)) (type_below b) ≡ None → type_below b ≡ None
+type_lacking : (b : Statement) → counted b (type_below b) ≡ None → type_below b ≡ None
 type_lacking b h = go (type_below b) h
   where
-    go : (o : Option Expression) → option_map (λ A. (A, domain_count b)) o ≡ None → o ≡ None
+    go : (o : Option Expression) → counted b o ≡ None → o ≡ None
     go None k = refl
     go (Some B) k = none_some (sym k)
 
@@ -223,3 +231,82 @@ meta_short W (meta n a) m A d e h l = let same : n ≡ m = cc in ap (λ m. natur
 meta_short W (bound j) m A d e h l = let no : ⊥ = cc in absurd no
 meta_short W (free v) m A d e h l = let no : ⊥ = cc in absurd no
 meta_short W (symbol f a) m A d e h l = let no : ⊥ = cc in absurd no
+
+-- What is found by number.
+
+below_none : (n b : ℕ) → if_below n b ≡ None → b ≤ n
+below_none n b h = go (nat_lt n b) refl h
+  where
+    go : (t : Bool) → nat_lt n b ≡ t → (if t then Some n else None) ≡ None → b ≤ n
+    go true e k = none_some (sym k)
+    go false e k = ltb-false n b e
+
+pub below_some : (n b k : ℕ) → if_below n b ≡ Some k → k ≡ n
+below_some n b k h = go (nat_lt n b) h
+  where
+    go : (t : Bool) → (if t then Some n else None) ≡ Some k → k ≡ n
+    go true e = sym (same_Some n k e)
+    go false e = none_some e
+
+pub variable_found : (s : State) (v w : ℕ) (o : Option ℕ) → o ≡ option_map (λ x. v) (variable_numbered (variables_in s.items) v) → o ≡ Some w → IsVariableOf s w
+variable_found s v w o h e = go (variable_numbered (variables_in s.items) v) refl (sym h ∙ e)
+  where
+    go : (r : Option (Name × ℕ)) → variable_numbered (variables_in s.items) v ≡ r → option_map (λ x. v) r ≡ Some w → IsVariableOf s w
+    go None q k = none_some k
+    go (Some x) q k = subst (IsVariableOf s) (same_Some v w k) (x, q)
+
+pub variable_same : (s : State) (v w : ℕ) (o : Option ℕ) → o ≡ option_map (λ x. v) (variable_numbered (variables_in s.items) v) → o ≡ Some w → w ≡ v
+variable_same s v w o h e = go (variable_numbered (variables_in s.items) v) (sym h ∙ e)
+  where
+    go : (r : Option (Name × ℕ)) → option_map (λ x. v) r ≡ Some w → w ≡ v
+    go None k = none_some k
+    go (Some x) k = sym (same_Some v w k)
+
+pub variable_missing : (s : State) (v : ℕ) (o : Option ℕ) → Good s.items → o ≡ option_map (λ x. v) (variable_numbered (variables_in s.items) v) → o ≡ None → None ≡ natural_type (declared_by s.items) (free v)
+variable_missing s v o g h e = go (variable_numbered (variables_in s.items) v) refl (sym h ∙ e)
+  where
+    go : (r : Option (Name × ℕ)) → variable_numbered (variables_in s.items) v ≡ r → option_map (λ x. v) r ≡ None → None ≡ natural_type (declared_by s.items) (free v)
+    go None q k = sym (ap (option_map (λ d. d.annotation)) (no_variable s v g q))
+    go (Some x) q k = none_some (sym k)
+
+-- a goal that is none of terms
+pub no_type : (ts : List Expression) (g : Goal) → ((A : ℕ) → g ≡ Tm A → ⊥) → None ≡ type_of_boundary (plain (goal_in ts g))
+no_type ts Ty n = refl
+no_type ts (Tm A) n = absurd (n A refl)
+no_type ts (EqTy A B) n = refl
+no_type ts (EqTm l r A) n = refl
+
+-- the type by declaration of a symbol whose rule is not there
+pub no_symbol : (s : State) (x : Expression) (r : ℕ) (o : Option ℕ) → Good s.items → node_of x ≡ Sym r → o ≡ if_below r (length (rules_in s.items)) → o ≡ None → natural_type (declared_by s.items) x ≡ None
+no_symbol s x r o g n h e = symbol_none (declared_by s.items) x r n (ap concluded_type (no_rule s r g (below_none r (length (rules_in s.items)) (sym h ∙ e))))
+
+-- the type of a symbol, at the instance that was read
+pub symbol_type : (s : State) (x : Expression) (r q a : ℕ) (i : ℕ → ℕ → Option Expression) (o : Option ℕ) → node_of x ≡ Sym r → q ≡ r → option_map (tree s.trees) o ≡ concluded_type (rule_at (declared_by s.items).rules q) → o ≡ Some a
+    → i ≡ instance_at (rule_at (declared_by s.items).rules q) x → natural_type (declared_by s.items) x ≡ Some (instantiate i (tree s.trees a))
+symbol_type s x r q a i o n e h k j =
+    symbol_some (declared_by s.items) x r (tree s.trees a) n (ap (λ r. concluded_type (rule_at (declared_by s.items).rules r)) (sym e) ∙ sym h ∙ ap (option_map (tree s.trees)) k)
+    ∙ ap (λ r. Some (instantiate (instance_at (rule_at (declared_by s.items).rules r) x) (tree s.trees a))) (sym e)
+    ∙ ap (λ i. Some (instantiate i (tree s.trees a))) (sym j)
+
+-- the same of metavariables
+abbrev read : State → ℕ × ℕ → Expression × ℕ
+read s p = (tree s.trees p.0, p.1)
+
+pub no_metavariable : (s : State) (x : Expression) (m : ℕ) (o : Option ℕ) → Good s.items → node_of x ≡ Meta m → o ≡ if_below m (length (metavariables_in s.items)) → o ≡ None → natural_type (declared_by s.items) x ≡ None
+no_metavariable s x m o g n h e = meta_none (declared_by s.items) x m n (ap type_of_metavariable (no_met s m g (below_none m (length (metavariables_in s.items)) (sym h ∙ e))))
+
+pub metavariable_lacks : (s : State) (x : Expression) (m q : ℕ) (o : Option (ℕ × ℕ)) → node_of x ≡ Meta m → q ≡ m → option_map (read s) o ≡ type_of_metavariable (nth (declared_by s.items).metavariables q) → o ≡ None → natural_type (declared_by s.items) x ≡ None
+metavariable_lacks s x m q o n e h k =
+    meta_none (declared_by s.items) x m n (ap (λ m. type_of_metavariable (nth (declared_by s.items).metavariables m)) (sym e) ∙ sym h ∙ ap (option_map (read s)) k)
+
+has_type_of : (s : State) (m q a d : ℕ) (o : Option (ℕ × ℕ)) → q ≡ m → option_map (read s) o ≡ type_of_metavariable (nth (declared_by s.items).metavariables q) → o ≡ Some (a, d)
+    → type_of_metavariable (nth (declared_by s.items).metavariables m) ≡ Some (tree s.trees a, d)
+has_type_of s m q a d o e h k = ap (λ m. type_of_metavariable (nth (declared_by s.items).metavariables m)) (sym e) ∙ sym h ∙ ap (option_map (read s)) k
+
+pub metavariable_short : (s : State) (x : Expression) (m q a d : ℕ) (o : Option (ℕ × ℕ)) → node_of x ≡ Meta m → q ≡ m → option_map (read s) o ≡ type_of_metavariable (nth (declared_by s.items).metavariables q) → o ≡ Some (a, d)
+    → length (arguments_of x) < d → natural_type (declared_by s.items) x ≡ None
+metavariable_short s x m q a d o n e h k l = meta_short (declared_by s.items) x m (tree s.trees a) d n (has_type_of s m q a d o e h k) l
+
+pub metavariable_type : (s : State) (x : Expression) (m q a d : ℕ) (o : Option (ℕ × ℕ)) → node_of x ≡ Meta m → q ≡ m → option_map (read s) o ≡ type_of_metavariable (nth (declared_by s.items).metavariables q) → o ≡ Some (a, d)
+    → d ≤ length (arguments_of x) → natural_type (declared_by s.items) x ≡ Some (opened_by d (arguments_of x) (tree s.trees a))
+metavariable_type s x m q a d o n e h k l = meta_some (declared_by s.items) x m (tree s.trees a) d n (has_type_of s m q a d o e h k) l

@@ -1,5 +1,5 @@
-pub mod Opening
+pub mod Opened
 pub mod Pairing
 pub mod Lines
 pub mod Declared
-pub mod Natural
+pub mod Told

@@ -1,5 +1,5 @@
 -- The rules and the metavariables of a good list, by their lines.
-use Rattle.std.proofs.Common.{◌≡◌, ◌∙◌, ℕ, zero, suc, ◌<◌, ◌≤◌, true, false, Option, Some, None, List, [], ◌∷◌, length, map, refl, sym, ap, ap₂, subst, arith}
+use Rattle.std.proofs.Common.{◌≡◌, ◌∙◌, ℕ, zero, suc, ◌≤◌, true, false, Option, Some, None, List, [], ◌∷◌, length, map, refl, sym, ap, ap₂, subst, arith}
 use Rattle.std.specs.Prelude.{option_map, option_and_then}
 use Rattle.std.proofs.lemmas.Option.{same_Some}
 use Rattle.ft_common.proofs.Options.{none_some}
@@ -8,7 +8,7 @@ use Rattle.ft_items.specs.Item.{Name, Item, variable, metavariable, rule, entry,
 use Rattle.ft_items.specs.Equal.{is_thesis, is_plain}
 use Rattle.ft_items.specs.Store.{Assertion, Declared, Store, premises_of, declared, declared_metavariable, declared_rule, ruled, nth, each, entry_named, metavariable_named, add, add_all, empty_store, store_of, declared_by, Declarations, entries_in, metavariables_in, rules_in}
 use Rattle.ft_items.specs.Good.{AllowedRule, GoodAfter, Good}
-use Rattle.ft_items.proofs.Lists.{Before, before_all, each_before, store_is, nth_within, entries_all}
+use Rattle.ft_items.proofs.Lists.{Before, before_all, each_before, store_is, entries_all}
 use Rattle.ft_kernel.specs.State.{State, entry_at, IsBoundaryOf}
 use Rattle.ft_parts.proofs.Pairing.{numbers_of}
 

@@ -10,7 +10,7 @@ use Rattle.ft_common.proofs.Options.{none_some}
 use Rattle.ft_theory.specs.Expressions.{Expression, bound, free, symbol, meta, Arguments, no_arguments, with_body, dummy}
 use Rattle.ft_theory.specs.Statements.{Statement}
 use Rattle.ft_theory.specs.Rules.{Rule, instance_of}
-use Rattle.ft_syntax.specs.Arguments.{Argument, arguments_of, list_of_arguments, list_of_terms, node_of}
+use Rattle.ft_syntax.specs.Arguments.{Argument, arguments_of, list_of_arguments, node_of}
 use Rattle.ft_syntax.specs.Table.{tree, argument_in, BodyBelow}
 use Rattle.ft_syntax.specs.Instances.{body_for, instance_in, PairsBelow}
 use Rattle.ft_syntax.specs.Laws.{body_longer}

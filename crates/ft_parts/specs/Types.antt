@@ -1,7 +1,7 @@
 -- Types by declaration, as they are looked for.
-use Rattle.std.specs.Prelude.{ℕ, zero, suc, ◌≡◌, Option, Some, None, Bool, true, false, List, [], ◌∷◌, Result, Ok, Err, option_map, option_and_then, unwrap_or}
+use Rattle.std.specs.Prelude.{ℕ, zero, suc, ◌≡◌, Option, Some, None, Bool, true, false, List, [], ◌∷◌, Result, Ok, Err, option_map, unwrap_or}
 use Rattle.ft_theory.specs.Expressions.{Expression, bound, free, symbol, meta, open_at}
-use Rattle.ft_theory.specs.Statements.{is_type, has_type, term_goal, Statement, plain, abstracted, domain_count}
+use Rattle.ft_theory.specs.Statements.{has_type, Statement, plain, abstracted, domain_count}
 use Rattle.ft_theory.specs.Rules.{Rule, instance_of}
 use Rattle.ft_items.specs.Store.{Assertion, Declared}
 use Rattle.ft_items.specs.Rows.{type_of_boundary}

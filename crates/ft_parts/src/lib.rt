@@ -1,9 +1,9 @@
 //! What an application tells of its type, over a kernel.
 #![tactic(auto)]
 
-mod natural;
 mod opening;
 mod reading;
 mod symbols;
+mod types;
 
-pub use natural::natural;
+pub use types::natural;

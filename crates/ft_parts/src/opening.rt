@@ -12,7 +12,7 @@ use ft_kernel::Kernel;
 use ft_syntax::{E, SynFault};
 
 // The term at a place of the expression, from 1.
-#[tactic(auto, using(crate::proofs::Opening::term_there, crate::proofs::Opening::no_dummy))]
+#[tactic(auto, using(crate::proofs::Opened::term_there, crate::proofs::Opened::no_dummy))]
 fn term_at(k: &Kernel, e: E, i: u64) -> E
     requires below { e < length k.now.trees }
     requires first { 1 ≤ i }
@@ -30,7 +30,7 @@ fn term_at(k: &Kernel, e: E, i: u64) -> E
 
 /// The type below so many domains, with the first terms of the expression for their variables. `TooBig`
 /// comes exactly where it is not small.
-#[tactic(auto, using(crate::proofs::Opening::opening_start, crate::proofs::Opening::opening_more, crate::proofs::Opening::opening_big, crate::proofs::Opening::opening_end))]
+#[tactic(auto, using(crate::proofs::Opened::opening_start, crate::proofs::Opened::opening_more, crate::proofs::Opened::opening_big, crate::proofs::Opened::opening_end))]
 pub(crate) fn open_all(k: &mut Kernel, ty: E, domains: u64, e: E) -> Result<E, SynFault>
     requires below { e < length k.old.trees }
     requires ty { ty < length k.old.trees }
@@ -45,6 +45,7 @@ pub(crate) fn open_all(k: &mut Kernel, ty: E, domains: u64, e: E) -> Result<E, S
 {
     let mut opened = ty;
     for i in 0..domains {
+        k.terms().are_small();
         let term = term_at(k, e, i + 1);
         opened = match k.open_bound(opened, domains - 1 - i, term) {
             Ok(opened) => opened,

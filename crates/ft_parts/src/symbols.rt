@@ -29,7 +29,9 @@ pub(crate) fn instance(alloc: Global, k: &Kernel, r: RuleId, e: E) -> Result<Ins
     let count = terms.count(e).min(premises.len() as u64);
     let mut pairs = Pairs::new(alloc);
     for i in 0..count {
-        pairs.push((premises[i as usize].number(), terms.arg(e, i + 1)))?;
+        let premise = premises[i as usize];
+        let argument = terms.arg(e, i + 1);
+        pairs.push((premise.number(), argument))?;
     }
     Ok(Instance { pairs })
 }

@@ -1,5 +1,5 @@
 -- What the call for the type by declaration answers.
-use Rattle.std.proofs.Common.{◌≡◌, ◌∙◌, ℕ, ◌<◌, true, false, Option, Some, None, List, [], ◌∷◌, length, refl, sym, ap, ap₂, subst}
+use Rattle.std.proofs.Common.{◌≡◌, ◌∙◌, ℕ, ◌<◌, false, Option, Some, None, List, [], ◌∷◌, length, refl, sym, ap, subst}
 use Rattle.std.specs.Prelude.{Ok, Err, option_map}
 use Rattle.ft_common.proofs.Booleans.{true_false}
 use Rattle.ft_theory.specs.Expressions.{Expression}
@@ -7,12 +7,12 @@ use Rattle.ft_theory.specs.Small.{IsSmall}
 use Rattle.ft_theory.specs.Statements.{is_type, has_type, equal_types, equal_terms, type_goal, term_goal, type_equation_goal, term_equation_goal, Statement, plain, abstracted}
 use Rattle.ft_items.specs.Sets.{Atom}
 use Rattle.ft_items.specs.Item.{by_natural}
-use Rattle.ft_items.specs.Store.{Assertion, Declarations, resolve}
-use Rattle.ft_items.specs.Rows.{natural_type, natural}
+use Rattle.ft_items.specs.Store.{Assertion, Declarations}
+use Rattle.ft_items.specs.Rows.{natural_type}
 use Rattle.ft_reference.specs.Refusals as reference
 use Rattle.ft_reference.specs.Refusals.{first_refusal}
 use Rattle.ft_reference.specs.Checks.{natural_checks, forms_natural}
-use Rattle.ft_syntax.specs.Table.{tree, Extends}
+use Rattle.ft_syntax.specs.Table.{tree}
 use Rattle.ft_syntax.specs.Laws.{tree_extends}
 use Rattle.ft_syntax.specs.declared.syntax.SynFault.{SynFault}
 use Rattle.ft_syntax.specs.declared.syntax.SynFault.TheVariants as syntax
@@ -23,9 +23,8 @@ use Rattle.ft_judge.specs.declared.fault.Fault.{Fault}
 use Rattle.ft_judge.specs.declared.fault.Fault.TheVariants.{Refused, Memory}
 use Rattle.ft_kernel.specs.State.{State, entry_at, statement_at, set_at}
 use Rattle.ft_calls.specs.Answers.{IsAnswer, Answers, Stays}
-use Rattle.ft_calls.specs.Forming.{Refuses}
 use Rattle.ft_calls.proofs.Entries.{entry_is}
-use Rattle.ft_calls.proofs.Answering.{store, declarations, rests, resolves_one, answered_ok, refused, refused_here, with_statement}
+use Rattle.ft_calls.proofs.Answering.{declarations, rests, resolves_one, answered_ok, refused, refused_here, with_statement}
 use Rattle.ft_calls.proofs.Later.{answer_before, forms_pass, forms_fail}
 use Rattle.ft_parts.specs.Types.{is_plain_term, IsNoPlainTermAt, FindsType}
 

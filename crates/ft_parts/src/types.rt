@@ -27,7 +27,7 @@ pub fn natural(alloc: Global, k: &mut Kernel, j: J) -> Result<J, Fault>
     ensures thesis { IfOk result (λ j. IsThesisOf k.new j) }
 {
     let (term, ty) = match plain_term(k, j) {
-        Ok(stated) => stated,
+        Ok((term, ty)) => (term, ty),
         Err(refusal) => return Err(Fault::Refused(refusal)),
     };
     let set = k.asm_of(j).copy()?;
@@ -68,6 +68,7 @@ fn type_of_symbol(alloc: Global, k: &mut Kernel, s: u64, e: E) -> Result<E, Faul
         (type_by_declaration (declared_by k.old.items) (tree k.old.trees e)) result }
     ensures stays { Stays k.old k.new }
 {
+    let _terms = k.terms();
     let rule = match k.rule_numbered(s) {
         Some(rule) => rule,
         None => return Err(Fault::Refused(Refusal::WrongForm)),
@@ -93,6 +94,7 @@ fn type_of_metavariable(k: &mut Kernel, m: u64, e: E) -> Result<E, Fault>
         (type_by_declaration (declared_by k.old.items) (tree k.old.trees e)) result }
     ensures stays { Stays k.old k.new }
 {
+    let _terms = k.terms();
     let met = match k.met_numbered(m) {
         Some(met) => met,
         None => return Err(Fault::Refused(Refusal::WrongForm)),

@@ -1,2 +1,4 @@
 pub mod Calls
 pub mod Words
+pub mod Spending
+pub mod Variables

@@ -1,8 +1,9 @@
 -- What is told of an evaluation over the list of a kernel.
-use Rattle.std.specs.Prelude.{ℕ, ◌≡◌, ◌≢◌, ◌-◌, Bool, true, false, List, Result, Ok, Err}
-use Rattle.ft_theory.specs.Expressions.{Expression}
+use Rattle.std.specs.Prelude.{ℕ, zero, ◌≡◌, ◌≢◌, ◌-◌, Bool, true, false, Option, Some, None, List, [], Result, Ok, Err}
+use Rattle.ft_theory.specs.Expressions.{Expression, bound}
+use Rattle.ft_theory.specs.Rules.{look_up}
 use Rattle.ft_theory.specs.Statements.{equal_terms, Statement, plain}
-use Rattle.ft_items.specs.Store.{declared_by}
+use Rattle.ft_items.specs.Store.{Annotation, declared_by}
 use Rattle.ft_equality.specs.Shapes.{no_rules}
 use Rattle.ft_grammar.specs.declared.form.OneForm.{OneForm}
 use Rattle.ft_grammar.specs.declared.form.OneForm.TheVariants as one
@@ -83,3 +84,20 @@ pair_word both.Widen = two.Widen
 abbrev pub is_term_equation : Statement → Bool
 is_term_equation (plain (equal_terms s t A)) = true
 is_term_equation x = false
+
+-- the variable of a number with what is declared under it, or a dummy
+abbrev pub annotation_or : Option Annotation → Annotation
+annotation_or (Some d) = d
+annotation_or None = record { name = []; annotation = bound zero; set = [] }
+
+abbrev pub variable_at : State → ℕ → ℕ × Annotation
+variable_at s v = (v, annotation_or (look_up (declared_by s.items).variables v))
+
+-- The same for a variable that is declared, and for a unit that is spent.
+abbrev pub TellsVariable : meaning.Outcome (ℕ × Annotation) → Result ℕ Halt → State → Budget → Type 0
+TellsVariable o (Ok v) t u = o ≡ (Ok (variable_at t v), state_of t u)
+TellsVariable o (Err h) t u = h.why ≢ why.Memory → o ≡ (Err (meaning.halts (halt_in t.trees h)), state_of t u)
+
+abbrev pub TellsUnit : meaning.Outcome (Unit {0}) → Result (Unit {0}) Halt → State → Budget → Type 0
+TellsUnit o (Ok x) t u = o ≡ (Ok tt, state_of t u)
+TellsUnit o (Err h) t u = h.why ≢ why.Memory → o ≡ (Err (meaning.halts (halt_in t.trees h)), state_of t u)

@@ -2,7 +2,9 @@
 #![tactic(auto)]
 
 mod halt;
+mod variables;
 mod words;
 
 pub use halt::{Halt, Why};
+pub use variables::{bound_boundary, bound_judgement, new_variable, spend};
 pub use words::{Pair, Single, boundary_word, boundaryof_word, judgement_word, two_word};

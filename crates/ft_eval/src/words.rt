@@ -35,8 +35,8 @@ pub enum Pair {
     Widen,
 }
 
-// What a call answered, at a place.
-fn halted(at: u64, answer: Result<J, Fault>) -> Result<J, Halt>
+/// What a call answered, at a place.
+pub fn halted(at: u64, answer: Result<J, Fault>) -> Result<J, Halt>
     ensures { result ≡ halted_at at answer }
 {
     match answer {
@@ -52,8 +52,8 @@ fn halted(at: u64, answer: Result<J, Fault>) -> Result<J, Halt>
     }
 }
 
-// The same of a call for a boundary.
-fn halted_boundary(at: u64, answer: Result<B, Fault>) -> Result<B, Halt>
+/// The same of a call for a boundary.
+pub fn halted_boundary(at: u64, answer: Result<B, Fault>) -> Result<B, Halt>
     ensures { result ≡ halted_at at answer }
 {
     match answer {
@@ -70,6 +70,7 @@ fn halted_boundary(at: u64, answer: Result<B, Fault>) -> Result<B, Halt>
 }
 
 /// A word at a judgement.
+#[tactic(auto, using(crate::proofs::Calls::goes_on, crate::proofs::Words::refl_tells, crate::proofs::Words::sym_tells, crate::proofs::Words::side_tells))]
 pub fn judgement_word(
     alloc: Global,
     k: &mut Kernel,
@@ -94,6 +95,7 @@ pub fn judgement_word(
 }
 
 /// The word for a part, at a boundary.
+#[tactic(auto, using(crate::proofs::Calls::goes_on, crate::proofs::Words::boundary_side_tells))]
 pub fn boundary_word(
     alloc: Global,
     k: &mut Kernel,
@@ -114,6 +116,7 @@ pub fn boundary_word(
 }
 
 /// `boundaryof` at a judgement.
+#[tactic(auto, using(crate::proofs::Calls::goes_on, crate::proofs::Words::boundaryof_tells))]
 pub fn boundaryof_word(
     alloc: Global,
     k: &mut Kernel,
@@ -148,6 +151,7 @@ fn equates_terms(k: &Kernel, j: J) -> bool
 }
 
 /// A word at two judgements. The second place is where `fill` would be refused, and shows here nowhere.
+#[tactic(auto, using(crate::proofs::Calls::goes_on, crate::proofs::Words::trans_tells, crate::proofs::Words::widen_tells, crate::proofs::Words::convert_tells, crate::proofs::Words::convert_equation_tells))]
 pub fn two_word(
     alloc: Global,
     k: &mut Kernel,

@@ -32,7 +32,7 @@ gained_entry : (s t : State) (a : Assertion) (n : Stated) (j : ℕ) → Gains s 
 gained_entry s t a n j g =
     ap (λ items. nth (entries_in items) j) g.0
     ∙ ap (λ es. nth es j) (entries_append s.items (entry (record { statement = a.statement; set = a.set; step = n }) ∷ []))
-    ∙ ap (nth (entries_in s.items ++ a ∷ [])) g.1.0
+    ∙ ap (nth (entries_in s.items ++ a ∷ [])) g.1
     ∙ nth_end (entries_in s.items) a
 
 stays_state : (s t : State) (u : Budget) → Stays s t → state_of t u ≡ state_of s u
@@ -47,7 +47,7 @@ goes_on s t n (Err Memory) h = ([], h.0 ∙ sym (append-nil s.items))
 
 -- what the reference answers where the step names this
 answer_is : (s : State) (n : Stated) (R : Resolved) (o : Result Assertion reference.Refusal) → resolve (store_of s.items) n ≡ Some R → IsAnswer s n o → answer (declared_by s.items) R ≡ o
-answer_is s n R o e h = ap (answer (declared_by s.items)) (sym (same_Some h.0 R (sym h.1.0 ∙ e))) ∙ h.1.1
+answer_is s n R o e h = ap (answer (declared_by s.items)) (sym (same_Some h.0 R (sym h.1 ∙ e))) ∙ h.2
 
 -- an answer as the meaning has it
 abbrev judged_by : ℕ → Result Assertion reference.Refusal → Run meaning.Value

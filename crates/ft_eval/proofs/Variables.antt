@@ -76,19 +76,19 @@ declare_tells : (s t : State) (u : Budget) (at v : ℕ) (n : Name) (p : ℕ) (a 
     → entry_at s p ≡ Some a → DeclaresVariable s v n p r t
     → TellsVariable (declare meaning.Refused at (λ W. new_variable W v n a) (state_of s u)) (halted_at at r) t u
 declare_tells s t u at v n p a (Ok w) g next here h =
-    let same : h.0 ≡ a = same_Some h.0 a (sym h.1.0 ∙ here) in
+    let same : h.0 ≡ a = same_Some h.0 a (sym h.1 ∙ here) in
     let W : Declarations = declared_by s.items in
-    let x : Annotation = h.1.1.0 in
-    let is : (new_variable W v n a).answer ≡ Ok (w, x) = ap (λ a. (new_variable W v n a).answer) (sym same) ∙ h.1.1.1.0 in
-    let then : (new_variable W v n a).after ≡ declared_by t.items = ap (λ a. (new_variable W v n a).after) (sym same) ∙ h.1.1.1.1.0 in
+    let x : Annotation = h.2.0 in
+    let is : (new_variable W v n a).answer ≡ Ok (w, x) = ap (λ a. (new_variable W v n a).answer) (sym same) ∙ h.2.1 in
+    let then : (new_variable W v n a).after ≡ declared_by t.items = ap (λ a. (new_variable W v n a).after) (sym same) ∙ h.2.2 in
     ap₂ (λ X o. declared_from at X o (state_of s u)) then is
     ∙ ap (λ y. (Ok y, state_of t u)) (sym (declared_there s t v w n a x g next is then))
 declare_tells s t u at v n p a (Err (Refused q)) g next here h = λ _.
-    let same : h.0 ≡ a = same_Some h.0 a (sym h.1.0 ∙ here) in
+    let same : h.0 ≡ a = same_Some h.0 a (sym h.1 ∙ here) in
     let W : Declarations = declared_by s.items in
-    let is : (new_variable W v n a).answer ≡ Err (refusal_in t.trees q) = ap (λ a. (new_variable W v n a).answer) (sym same) ∙ h.1.1.0 in
+    let is : (new_variable W v n a).answer ≡ Err (refusal_in t.trees q) = ap (λ a. (new_variable W v n a).answer) (sym same) ∙ h.2.0 in
     ap (λ o. declared_from at (new_variable W v n a).after o (state_of s u)) is
-    ∙ ap (λ items. (Err (halts (fails (meaning.Refused (refusal_in t.trees q)) at)), record (state_of s u) { declarations = declared_by items })) (sym h.1.1.1.0)
+    ∙ ap (λ items. (Err (halts (fails (meaning.Refused (refusal_in t.trees q)) at)), record (state_of s u) { declarations = declared_by items })) (sym h.2.1.0)
 declare_tells s t u at v n p a (Err Memory) g next here h = λ no. absurd (no refl)
 
 pub variable_tells : (s t : State) (u w : Budget) (at : ℕ) (n : Name) (p : ℕ) (r : Result ℕ Fault) → Good s.items → next_number (variables_in s.items) ≤ u.used → IsThesisOf s p
@@ -97,14 +97,14 @@ pub variable_tells : (s t : State) (u w : Budget) (at : ℕ) (n : Name) (p : ℕ
 variable_tells s t u w at n p r g next is spent h =
     subst (λ (o : meaning.Outcome (ℕ × Annotation)). TellsVariable o (halted_at at r) t w)
     (ap (λ (o : meaning.Outcome (Unit {0})). after o (λ _. declare meaning.Refused at (λ W. new_variable W u.used n (stated_at s p)))) (sym spent))
-    (subst (λ a. TellsVariable (declare meaning.Refused at (λ W. new_variable W u.used n a) (state_of s w)) (halted_at at r) t w) (sym (ap stated is.1.0))
-    (declare_tells s t w at u.used n p is.0 r g next is.1.0 h))
+    (subst (λ a. TellsVariable (declare meaning.Refused at (λ W. new_variable W u.used n a) (state_of s w)) (halted_at at r) t w) (sym (ap stated is.1))
+    (declare_tells s t w at u.used n p is.0 r g next is.1 h))
 
 -- the list after it
 pub declared_goes_on : (s t : State) (v : ℕ) (n : Name) (p : ℕ) (r : Result ℕ Fault) → DeclaresVariable s v n p r t → GoesOn s t
-declared_goes_on s t v n p (Ok w) h = (variable v n p ∷ [], h.1.1.1.1.1.0)
+declared_goes_on s t v n p (Ok w) h = (variable v n p ∷ [], h.2.3)
 declared_goes_on s t v n p (Err (Refused q)) h = ([], h.1.1.1.0 ∙ sym (append-nil s.items))
-declared_goes_on s t v n p (Err Memory) h = ([], h.1.1.0 ∙ sym (append-nil s.items))
+declared_goes_on s t v n p (Err Memory) h = ([], h.2.0 ∙ sym (append-nil s.items))
 
 -- ---- a variable that is bound
 
@@ -114,20 +114,20 @@ resolved_abs s v p d a look here = ap₂ (λ o q. with_two by_abs (option_map (�
 
 -- the variable of the list, with what is declared
 known_variable : (s : State) (v : ℕ) → Good s.items → IsVariableOf s v → (d : Annotation) × (look_up (declared_by s.items).variables v ≡ Some d)
-known_variable s v g h = let is = variable_is s v h.0.0 h.0.1 g h.1 in (declared_variable is.0 is.1.0, is.1.1.1.1)
+known_variable s v g h = let is = variable_is s v h.0.0 h.0.1 g h.1 in (declared_variable is.0 is.1, is.4)
 
 pub bound_tells : (s t : State) (u : Budget) (at v j : ℕ) (r : Result ℕ Fault) → Good s.items → IsVariableOf s v → IsThesisOf s j → Answers s (by_abs v j) r t
     → TellsJudgement (abstract_value at (variable_at s v) (judgement (stated_at s j)) (state_of s u)) (halted_at at r) t u
 bound_tells s t u at v j r g var is h =
     let k = known_variable s v g var in
     subst (λ d. TellsJudgement (abstract_value at (v, d) (judgement (stated_at s j)) (state_of s u)) (halted_at at r) t u) (sym (ap annotation_or k.1))
-    (subst (λ a. TellsJudgement (abstract_value at (v, k.0) (judgement a) (state_of s u)) (halted_at at r) t u) (sym (ap stated is.1.0))
-    (tells_judgement s t u at (by_abs v j) (by_abs (v, k.0) is.0) r (resolved_abs s v j k.0 is.0 k.1 is.1.0) h))
+    (subst (λ a. TellsJudgement (abstract_value at (v, k.0) (judgement a) (state_of s u)) (halted_at at r) t u) (sym (ap stated is.1))
+    (tells_judgement s t u at (by_abs v j) (by_abs (v, k.0) is.0) r (resolved_abs s v j k.0 is.0 k.1 is.1) h))
 
 pub bound_boundary_tells : (s t : State) (u : Budget) (at v b : ℕ) (r : Result ℕ Fault) → Good s.items → IsVariableOf s v → IsBoundaryOf s b → Answers s (by_abs v b) r t
     → TellsBoundary (abstract_value at (variable_at s v) (boundary (stated_at s b)) (state_of s u)) (halted_at at r) t u
 bound_boundary_tells s t u at v b r g var is h =
     let k = known_variable s v g var in
     subst (λ d. TellsBoundary (abstract_value at (v, d) (boundary (stated_at s b)) (state_of s u)) (halted_at at r) t u) (sym (ap annotation_or k.1))
-    (subst (λ a. TellsBoundary (abstract_value at (v, k.0) (boundary a) (state_of s u)) (halted_at at r) t u) (sym (ap stated is.1.0))
-    (tells_boundary s t u at (by_abs v b) (by_abs (v, k.0) is.0) r (resolved_abs s v b k.0 is.0 k.1 is.1.0) h))
+    (subst (λ a. TellsBoundary (abstract_value at (v, k.0) (boundary a) (state_of s u)) (halted_at at r) t u) (sym (ap stated is.1))
+    (tells_boundary s t u at (by_abs v b) (by_abs (v, k.0) is.0) r (resolved_abs s v b k.0 is.0 k.1 is.1) h))

@@ -22,10 +22,10 @@ use Rattle.ft_eval.specs.Telling.{state_of, halted_at, side_word, is_term_equati
 use Rattle.ft_eval.proofs.Calls.{judged_by, tells_one, tells_two, bounds_one}
 
 thesis_entry : (s : State) (j : ℕ) → IsThesisOf s j → IsEntryOf s j
-thesis_entry s j h = (h.0, h.1.0)
+thesis_entry s j h = (h.0, h.1)
 
 boundary_entry : (s : State) (b : ℕ) → IsBoundaryOf s b → IsEntryOf s b
-boundary_entry s b h = (h.0, h.1.0)
+boundary_entry s b h = (h.0, h.1)
 
 pub refl_tells : (s t : State) (u : Budget) (at j : ℕ) (r : Result ℕ Fault) → IsThesisOf s j → Answers s (by_refl j) r t
     → TellsJudgement (word_at at one.Refl (judgement (stated_at s j)) (state_of s u)) (halted_at at r) t u

@@ -1,5 +1,5 @@
 -- The judgements of a list, as the meaning has them.
-use Rattle.std.proofs.Common.{◌≡◌, ◌∙◌, ap, refl, ℕ, List, [], ◌∷◌, Some, None, Option}
+use Rattle.std.proofs.Common.{◌≡◌, ◌∙◌, ap, refl, ℕ, List, ◌∷◌, Some, None, Option}
 use Rattle.std.specs.Prelude.{option_map, map}
 use Rattle.ft_items.specs.Store.{Assertion}
 use Rattle.ft_kernel.specs.State.{State}

@@ -1,7 +1,7 @@
 -- Rows and their values.
 use Rattle.std.proofs.Common.{◌≡◌, ◌≤◌, ◌<◌, ◌+◌, ◌∙◌, ◌++◌, sym, ap, ap₂, refl, subst, zero, suc, ℕ, List, [], ◌∷◌, length, Some, inl, inr, arith, ◌⊎◌}
 use Rattle.std.specs.Prelude.{slice_index_or, slice_get}
-use Rattle.std.proofs.lemmas.Option.{slice_get_within, slice_get-get_or}
+use Rattle.std.proofs.lemmas.Option.{slice_get-get_or}
 use Rattle.std.proofs.lemmas.List.{length-append}
 use Rattle.std.proofs.Math.ListN.{get_or-append}
 use Rattle.std.proofs.Math.Seq.{get_or-append_seam}
@@ -15,42 +15,38 @@ use Rattle.ft_values.specs.Rows.{kept_in, Below, kept_at, kept_after, kept_of, F
 -- ---- known values over tables that go on
 
 pub below_more : (m n : ℕ) (v : Value) → m ≤ n → Below m v → Below n v
-below_more m n (value.Judgement j) l h = tt
-below_more m n (value.Boundary b) l h = tt
 below_more m n value.Unit l h = tt
 below_more m n (value.Truth b) l h = tt
 below_more m n value.Nil l h = tt
 below_more m n value.NoneValue l h = tt
-below_more m n (value.Compound k) l h = omega arith
+below_more m n (value.At k) l h = omega arith
 
 pub below_less : (m n : ℕ) (v : Value) → Below m v → m < n → Below n v
 below_less m n v h l = below_more m n v (omega arith) h
 
 -- a value that names one of the first rows has no higher rank
 rank_most : (n : ℕ) (v : Value) → Below n v → rank v ≤ n
-rank_most n (value.Judgement j) h = omega arith
-rank_most n (value.Boundary b) h = omega arith
 rank_most n value.Unit h = omega arith
 rank_most n (value.Truth b) h = omega arith
 rank_most n value.Nil h = omega arith
 rank_most n value.NoneValue h = omega arith
-rank_most n (value.Compound k) h = omega arith
+rank_most n (value.At k) h = omega arith
 
 pub rank_less : (n : ℕ) (v : Value) → Below n v → rank v < suc n
 rank_less n v h = let l : rank v ≤ n = rank_most n v h in omega arith
 
 pub kept_same : (ks ls : List Kept) (v : Value) → ((n : ℕ) → n < length ks → slice_index_or ls n unit ≡ slice_index_or ks n unit)
     → Below (length ks) v → kept_in ls v ≡ kept_in ks v
-kept_same ks ls (value.Judgement j) keep h = refl
-kept_same ks ls (value.Boundary b) keep h = refl
 kept_same ks ls value.Unit keep h = refl
 kept_same ks ls (value.Truth b) keep h = refl
 kept_same ks ls value.Nil keep h = refl
 kept_same ks ls value.NoneValue keep h = refl
-kept_same ks ls (value.Compound k) keep h = keep k h
+kept_same ks ls (value.At k) keep h = keep k h
 
 same_parts : (ks ls : List Kept) (r : Row) → FitsBelow (length ks) r
     → ((n : ℕ) → n < length ks → slice_index_or ls n unit ≡ slice_index_or ks n unit) → kept_at ls r ≡ kept_at ks r
+same_parts ks ls (row.Judgement j) fits keep = refl
+same_parts ks ls (row.Boundary b) fits keep = refl
 same_parts ks ls (row.Pair a b) fits keep = ap₂ pair (kept_same ks ls a keep fits.0) (kept_same ks ls b keep fits.1)
 same_parts ks ls (row.Cons a b) fits keep = ap₂ cons (kept_same ks ls a keep fits.0) (kept_same ks ls b keep fits.1)
 same_parts ks ls (row.SomeValue a) fits keep = ap some (kept_same ks ls a keep fits)
@@ -111,6 +107,8 @@ fit_push rows r fit fits k s h = elim (get_either rows r s k h) [
 ]
 
 fits_more : (m n : ℕ) (r : Row) → m ≤ n → FitsBelow m r → FitsBelow n r
+fits_more m n (row.Judgement j) l h = tt
+fits_more m n (row.Boundary b) l h = tt
 fits_more m n (row.Pair a b) l h = (below_more m n a l h.0, below_more m n b l h.1)
 fits_more m n (row.Cons a b) l h = (below_more m n a l h.0, below_more m n b l h.1)
 fits_more m n (row.SomeValue a) l h = below_more m n a l h
@@ -125,14 +123,14 @@ kept_len rows = omega (arith, kept_length [] rows)
 
 -- the value that a row has
 value_of_row : (rows : List Row) (k : ℕ) (r : Row) → AllFit rows → slice_get rows k ≡ Some r
-    → kept_in (kept_of rows) (value.Compound k) ≡ kept_at (kept_of rows) r
+    → kept_in (kept_of rows) (value.At k) ≡ kept_at (kept_of rows) r
 value_of_row rows k r fit h =
     let zero-plus : 0 + k ≡ k = omega arith in
     subst (λ n. slice_index_or (kept_of rows) n unit ≡ kept_at (kept_of rows) r) zero-plus
     (row_value [] rows k r h (subst (λ n. FitsBelow n r) (sym zero-plus) (fit k r h)))
 
 pub row_made : (rows : List Row) (r : Row)
-    → (length rows < length (kept_of (rows ++ r ∷ []))) × (kept_in (kept_of (rows ++ r ∷ [])) (value.Compound (length rows)) ≡ kept_at (kept_of rows) r)
+    → (length rows < length (kept_of (rows ++ r ∷ []))) × (kept_in (kept_of (rows ++ r ∷ [])) (value.At (length rows)) ≡ kept_at (kept_of rows) r)
 row_made rows r =
     let more = kept_more [] rows r in
     let last = get_or-append_seam (kept_of rows) (kept_at (kept_of rows) r) [] unit in (
@@ -143,7 +141,7 @@ row_made rows r =
 -- what the rows have at a place
 pub row_at : (rows : List Row) (k : ℕ) (d : Row) → AllFit rows → k < length rows
     → (FitsBelow k (slice_index_or rows k d))
-    × (kept_at (kept_of rows) (slice_index_or rows k d) ≡ kept_in (kept_of rows) (value.Compound k))
+    × (kept_at (kept_of rows) (slice_index_or rows k d) ≡ kept_in (kept_of rows) (value.At k))
 row_at rows k d fit lt =
     let r = slice_index_or rows k d in
     let here = slice_get-get_or rows k d lt in

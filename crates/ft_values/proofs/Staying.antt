@@ -1,10 +1,10 @@
 -- Values while the list of items and the table grow.
-use Rattle.std.proofs.Common.{◌≡◌, ◌∙◌, ◌++◌, sym, ap, ap₂, refl, ℕ, List, [], ◌∷◌, length, Some, Option, subst}
+use Rattle.std.proofs.Common.{◌≡◌, ◌∙◌, ◌++◌, sym, ap, ap₂, refl, ℕ, List, length, Some}
 use Rattle.std.proofs.Math.ListN.{get_or-append}
 use Rattle.ft_items.specs.Item.{Item}
 use Rattle.ft_items.specs.Store.{Assertion, nth, entries_in}
 use Rattle.ft_items.proofs.Lists.{nth_before, entries_append}
-use Rattle.ft_kernel.specs.State.{State, entry_at, IsThesisOf, IsBoundaryOf}
+use Rattle.ft_kernel.specs.State.{State, entry_at}
 use Rattle.ft_meaning.specs.Values as meaning
 use Rattle.ft_values.specs.Kept.{Kept, judgement, boundary, unit, truth, pair, nil, cons, none, some, stated, stated_at, value_of, IsOver, GoesOn}
 use Rattle.ft_values.specs.declared.values.Value.{Value}
@@ -20,8 +20,8 @@ stated_stays : (s t : State) (n : ℕ) (a : Assertion) → GoesOn s t → entry_
 stated_stays s t n a g h = ap stated (entry_goes_on s t n a g h ∙ sym h)
 
 pub value_stays : (s t : State) (k : Kept) → GoesOn s t → IsOver s k → value_of t k ≡ value_of s k
-value_stays s t (judgement j) g h = ap meaning.judgement (stated_stays s t j h.0 g h.1.0)
-value_stays s t (boundary b) g h = ap meaning.boundary (stated_stays s t b h.0 g h.1.0)
+value_stays s t (judgement j) g h = ap meaning.judgement (stated_stays s t j h.0 g h.1)
+value_stays s t (boundary b) g h = ap meaning.boundary (stated_stays s t b h.0 g h.1)
 value_stays s t unit g h = refl
 value_stays s t (truth b) g h = refl
 value_stays s t (pair v w) g h = ap₂ meaning.pair (value_stays s t v g h.0) (value_stays s t w g h.1)
@@ -31,8 +31,8 @@ value_stays s t none g h = refl
 value_stays s t (some v) g h = ap meaning.some (value_stays s t v g h)
 
 pub over_stays : (s t : State) (k : Kept) → GoesOn s t → IsOver s k → IsOver t k
-over_stays s t (judgement j) g h = (h.0, entry_goes_on s t j h.0 g h.1.0, h.1.1)
-over_stays s t (boundary b) g h = (h.0, entry_goes_on s t b h.0 g h.1.0, h.1.1)
+over_stays s t (judgement j) g h = (h.0, entry_goes_on s t j h.0 g h.1, h.2)
+over_stays s t (boundary b) g h = (h.0, entry_goes_on s t b h.0 g h.1, h.2)
 over_stays s t unit g h = tt
 over_stays s t (truth b) g h = tt
 over_stays s t (pair v w) g h = (over_stays s t v g h.0, over_stays s t w g h.1)

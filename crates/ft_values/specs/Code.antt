@@ -3,7 +3,8 @@ use Rattle.std.specs.Prelude.{◌≡◌, zero, suc, true, false, List, refl}
 use mathlib.Core.Path.{ap, ap₂}
 use Rattle.std.specs.Coded.{code_by}
 use base.Stored.{Coded, coded_list, Gv, gnil, gnum, gcons}
-use Rattle.ft_values.specs.Kept.{Kept, judgement, boundary, unit, truth, pair, nil, cons, none, some}
+use Rattle.ft_values.specs.Kept.{Kept, judgement, boundary, unit, truth}
+use Rattle.ft_values.specs.Kept.{pair, nil, cons, none, some}
 
 abbrev pub code : Kept → Gv
 code (judgement j) = gcons (gnum 0) (gnum j)

@@ -1,13 +1,14 @@
 -- Values as a table keeps them, and the values that they are over a list of items.
-use Rattle.std.specs.Prelude.{ℕ, ◌≡◌, Bool, true, false, Option, Some, None, option_map, List, [], ◌∷◌, ◌++◌}
+use Rattle.std.specs.Prelude.{ℕ, ◌≡◌, Bool, true, false, Option, Some, None, option_map}
+use Rattle.std.specs.Prelude.{List, [], ◌∷◌, ◌++◌}
 use Rattle.ft_theory.specs.Statements.{type_goal, plain}
 use Rattle.ft_items.specs.Item.{Item}
 use Rattle.ft_items.specs.Store.{Assertion}
 use Rattle.ft_kernel.specs.State.{State, entry_at, IsThesisOf, IsBoundaryOf}
 use Rattle.ft_meaning.specs.Values as meaning
 
--- A value with the numbers of entries in place of what they state: a judgement or a boundary by the number of its entry, the unit,
--- a truth value, a pair, a list, an option.
+-- A value with the numbers of entries in place of what they state: a judgement or a boundary by the
+-- number of its entry, the unit, a truth value, a pair, a list, an option.
 pub data Kept : Type 0 where
   judgement : ℕ → Kept
   boundary : ℕ → Kept
@@ -56,7 +57,8 @@ IsOver s (some v) = IsOver s v
 abbrev pub GoesOn : State → State → Type 0
 GoesOn s t = (more : List Item) × (t.items ≡ s.items ++ more)
 
--- What a value is, where it is of the kind: the number of the judgement, or of the boundary; the truth value.
+-- What a value is, where it is of the kind: the number of the judgement, or of the boundary; the
+-- truth value.
 abbrev pub judgement_of : Kept → Option ℕ
 judgement_of (judgement j) = Some j
 judgement_of v = None
@@ -82,7 +84,8 @@ abbrev pub is_none_value : Kept → Bool
 is_none_value none = true
 is_none_value v = false
 
--- The parts of a value, where it is of the kind: of a pair; the first member of a list and the rest; what an option holds.
+-- The parts of a value, where it is of the kind: of a pair; the first member of a list and the rest;
+-- what an option holds.
 abbrev pub pair_parts : Kept → Option (Kept × Kept)
 pair_parts (pair v w) = Some (v, w)
 pair_parts v = None
@@ -112,3 +115,12 @@ abbrev pub judgements_in : Kept → Option (List ℕ)
 judgements_in nil = Some []
 judgements_in (cons v w) = before_members (judgement_of v) (judgements_in w)
 judgements_in v = None
+
+-- members that were found before those that there are
+abbrev pub found_before : List ℕ → Option (List ℕ) → Option (List ℕ)
+found_before js o = option_map (λ ks. js ++ ks) o
+
+-- the members found, where they are those of a list
+abbrev pub if_list : Bool → List ℕ → Option (List ℕ)
+if_list true js = Some js
+if_list false js = None

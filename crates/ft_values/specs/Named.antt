@@ -1,5 +1,5 @@
 -- What is seen of the named values at hand.
-use Rattle.std.specs.Prelude.{ℕ, List, [], ◌∷◌, ◌++◌, map}
+use Rattle.std.specs.Prelude.{ℕ, List, [], ◌∷◌, ◌++◌}
 use Rattle.ft_items.specs.Item.{Name}
 use Rattle.ft_kernel.specs.State.{State}
 use Rattle.ft_meaning.specs.Values as meaning

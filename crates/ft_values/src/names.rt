@@ -2,6 +2,7 @@
 
 ghost use Rattle.std.specs.Prelude.{◌≡◌, ◌∷◌, [], OnOk, OnErr};
 ghost use Rattle.ft_meaning.specs.Names.{named};
+ghost use Rattle.ft_values.specs.Names.{listed};
 
 use crate::values::Value;
 use ft_base::{Memory, Name};
@@ -72,7 +73,7 @@ impl Names {
     }
 }
 
-// The value of the last entry of the name. It takes no memory.
+/// The value of the last entry of the name. It takes no memory.
 #[tactic(auto, using(crate::proofs::Listed::last_found, crate::proofs::Listed::last_other))]
 pub fn last_named(entries: &[Entry], name: &Name) -> Option<Value>
     ensures { result ≡ named (listed entries.now) name.now }

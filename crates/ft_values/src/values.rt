@@ -2,10 +2,12 @@
 
 ghost use Rattle.std.specs.Prelude.{◌≡◌, ◌<◌, [], ◌∷◌, ◌++◌, length, option_map};
 ghost use Rattle.std.specs.Prelude.{IfOk, IfSome, OnOk, OnErr};
-ghost use Rattle.ft_values.specs.Kept.{pair, cons, some, judgements_in, first_judgement};
-ghost use Rattle.ft_values.specs.Kept.{judgement_of, boundary_of, truth_of, is_unit, is_nil, is_none_value};
+ghost use Rattle.ft_values.specs.Kept.{judgement, boundary, pair, cons, some, judgements_in};
+ghost use Rattle.ft_values.specs.Kept.{first_judgement, if_list, found_before};
+ghost use Rattle.ft_values.specs.Kept.{judgement_of, boundary_of, truth_of};
+ghost use Rattle.ft_values.specs.Kept.{is_unit, is_nil, is_none_value};
 ghost use Rattle.ft_values.specs.Kept.{pair_parts, list_parts, option_part};
-ghost use Rattle.ft_values.specs.declared.values.Value.TheVariants.{Compound};
+ghost use Rattle.ft_values.specs.declared.values.Value.TheVariants.{At};
 ghost use Rattle.ft_values.specs.Rows.{kept_in, kept_at, Below, FitsBelow, rank};
 
 use ft_base::Memory;
@@ -13,27 +15,27 @@ use ft_kernel::{B, J};
 use std::alloc::Global;
 use std::marker::Model;
 
-/// A value: one without parts, or the row of one with parts.
+/// A value: one that needs no row, or the row of another.
 #[derive(Clone, Copy, Debug, PartialEq, Eq, Drop)]
 pub enum Value {
-    Judgement(J),
-    Boundary(B),
     Unit,
     Truth(bool),
     Nil,
     NoneValue,
-    Compound(u64),
+    At(u64),
 }
 
-/// A value with parts.
-#[derive(Clone, Copy, Debug, PartialEq, Eq, Drop)]
+/// A judgement, a boundary, or a value with parts.
+#[derive(Clone, Copy, Debug, PartialEq, Eq)]
 pub enum Row {
+    Judgement(J),
+    Boundary(B),
     Pair(Value, Value),
     Cons(Value, Value),
     SomeValue(Value),
 }
 
-/// The values with parts, in rows that only grow. The parts of a row stand before it, so that a
+/// Values in rows that only grow. The parts of a row stand before it, so that a
 /// value is shared wherever it stands, and none is copied.
 #[derive(Drop)]
 pub struct Values {
@@ -57,7 +59,7 @@ impl Model for Values {
 }
 
 impl Values {
-    /// No values with parts. It takes no memory.
+    /// No values. It takes no memory.
     pub fn new(alloc: Global) -> Values
         ensures { result ≡ [] }
     {
@@ -76,7 +78,27 @@ impl Values {
     {
         let place = self.rows.len() as u64;
         self.rows.push(row)?;
-        Ok(Value::Compound(place))
+        Ok(Value::At(place))
+    }
+
+    /// A judgement. After `Memory` all is as before.
+    pub fn of_judgement(&mut self, j: J) -> Result<Value, Memory>
+        ensures below { IfOk result (λ v. Below (length self.new) v) }
+        ensures means { IfOk result (λ v. kept_in self.new v ≡ judgement j) }
+        ensures list { OnOk result (self.new ≡ self.old ++ judgement j ∷ []) }
+        ensures err { OnErr result (self.new ≡ self.old) }
+    {
+        self.of_row(Row::Judgement(j))
+    }
+
+    /// A boundary. After `Memory` all is as before.
+    pub fn of_boundary(&mut self, b: B) -> Result<Value, Memory>
+        ensures below { IfOk result (λ v. Below (length self.new) v) }
+        ensures means { IfOk result (λ v. kept_in self.new v ≡ boundary b) }
+        ensures list { OnOk result (self.new ≡ self.old ++ boundary b ∷ []) }
+        ensures err { OnErr result (self.new ≡ self.old) }
+    {
+        self.of_row(Row::Boundary(b))
     }
 
     /// A pair. After `Memory` all is as before.
@@ -121,39 +143,35 @@ impl Values {
     pub fn row(&self, place: u64) -> Row
         requires { place < length self.now }
         ensures parts { FitsBelow place result }
-        ensures means { kept_at self.now result ≡ kept_in self.now (Compound place) }
+        ensures means { kept_at self.now result ≡ kept_in self.now (At place) }
     {
         self.rows[place as usize]
     }
 
     /// The judgement that the value is, where it is one. It takes no memory.
-    #[tactic(auto, using(crate::proofs::Readers::row_no_judgement))]
     pub fn judgement(&self, v: Value) -> Option<J>
         requires { Below (length self.now) v }
         ensures { result ≡ judgement_of (kept_in self.now v) }
     {
         match v {
-            Value::Judgement(j) => Some(j),
-            Value::Compound(place) => {
-                let _row = self.row(place);
-                None
-            }
+            Value::At(place) => match self.row(place) {
+                Row::Judgement(j) => Some(j),
+                Row::Boundary(_) | Row::Pair(..) | Row::Cons(..) | Row::SomeValue(_) => None,
+            },
             _ => None,
         }
     }
 
     /// The boundary that the value is, where it is one. It takes no memory.
-    #[tactic(auto, using(crate::proofs::Readers::row_no_boundary))]
     pub fn boundary(&self, v: Value) -> Option<B>
         requires { Below (length self.now) v }
         ensures { result ≡ boundary_of (kept_in self.now v) }
     {
         match v {
-            Value::Boundary(b) => Some(b),
-            Value::Compound(place) => {
-                let _row = self.row(place);
-                None
-            }
+            Value::At(place) => match self.row(place) {
+                Row::Boundary(b) => Some(b),
+                Row::Judgement(_) | Row::Pair(..) | Row::Cons(..) | Row::SomeValue(_) => None,
+            },
             _ => None,
         }
     }
@@ -166,7 +184,7 @@ impl Values {
     {
         match v {
             Value::Truth(b) => Some(b),
-            Value::Compound(place) => {
+            Value::At(place) => {
                 let _row = self.row(place);
                 None
             }
@@ -182,7 +200,7 @@ impl Values {
     {
         match v {
             Value::Unit => true,
-            Value::Compound(place) => {
+            Value::At(place) => {
                 let _row = self.row(place);
                 false
             }
@@ -198,7 +216,7 @@ impl Values {
     {
         match v {
             Value::Nil => true,
-            Value::Compound(place) => {
+            Value::At(place) => {
                 let _row = self.row(place);
                 false
             }
@@ -214,7 +232,7 @@ impl Values {
     {
         match v {
             Value::NoneValue => true,
-            Value::Compound(place) => {
+            Value::At(place) => {
                 let _row = self.row(place);
                 false
             }
@@ -232,15 +250,15 @@ impl Values {
             ≡ pair_parts (kept_in self.now v) }
     {
         match v {
-            Value::Compound(place) => match self.row(place) {
+            Value::At(place) => match self.row(place) {
                 Row::Pair(a, b) => Some((a, b)),
-                Row::Cons(..) | Row::SomeValue(_) => None,
+                Row::Judgement(_) | Row::Boundary(_) | Row::Cons(..) | Row::SomeValue(_) => None,
             },
             _ => None,
         }
     }
 
-    /// The first member of a list and the rest, where it is a list with members. It takes no memory.
+    /// The first member of a list and the rest, where it has members. It takes no memory.
     #[tactic(auto, using(crate::proofs::Rows::below_less, crate::proofs::Rows::fits_less, crate::proofs::Rows::rank_less))]
     pub fn list_parts(&self, v: Value) -> Option<(Value, Value)>
         requires { Below (length self.now) v }
@@ -251,9 +269,9 @@ impl Values {
             ≡ list_parts (kept_in self.now v) }
     {
         match v {
-            Value::Compound(place) => match self.row(place) {
+            Value::At(place) => match self.row(place) {
                 Row::Cons(a, b) => Some((a, b)),
-                Row::Pair(..) | Row::SomeValue(_) => None,
+                Row::Judgement(_) | Row::Boundary(_) | Row::Pair(..) | Row::SomeValue(_) => None,
             },
             _ => None,
         }
@@ -267,9 +285,9 @@ impl Values {
         ensures means { option_map (kept_in self.now) result ≡ option_part (kept_in self.now v) }
     {
         match v {
-            Value::Compound(place) => match self.row(place) {
+            Value::At(place) => match self.row(place) {
                 Row::SomeValue(a) => Some(a),
-                Row::Pair(..) | Row::Cons(..) => None,
+                Row::Judgement(_) | Row::Boundary(_) | Row::Pair(..) | Row::Cons(..) => None,
             },
             _ => None,
         }
@@ -293,23 +311,37 @@ impl Values {
         }
     }
 
-    /// The members of a list in order, where it is a list of judgements.
-    #[tactic(auto, using(crate::proofs::Members::members_more, crate::proofs::Members::members_end, crate::proofs::Members::members_none))]
-    pub fn judgements(&self, alloc: Global, v: Value) -> Result<Option<Vec<J>>, Memory>
+    // The same, and whether it is the list without members.
+    fn first_or_end(&self, v: Value) -> (Option<(J, Value)>, bool)
+        requires { Below (length self.now) v }
+        ensures below { IfSome result.0 (λ p. Below (length self.now) p.1) }
+        ensures falls { IfSome result.0 (λ p. rank p.1 < rank v) }
+        ensures means { option_map (λ p. (p.0, kept_in self.now p.1)) result.0
+            ≡ first_judgement (kept_in self.now v) }
+        ensures ends { result.1 ≡ is_nil (kept_in self.now v) }
+    {
+        (self.first(v), self.is_nil(v))
+    }
+
+    /// Puts the members of a list of judgements after those found so far, and answers whether it is
+    /// such a list.
+    #[tactic(auto, using(crate::proofs::Members::members_more, crate::proofs::Members::members_end))]
+    pub fn judgements(&self, v: Value, found: &mut Vec<J>) -> Result<bool, Memory>
         requires { Below (length self.now) v }
         ensures { IfOk result
-            (λ o. option_map (λ js. js.items) o ≡ judgements_in (kept_in self.now v)) }
+            (λ b. if_list b found.new.items
+            ≡ found_before found.old.items (judgements_in (kept_in self.now v))) }
     {
-        let mut found = Vec::new(alloc);
         let mut rest = v;
-        'reading: while let Some((j, others)) = self.first(rest) {
-            found.push(j)?;
-            rest = others;
-        }
-        if self.is_nil(rest) {
-            Ok(Some(found))
-        } else {
-            Ok(None)
+        'reading: loop {
+            let (first, ends) = self.first_or_end(rest);
+            match first {
+                Some((j, others)) => {
+                    found.push(j)?;
+                    rest = others;
+                }
+                None => return Ok(ends),
+            }
         }
     }
 }

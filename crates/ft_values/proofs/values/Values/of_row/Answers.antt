@@ -1,10 +1,10 @@
-use Rattle.std.proofs.Common.{rules, ◌≡◌, ◌∙◌, sym, ap, subst, length, [], ◌∷◌}
+use Rattle.std.proofs.Common.{rules, ◌≡◌, ◌∙◌, sym, ap, subst, length, []}
 use Rattle.ft_values.specs.Rows.{FitsBelow}
 use Rattle.ft_values.proofs.Rows.{row_made, fit_push, kept_len, kept_more}
 use Rattle.ft_values.proofs.values.Values.of_row.Goals as goal
 
-pub invariant_of-self : goal.invariant_of-self
-invariant_of-self c =
+pub invariant_of-self-2 : goal.invariant_of-self-2
+invariant_of-self-2 c =
     let t = c.self.inside in
     let fits : FitsBelow (length t.rows.items) c.args.row =
     subst (λ n. FitsBelow n c.args.row) (ap length (sym c.self.view_is) ∙ kept_len t.rows.items) c.requires in

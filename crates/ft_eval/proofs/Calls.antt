@@ -8,7 +8,7 @@ use Rattle.ft_items.proofs.Lists.{nth_end, entries_append, declared_last}
 use Rattle.ft_reference.specs.Refusals as reference
 use Rattle.ft_reference.specs.Calls.{answer}
 use Rattle.ft_base.specs.Budget.{Budget}
-use Rattle.ft_meaning.specs.Values.{Outcome, Run, answered, after, pure, judgement, boundary, halts} 
+use Rattle.ft_meaning.specs.Values.{Outcome, Run, answered, after, pure, nucleus, judgement, boundary, halts}
 use Rattle.ft_meaning.specs.Values as meaning
 use Rattle.ft_meaning.specs.Forms.{judged, bounded}
 use Rattle.ft_judge.specs.declared.fault.Fault.{Fault}
@@ -17,7 +17,7 @@ use Rattle.ft_kernel.specs.State.{State, entry_at, IsEntryOf}
 use Rattle.ft_calls.specs.Answers.{refusal_in, IsAnswer, Gains, Stays, Answers}
 use Rattle.ft_calls.proofs.Answering.{resolves_one, resolves_two}
 use Rattle.ft_values.specs.Kept.{stated, stated_at, GoesOn}
-use Rattle.ft_eval.specs.Telling.{state_of, TellsJudgement, TellsBoundary, halted_at}
+use Rattle.ft_eval.specs.Telling.{state_of, TellsJudgement, TellsBoundary, TellsStatement, halted_at}
 
 -- ---- the list after a call
 
@@ -75,6 +75,16 @@ tells_boundary s t u at n R (Err (Refused q)) e h = λ _.
     ap (λ r. bounded_by at r (state_of s u)) (answer_is s n R (Err (refusal_in t.trees q)) e h.0)
     ∙ ap (λ (x : meaning.State). (Err (halts (meaning.fails (meaning.Refused (refusal_in t.trees q)) at)), x)) (sym (stays_state s t u h.2))
 tells_boundary s t u at n R (Err Memory) e h = λ no. absurd (no refl)
+
+pub tells_statement : (s t : State) (u : Budget) (at : ℕ) (n : Stated) (R : Resolved) (r : Result ℕ Fault) → resolve (store_of s.items) n ≡ Some R → Answers s n r t
+    → TellsStatement (nucleus at (λ W. answer W R) (state_of s u)) (halted_at at r) t u
+tells_statement s t u at n R (Ok j) e h =
+    ap (λ r. answered at r (state_of s u)) (answer_is s n R (Ok h.0) e h.1)
+    ∙ ap₂ (λ (a : Assertion) (x : meaning.State). (Ok a, x)) (ap stated (sym (gained_entry s t h.0 n j h.2))) (sym (gained_state s t h.0 n j u h.2))
+tells_statement s t u at n R (Err (Refused q)) e h = λ _.
+    ap (λ r. answered at r (state_of s u)) (answer_is s n R (Err (refusal_in t.trees q)) e h.0)
+    ∙ ap (λ (x : meaning.State). (Err (halts (meaning.fails (meaning.Refused (refusal_in t.trees q)) at)), x)) (sym (stays_state s t u h.2))
+tells_statement s t u at n R (Err Memory) e h = λ no. absurd (no refl)
 
 -- ---- calls of one and of two entries
 

@@ -2,3 +2,4 @@ pub mod Calls
 pub mod Words
 pub mod Spending
 pub mod Variables
+pub mod Fitting

@@ -1,6 +1,7 @@
 -- Units that are spent, and variables that are declared.
-use Rattle.std.proofs.Common.{◌≡◌, ◌≢◌, ◌∙◌, ◌-◌, ◌+◌, ◌<◌, ◌≤◌, ap, refl, sym, subst, ℕ, zero, suc, arith, Some, Bool, true, false}
-use Rattle.std.specs.Prelude.{Result, Ok, Err, IsTrue, ◌↔◌}
+use Rattle.std.proofs.Common.{◌≡◌, ◌≢◌, ◌∙◌, ◌-◌, ◌+◌, ◌<◌, ◌≤◌, ap, ap₂, refl, sym, subst, ℕ, zero, suc, arith, Some, Bool, true, false}
+use Rattle.std.specs.Prelude.{Result, Ok, Err, IsTrue, ◌↔◌, if◌then◌else◌}
+use Rattle.ft_common.proofs.Booleans.{true_false}
 use Rattle.ft_equality.specs.Programs.{Units, spend_from}
 use Rattle.ft_equality.specs.Shapes.{no_rules}
 use Rattle.ft_items.specs.Store.{Declarations, declared_by}
@@ -17,22 +18,42 @@ spent_from : (s : State) (at used left m : ℕ) → left ≡ suc m → spend at 
 spent_from s at used left m h = ap (λ l. spend at (counted s used l)) h
 
 -- a unit is left
-pub unit_spent : (s : State) (at : ℕ) (u v : Budget) → u.used < u.total → v.used ≡ u.used + 1 → v.total ≡ u.total
+spent_one : (s : State) (at : ℕ) (u v : Budget) → u.used < u.total → v.used ≡ u.used + 1 → v.total ≡ u.total
     → spend at (state_of s u) ≡ (Ok tt, state_of s v)
-unit_spent s at u v some used total =
+spent_one s at u v some used total =
     let left : u.total - u.used ≡ suc (v.total - v.used) = omega arith in
     let more : suc u.used ≡ v.used = omega arith in
     spent_from s at u.used (u.total - u.used) (v.total - v.used) left
     ∙ ap (λ n. (Ok tt, counted s n (v.total - v.used))) more
 
 -- none is left
-pub unit_missing : (s : State) (at : ℕ) (u v : Budget) → (u.used < u.total → ⊥) → v.used ≡ u.used → v.total ≡ u.total
+no_unit : State → ℕ → ℕ → ℕ → Outcome (Unit {0})
+no_unit s at used left = (Err (halts (spent at)), counted s used left)
+
+none_from : (s : State) (at used left : ℕ) → left ≡ 0 → spend at (counted s used left) ≡ no_unit s at used 0
+unfolding no_unit
+none_from s at used left h = ap (λ l. spend at (counted s used l)) h
+
+spent_none : (s : State) (at : ℕ) (u v : Budget) → u.total ≤ u.used → v.used ≡ u.used → v.total ≡ u.total
     → spend at (state_of s u) ≡ (Err (halts (spent at)), state_of s v)
-unit_missing s at u v none used total =
-    let left : u.total - u.used ≡ 0 = omega arith in
-    ap (λ l. spend at (counted s u.used l)) left ∙ none_left
+unfolding no_unit
+spent_none s at u v none used total =
+    let gone : u.total - u.used ≡ 0 = omega arith in
+    let left : 0 ≡ v.total - v.used = omega arith in
+    none_from s at u.used (u.total - u.used) gone
+    ∙ ap₂ (λ n l. no_unit s at n l) (sym used) left
+
+-- by the answer of the budget
+pub unit_spent : (s : State) (at : ℕ) (u v : Budget) (b : Bool) → (IsTrue b ↔ (u.used < u.total)) → v.used ≡ (if b then u.used + 1 else u.used) → v.total ≡ u.total → b ≡ true
+    → spend at (state_of s u) ≡ (Ok tt, state_of s v)
+unit_spent s at u v b is used total yes =
+    spent_one s at u v (is.0 yes) (used ∙ ap (λ b. if b then u.used + 1 else u.used) yes) total
+
+pub unit_missing : (s : State) (at : ℕ) (u v : Budget) (b : Bool) → (IsTrue b ↔ (u.used < u.total)) → v.used ≡ (if b then u.used + 1 else u.used) → v.total ≡ u.total → b ≡ false
+    → spend at (state_of s u) ≡ (Err (halts (spent at)), state_of s v)
+unit_missing s at u v b is used total no =
+    let none : u.total ≤ u.used = not_less u.used u.total (λ l. true_false (sym (is.1 l) ∙ no)) in
+    spent_none s at u v none (used ∙ ap (λ b. if b then u.used + 1 else u.used) no) total
   where
-    none_left : (Err (halts (spent at)), counted s u.used 0) ≡ (Err (halts (spent at)), state_of s v)
-    none_left =
-        let left : 0 ≡ v.total - v.used = omega arith in
-        ap (λ l. (Err (halts (spent at)), counted s u.used l)) left ∙ ap (λ n. (Err (halts (spent at)), counted s n (v.total - v.used))) (sym used)
+    not_less : (m n : ℕ) → (m < n → ⊥) → n ≤ m
+    not_less m n h = omega arith

@@ -3,6 +3,8 @@ use Rattle.std.proofs.Common.{◌≡◌, ◌≢◌, ◌∙◌, ◌+◌, ◌≤�
 use Rattle.std.specs.Prelude.{Result, Ok, Err, option_map}
 use Rattle.std.proofs.lemmas.Option.{same_Some}
 use Rattle.ft_common.proofs.Choices.{if_same, if_other}
+use Rattle.ft_common.proofs.Options.{some_none}
+use Rattle.ft_common.proofs.Results.{ok_ok, err_ok}
 use Rattle.ft_theory.specs.Rules.{look_up}
 use Rattle.ft_items.specs.Item.{Name, Item, Stated, variable, by_abs}
 use Rattle.ft_items.specs.Store.{Assertion, Annotation, Declarations, Store, Resolved, store_of, declared_by, declared_variable, add_variable, variable_named, entry_named, resolve, with_two, variables_in}
@@ -41,7 +43,7 @@ last_there (p ∷ G) v d h = go (nat_eq v p.0) h (λ g. last_there G v d g)
   where
     go : (b : Bool) → cond b (Some p.1) (look_up G v) ≡ None → (look_up G v ≡ None → look_up (G ++ (v, d) ∷ []) v ≡ Some d)
         → cond b (Some p.1) (look_up (G ++ (v, d) ∷ []) v) ≡ Some d
-    go true h ih = cc
+    go true h ih = some_none h
     go false h ih = ih h
 
 -- ---- a variable that is declared
@@ -53,8 +55,10 @@ declaring W v n a b = outcome (refused_unless b WrongForm) W (add_variable W v n
 -- what is answered is the variable with what is declared of it
 answered_is : (W : Declarations) (v w : ℕ) (n : Name) (a : Assertion) (x : Annotation) (b : Bool) → (declaring W v n a b).answer ≡ Ok (w, x)
     → (w ≡ v) × (x ≡ declared_variable n a) × ((declaring W v n a b).after ≡ add_variable W v n (Some a))
-answered_is W v w n a x true h = let same : Ok (v, declared_variable n a) ≡ Ok (w, x) = h in (cc, cc, refl)
-answered_is W v w n a x false h = let clash : Err WrongForm ≡ Ok (w, x) = h in cc
+answered_is W v w n a x true h =
+    let same : (v, declared_variable n a) ≡ (w, x) = ok_ok (v, declared_variable n a) (w, x) h in
+    (sym (ap (λ (p : ℕ × Annotation). p.0) same), sym (ap (λ (p : ℕ × Annotation). p.1) same), refl)
+answered_is W v w n a x false h = absurd (err_ok WrongForm (w, x) h)
 
 declared_there : (s t : State) (v w : ℕ) (n : Name) (a : Assertion) (x : Annotation) → Good s.items → next_number (variables_in s.items) ≤ v
     → (new_variable (declared_by s.items) v n a).answer ≡ Ok (w, x) → (new_variable (declared_by s.items) v n a).after ≡ declared_by t.items
@@ -80,9 +84,9 @@ declare_tells s t u at v n p a (Ok w) g next here h =
     let W : Declarations = declared_by s.items in
     let x : Annotation = h.2.0 in
     let is : (new_variable W v n a).answer ≡ Ok (w, x) = ap (λ a. (new_variable W v n a).answer) (sym same) ∙ h.2.1 in
-    let then : (new_variable W v n a).after ≡ declared_by t.items = ap (λ a. (new_variable W v n a).after) (sym same) ∙ h.2.2 in
-    ap₂ (λ X o. declared_from at X o (state_of s u)) then is
-    ∙ ap (λ y. (Ok y, state_of t u)) (sym (declared_there s t v w n a x g next is then))
+    let left : (new_variable W v n a).after ≡ declared_by t.items = ap (λ a. (new_variable W v n a).after) (sym same) ∙ h.2.2 in
+    ap₂ (λ X o. declared_from at X o (state_of s u)) left is
+    ∙ ap (λ y. (Ok y, state_of t u)) (sym (declared_there s t v w n a x g next is left))
 declare_tells s t u at v n p a (Err (Refused q)) g next here h = λ _.
     let same : h.0 ≡ a = same_Some h.0 a (sym h.1 ∙ here) in
     let W : Declarations = declared_by s.items in
@@ -103,7 +107,7 @@ variable_tells s t u w at n p r g next is spent h =
 -- the list after it
 pub declared_goes_on : (s t : State) (v : ℕ) (n : Name) (p : ℕ) (r : Result ℕ Fault) → DeclaresVariable s v n p r t → GoesOn s t
 declared_goes_on s t v n p (Ok w) h = (variable v n p ∷ [], h.2.3)
-declared_goes_on s t v n p (Err (Refused q)) h = ([], h.1.1.1.0 ∙ sym (append-nil s.items))
+declared_goes_on s t v n p (Err (Refused q)) h = ([], h.2.1.0 ∙ sym (append-nil s.items))
 declared_goes_on s t v n p (Err Memory) h = ([], h.2.0 ∙ sym (append-nil s.items))
 
 -- ---- a variable that is bound

@@ -1,9 +1,9 @@
 -- What is told of an evaluation over the list of a kernel.
-use Rattle.std.specs.Prelude.{ℕ, zero, ◌≡◌, ◌≢◌, ◌-◌, Bool, true, false, Option, Some, None, List, [], Result, Ok, Err}
+use Rattle.std.specs.Prelude.{ℕ, zero, ◌≡◌, ◌≢◌, ◌-◌, Bool, true, false, Option, Some, None, List, [], ◌∷◌, Result, Ok, Err}
 use Rattle.ft_theory.specs.Expressions.{Expression, bound}
-use Rattle.ft_theory.specs.Rules.{look_up}
+use Rattle.ft_theory.specs.Rules.{Rule, look_up}
 use Rattle.ft_theory.specs.Statements.{equal_terms, Statement, plain}
-use Rattle.ft_items.specs.Store.{Annotation, declared_by}
+use Rattle.ft_items.specs.Store.{Assertion, Annotation, declared_by}
 use Rattle.ft_equality.specs.Shapes.{no_rules}
 use Rattle.ft_grammar.specs.declared.form.OneForm.{OneForm}
 use Rattle.ft_grammar.specs.declared.form.OneForm.TheVariants as one
@@ -17,6 +17,7 @@ use Rattle.ft_kernel.specs.State.{State}
 use Rattle.ft_calls.specs.Answers.{refusal_in}
 use Rattle.ft_nucleus.specs.declared.parts.Which.{Which}
 use Rattle.ft_nucleus.specs.declared.parts.Which.TheVariants as which
+use Rattle.ft_apply.specs.Named.{rule_of}
 use Rattle.ft_values.specs.Kept.{stated_at}
 use Rattle.ft_eval.specs.declared.halt.Why.{Why}
 use Rattle.ft_eval.specs.declared.halt.Why.TheVariants as why
@@ -101,3 +102,17 @@ TellsVariable o (Err h) t u = h.why ≢ why.Memory → o ≡ (Err (meaning.halts
 abbrev pub TellsUnit : meaning.Outcome (Unit {0}) → Result (Unit {0}) Halt → State → Budget → Type 0
 TellsUnit o (Ok x) t u = o ≡ (Ok tt, state_of t u)
 TellsUnit o (Err h) t u = h.why ≢ why.Memory → o ≡ (Err (meaning.halts (halt_in t.trees h)), state_of t u)
+
+-- The same for a statement with its set.
+abbrev pub TellsStatement : meaning.Outcome Assertion → Result ℕ Halt → State → Budget → Type 0
+TellsStatement o (Ok p) t u = o ≡ (Ok (stated_at t p), state_of t u)
+TellsStatement o (Err h) t u = h.why ≢ why.Memory → o ≡ (Err (meaning.halts (halt_in t.trees h)), state_of t u)
+
+-- the rule of a number
+abbrev pub rule_at : State → ℕ → ℕ × Rule
+rule_at s r = (r, rule_of s.items r)
+
+-- what entries state, in their order
+abbrev pub stated_all : State → List ℕ → List Assertion
+stated_all s [] = []
+stated_all s (j ∷ js) = stated_at s j ∷ stated_all s js

@@ -1,5 +1,3 @@
 pub mod Calls
-pub mod Words
-pub mod Spending
+pub mod UnitSpent
 pub mod Variables
-pub mod Fitting

@@ -1,12 +1,10 @@
-//! The evaluator. So far: words of the language at judgements and boundaries of a kernel's list.
+//! The evaluator. So far: units, and what the calls of the nucleus tell of a run.
 #![tactic(auto)]
 
 mod halt;
-mod rules;
-mod variables;
-mod words;
+mod laws;
+mod spending;
 
-pub use halt::{Halt, Why};
-pub use rules::{fits_boundary, premise_boundary, rule_conclusion};
-pub use variables::{bound_boundary, bound_judgement, new_variable, spend};
-pub use words::{Pair, Single, boundary_word, boundaryof_word, judgement_word, two_word};
+pub use halt::{Halt, Why, halted, halted_boundary, halted_variable};
+pub use laws::{calls_tell, list_goes_on, variables_tell};
+pub use spending::spend;

@@ -46,14 +46,14 @@ spent_none s at u v none used total =
 -- by the answer of the budget
 pub unit_spent : (s : State) (at : ℕ) (u v : Budget) (b : Bool) → (IsTrue b ↔ (u.used < u.total)) → v.used ≡ (if b then u.used + 1 else u.used) → v.total ≡ u.total → b ≡ true
     → spend at (state_of s u) ≡ (Ok tt, state_of s v)
-unit_spent s at u v b is used total yes =
-    spent_one s at u v (is.0 yes) (used ∙ ap (λ b. if b then u.used + 1 else u.used) yes) total
+unit_spent s at u v b is used total holds =
+    spent_one s at u v (is.0 holds) (used ∙ ap (λ b. if b then u.used + 1 else u.used) holds) total
 
 pub unit_missing : (s : State) (at : ℕ) (u v : Budget) (b : Bool) → (IsTrue b ↔ (u.used < u.total)) → v.used ≡ (if b then u.used + 1 else u.used) → v.total ≡ u.total → b ≡ false
     → spend at (state_of s u) ≡ (Err (halts (spent at)), state_of s v)
-unit_missing s at u v b is used total no =
-    let none : u.total ≤ u.used = not_less u.used u.total (λ l. true_false (sym (is.1 l) ∙ no)) in
-    spent_none s at u v none (used ∙ ap (λ b. if b then u.used + 1 else u.used) no) total
+unit_missing s at u v b is used total fails =
+    let none : u.total ≤ u.used = not_less u.used u.total (λ l. true_false (sym (is.1 l) ∙ fails)) in
+    spent_none s at u v none (used ∙ ap (λ b. if b then u.used + 1 else u.used) fails) total
   where
     not_less : (m n : ℕ) → (m < n → ⊥) → n ≤ m
     not_less m n h = omega arith

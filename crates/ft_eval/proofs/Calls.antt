@@ -1,8 +1,8 @@
 -- From what a call of the nucleus answers to what the meaning gives.
-use Rattle.std.proofs.Common.{◌≡◌, ◌∙◌, ◌++◌, ap, ap₂, refl, sym, subst, ℕ, List, [], ◌∷◌, length, Some, None, Option, append-nil}
+use Rattle.std.proofs.Common.{◌≡◌, ◌∙◌, ◌++◌, ap, ap₂, refl, sym, subst, ℕ, [], ◌∷◌, Some, append-nil}
 use Rattle.std.specs.Prelude.{Result, Ok, Err}
 use Rattle.std.proofs.lemmas.Option.{same_Some}
-use Rattle.ft_items.specs.Item.{Item, Stated, entry}
+use Rattle.ft_items.specs.Item.{Stated, entry}
 use Rattle.ft_items.specs.Store.{Assertion, Store, Resolved, Declarations, nth, store_of, entries_in, entry_named, resolve, with_one, with_two, declared_by}
 use Rattle.ft_items.proofs.Lists.{nth_end, entries_append, declared_last}
 use Rattle.ft_reference.specs.Refusals as reference
@@ -50,7 +50,7 @@ answer_is : (s : State) (n : Stated) (R : Resolved) (o : Result Assertion refere
 answer_is s n R o e h = ap (answer (declared_by s.items)) (sym (same_Some h.0 R (sym h.1 ∙ e))) ∙ h.2
 
 -- an answer as the meaning has it
-abbrev judged_by : ℕ → Result Assertion reference.Refusal → Run meaning.Value
+abbrev pub judged_by : ℕ → Result Assertion reference.Refusal → Run meaning.Value
 judged_by at r = λ s. after (answered at r s) (λ j. pure (judgement j))
 
 abbrev bounded_by : ℕ → Result Assertion reference.Refusal → Run meaning.Value

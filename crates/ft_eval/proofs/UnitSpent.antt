@@ -1,12 +1,11 @@
 -- Units that are spent, and variables that are declared.
-use Rattle.std.proofs.Common.{◌≡◌, ◌≢◌, ◌∙◌, ◌-◌, ◌+◌, ◌<◌, ◌≤◌, ap, ap₂, refl, sym, subst, ℕ, zero, suc, arith, Some, Bool, true, false}
-use Rattle.std.specs.Prelude.{Result, Ok, Err, IsTrue, ◌↔◌, if◌then◌else◌}
+use Rattle.std.proofs.Common.{◌≡◌, ◌∙◌, ◌-◌, ◌+◌, ◌<◌, ◌≤◌, ap, ap₂, sym, ℕ, suc, arith, Bool, true, false}
+use Rattle.std.specs.Prelude.{Ok, Err, IsTrue, ◌↔◌, if◌then◌else◌}
 use Rattle.ft_common.proofs.Booleans.{true_false}
-use Rattle.ft_equality.specs.Programs.{Units, spend_from}
 use Rattle.ft_equality.specs.Shapes.{no_rules}
-use Rattle.ft_items.specs.Store.{Declarations, declared_by}
+use Rattle.ft_items.specs.Store.{declared_by}
 use Rattle.ft_base.specs.Budget.{Budget}
-use Rattle.ft_meaning.specs.Values.{Outcome, settled, spend, halts, spent, State as Running}
+use Rattle.ft_meaning.specs.Values.{Outcome, spend, halts, spent, State as Running}
 use Rattle.ft_kernel.specs.State.{State}
 use Rattle.ft_eval.specs.Telling.{state_of}
 

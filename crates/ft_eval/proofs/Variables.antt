@@ -1,31 +1,29 @@
 -- Variables that are declared, and that are bound.
-use Rattle.std.proofs.Common.{◌≡◌, ◌≢◌, ◌∙◌, ◌+◌, ◌≤◌, ◌++◌, ap, ap₂, refl, sym, subst, ℕ, arith, Some, None, Option, List, [], ◌∷◌, Bool, true, false, cond, nat_eq, append-nil}
+use Rattle.std.proofs.Common.{◌≡◌, ◌≢◌, ◌∙◌, ◌≤◌, ◌++◌, ap, ap₂, refl, sym, subst, ℕ, arith, Some, None, List, [], ◌∷◌, Bool, true, false, cond, nat_eq, append-nil}
 use Rattle.std.specs.Prelude.{Result, Ok, Err, option_map}
 use Rattle.std.proofs.lemmas.Option.{same_Some}
 use Rattle.ft_common.proofs.Choices.{if_same, if_other}
 use Rattle.ft_common.proofs.Options.{some_none}
 use Rattle.ft_common.proofs.Results.{ok_ok, err_ok}
 use Rattle.ft_theory.specs.Rules.{look_up}
-use Rattle.ft_items.specs.Item.{Name, Item, Stated, variable, by_abs}
-use Rattle.ft_items.specs.Store.{Assertion, Annotation, Declarations, Store, Resolved, store_of, declared_by, declared_variable, add_variable, variable_named, entry_named, resolve, with_two, variables_in}
+use Rattle.ft_items.specs.Item.{Name, variable, by_abs}
+use Rattle.ft_items.specs.Store.{Assertion, Annotation, Declarations, store_of, declared_by, declared_variable, add_variable, resolve, with_two, variables_in}
 use Rattle.ft_items.specs.Good.{Good, is_plain_type}
 use Rattle.ft_reference.specs.Refusals as reference
 use Rattle.ft_reference.specs.Refusals.{WrongForm}
 use Rattle.ft_reference.specs.Declare.{Outcome, outcome, refused_unless, new_variable}
-use Rattle.ft_reference.specs.Calls.{answer}
 use Rattle.ft_base.specs.Budget.{Budget}
 use Rattle.ft_meaning.specs.Values as meaning
 use Rattle.ft_meaning.specs.Values.{after, declare, after_declaration, spend, judgement, boundary, halts, fails}
-use Rattle.ft_meaning.specs.Forms.{make_variable, abstract_value, judged}
+use Rattle.ft_meaning.specs.Forms.{make_variable, abstract_value}
 use Rattle.ft_judge.specs.declared.fault.Fault.{Fault}
 use Rattle.ft_judge.specs.declared.fault.Fault.TheVariants.{Refused, Memory}
-use Rattle.ft_kernel.specs.State.{State, entry_at, variable_numbered, next_number, IsEntryOf, IsThesisOf, IsBoundaryOf, IsVariableOf}
+use Rattle.ft_kernel.specs.State.{State, entry_at, variable_numbered, next_number, IsThesisOf, IsBoundaryOf, IsVariableOf}
 use Rattle.ft_calls.specs.Answers.{refusal_in, Answers}
 use Rattle.ft_calls.specs.Declaring.{DeclaresVariable}
 use Rattle.ft_calls.proofs.Answering.{entry_in}
 use Rattle.ft_calls.proofs.Variables.{variable_is, no_variable}
 use Rattle.ft_values.specs.Kept.{stated, stated_at, GoesOn}
-use Rattle.ft_eval.specs.declared.halt.Halt.{Halt}
 use Rattle.ft_eval.specs.Telling.{state_of, halted_at, variable_at, annotation_or, TellsVariable, TellsJudgement, TellsBoundary}
 use Rattle.ft_eval.proofs.Calls.{tells_judgement, tells_boundary}
 

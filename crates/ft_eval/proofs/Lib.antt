@@ -1,0 +1,5 @@
+pub mod Calls
+pub mod UnitSpent
+pub mod Variables
+pub mod WordsTold
+pub mod RulesTold

@@ -1,0 +1,6 @@
+pub mod Rows
+pub mod Listed
+pub mod Members
+pub mod Staying
+pub mod Meant
+pub mod Readers

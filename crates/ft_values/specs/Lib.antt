@@ -1,0 +1,5 @@
+pub mod Kept
+pub mod Code
+pub mod Rows
+pub mod Names
+pub mod Named

@@ -1,0 +1,25 @@
+//! What holds of values while the list of items and the table grow.
+
+ghost use Rattle.std.specs.Prelude.{◌≡◌, ◌++◌, length, List, map, option_map};
+ghost use Rattle.ft_kernel.specs.State.{State};
+ghost use Rattle.ft_meaning.specs.Values.{the, as_judgements, State as Running};
+ghost use Rattle.ft_values.specs.declared.values.Value.{Value};
+ghost use Rattle.ft_values.specs.Kept.{Kept, value_of, stated_at, judgements_in, IsOver, GoesOn};
+ghost use Rattle.ft_values.specs.Rows.{kept_in, Below};
+
+/// A value stays the same when items are added to the list, and when rows are added to the table.
+pub fn values_stay()
+    ensures items { (s t : State) (k : Kept) → GoesOn s t → IsOver s k
+        → value_of t k ≡ value_of s k }
+    ensures over { (s t : State) (k : Kept) → GoesOn s t → IsOver s k → IsOver t k }
+    ensures rows { (ks more : List Kept) (v : Value) → Below (length ks) v
+        → kept_in (ks ++ more) v ≡ kept_in ks v }
+{}
+
+/// The tokens of a list of judgements are those of its members. Another value has none, and is no
+/// such list.
+pub fn members_are()
+    ensures { (s : State) (k : Kept) (t : Running)
+        → as_judgements (value_of s k) t
+        ≡ the (option_map (map (stated_at s)) (judgements_in k)) t }
+{}

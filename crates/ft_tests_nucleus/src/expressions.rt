@@ -77,6 +77,7 @@ fn dummy(binders: u64) -> Arg {
 }
 
 // An expression of the form.
+#[tactic(auto, using(ft_syntax::specs::Laws::below_extends, ft_syntax::specs::Laws::length_extends))]
 fn formed(k: &mut Kernel, shape: Shape) -> Result<E, SynFault>
     ensures { IfOk result (λ e. e < length k.new.trees) }
 {
@@ -94,6 +95,7 @@ fn formed(k: &mut Kernel, shape: Shape) -> Result<E, SynFault>
 }
 
 // The same for forms with binders, or with further names.
+#[tactic(auto, using(ft_syntax::specs::Laws::below_extends, ft_syntax::specs::Laws::length_extends))]
 fn bound_below(k: &mut Kernel, x: E, shape: Shape) -> Result<E, SynFault>
     requires { x < length k.old.trees }
     ensures { IfOk result (λ e. e < length k.new.trees) }
@@ -121,6 +123,7 @@ fn bound_below(k: &mut Kernel, x: E, shape: Shape) -> Result<E, SynFault>
 }
 
 // The text of a refusal that finds the form where a type is wanted, below one domain.
+#[tactic(auto, using(ft_syntax::specs::Laws::below_extends, ft_syntax::specs::Laws::length_extends))]
 fn told(alloc: Global, shape: Shape) -> Result<Text, SynFault> {
     let mut k = declared(alloc)?;
     let wanted = k.meta(0, &[])?;

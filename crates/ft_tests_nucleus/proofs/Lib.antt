@@ -1,4 +1,4 @@
-pub mod Faults
+pub mod Below
 pub mod Growing
 pub mod Listing
-pub mod Places
+pub mod Numbered

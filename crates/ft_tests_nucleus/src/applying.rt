@@ -28,7 +28,7 @@ fn theses(alloc: Global, k: &Kernel, places: &[u64]) -> Option<Judgements>
 }
 
 /// The boundary of the premise after theses.
-#[tactic(auto, using(crate::proofs::Faults::answers_below, crate::proofs::Growing::answers_grow))]
+#[tactic(auto, using(crate::proofs::Below::answers_below, crate::proofs::Growing::answers_grow))]
 pub fn next(alloc: Global, k: &mut Kernel, r: u64, args: &[u64]) -> Result<B, Stop>
     ensures grows { Grows k.old k.new }
     ensures below { IfErr result (λ f. StopBelow (length k.new.trees) f) }
@@ -40,7 +40,7 @@ pub fn next(alloc: Global, k: &mut Kernel, r: u64, args: &[u64]) -> Result<B, St
 }
 
 /// A call on a rule at theses.
-#[tactic(auto, using(crate::proofs::Faults::answers_below, crate::proofs::Growing::answers_grow))]
+#[tactic(auto, using(crate::proofs::Below::answers_below, crate::proofs::Growing::answers_grow))]
 pub fn at_theses(alloc: Global, k: &mut Kernel, call: Call) -> Result<J, Stop>
     ensures grows { Grows k.old k.new }
     ensures thesis { IfOk result (λ j. IsThesisOf k.new j) }
@@ -71,7 +71,7 @@ pub fn at_theses(alloc: Global, k: &mut Kernel, call: Call) -> Result<J, Stop>
 }
 
 /// A call on a rule at theses and equations that start at them.
-#[tactic(auto, using(crate::proofs::Faults::answers_below, crate::proofs::Growing::answers_grow))]
+#[tactic(auto, using(crate::proofs::Below::answers_below, crate::proofs::Growing::answers_grow))]
 pub fn at_equations(alloc: Global, k: &mut Kernel, call: Call) -> Result<J, Stop>
     ensures grows { Grows k.old k.new }
     ensures thesis { IfOk result (λ j. IsThesisOf k.new j) }
@@ -98,7 +98,7 @@ pub fn at_equations(alloc: Global, k: &mut Kernel, call: Call) -> Result<J, Stop
 }
 
 /// A call on a metavariable.
-#[tactic(auto, using(crate::proofs::Faults::answers_below, crate::proofs::Growing::answers_grow, crate::proofs::Listing::theses_same))]
+#[tactic(auto, using(crate::proofs::Below::answers_below, crate::proofs::Growing::answers_grow, crate::proofs::Listing::theses_same))]
 pub fn at_metavariable(alloc: Global, k: &mut Kernel, call: Call) -> Result<J, Stop>
     ensures grows { Grows k.old k.new }
     ensures thesis { IfOk result (λ j. IsThesisOf k.new j) }

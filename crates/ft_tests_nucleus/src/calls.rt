@@ -34,7 +34,7 @@ pub enum Two {
 }
 
 /// A call on one thesis.
-#[tactic(auto, using(crate::proofs::Faults::answers_below, crate::proofs::Growing::answers_grow))]
+#[tactic(auto, using(crate::proofs::Below::answers_below, crate::proofs::Growing::answers_grow))]
 pub fn of_one(alloc: Global, k: &mut Kernel, call: One, j: J) -> Result<J, Fault>
     requires { IsThesisOf k.old j }
     ensures grows { Grows k.old k.new }
@@ -50,7 +50,7 @@ pub fn of_one(alloc: Global, k: &mut Kernel, call: One, j: J) -> Result<J, Fault
 }
 
 /// A call on two theses.
-#[tactic(auto, using(crate::proofs::Faults::answers_below, crate::proofs::Growing::answers_grow))]
+#[tactic(auto, using(crate::proofs::Below::answers_below, crate::proofs::Growing::answers_grow))]
 pub fn of_two(alloc: Global, k: &mut Kernel, call: Two, i: J, j: J) -> Result<J, Fault>
     requires first { IsThesisOf k.old i }
     requires second { IsThesisOf k.old j }

@@ -20,8 +20,7 @@ mod naming;
 mod places;
 #[cfg(test)]
 mod script;
-#[cfg(test)]
-mod stop;
+pub mod stop;
 #[cfg(test)]
 mod theories;
 #[cfg(test)]

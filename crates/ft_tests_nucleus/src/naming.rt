@@ -9,7 +9,7 @@ ghost use Rattle.ft_tests_nucleus.specs.Faults.{IsNamed};
 use ft_kernel::{B, Item, J, Kernel, M, RuleId, V};
 
 /// The thesis at a place.
-#[tactic(auto, using(crate::proofs::Places::shown_named))]
+#[tactic(auto, using(crate::proofs::Numbered::shown_named))]
 pub fn thesis(k: &Kernel, place: u64) -> Option<J>
     ensures { IfSome result (λ j. IsThesisOf k.now j) }
 {
@@ -27,7 +27,7 @@ pub fn thesis(k: &Kernel, place: u64) -> Option<J>
 }
 
 /// The boundary at a place.
-#[tactic(auto, using(crate::proofs::Places::shown_named))]
+#[tactic(auto, using(crate::proofs::Numbered::shown_named))]
 pub fn boundary(k: &Kernel, place: u64) -> Option<B>
     ensures { IfSome result (λ b. IsBoundaryOf k.now b) }
 {
@@ -45,7 +45,7 @@ pub fn boundary(k: &Kernel, place: u64) -> Option<B>
 }
 
 /// The boundary at a place, where it has no domains.
-#[tactic(auto, using(crate::proofs::Places::plain_there))]
+#[tactic(auto, using(crate::proofs::Numbered::plain_there))]
 pub fn plain_boundary(k: &Kernel, place: u64) -> Option<B>
     ensures { IfSome result (λ b. IsPlainBoundaryOf k.now b) }
 {
@@ -58,7 +58,7 @@ pub fn plain_boundary(k: &Kernel, place: u64) -> Option<B>
 }
 
 /// The variable at a place.
-#[tactic(auto, using(crate::proofs::Places::shown_named, crate::proofs::Places::variable_found))]
+#[tactic(auto, using(crate::proofs::Numbered::shown_named, crate::proofs::Numbered::variable_found))]
 pub fn variable(k: &Kernel, place: u64) -> Option<V>
     ensures { IfSome result (λ v. IsVariableOf k.now v) }
 {
@@ -76,7 +76,7 @@ pub fn variable(k: &Kernel, place: u64) -> Option<V>
 }
 
 /// The metavariable at a place.
-#[tactic(auto, using(crate::proofs::Places::shown_named))]
+#[tactic(auto, using(crate::proofs::Numbered::shown_named))]
 pub fn metavariable(k: &Kernel, place: u64) -> Option<M>
     ensures { IfSome result (λ m. m < length (metavariables_in k.now.items)) }
 {
@@ -94,7 +94,7 @@ pub fn metavariable(k: &Kernel, place: u64) -> Option<M>
 }
 
 /// The rule at a place.
-#[tactic(auto, using(crate::proofs::Places::shown_named))]
+#[tactic(auto, using(crate::proofs::Numbered::shown_named))]
 pub fn rule(k: &Kernel, place: u64) -> Option<RuleId>
     ensures { IfSome result (λ r. r < length (rules_in k.now.items)) }
 {

@@ -82,7 +82,7 @@ pub enum Call {
 }
 
 // A call that makes a boundary of theses.
-#[tactic(auto, using(crate::proofs::Faults::answers_below, crate::proofs::Growing::answers_grow))]
+#[tactic(auto, using(crate::proofs::Below::answers_below, crate::proofs::Growing::answers_grow))]
 fn goal(alloc: Global, k: &mut Kernel, call: Call) -> Result<B, Stop>
     ensures grows { Grows k.old k.new }
     ensures below { IfErr result (λ f. StopBelow (length k.new.trees) f) }
@@ -115,7 +115,7 @@ fn goal(alloc: Global, k: &mut Kernel, call: Call) -> Result<B, Stop>
 }
 
 // A call that makes a boundary of a thesis or of another boundary.
-#[tactic(auto, using(crate::proofs::Faults::answers_below, crate::proofs::Growing::answers_grow))]
+#[tactic(auto, using(crate::proofs::Below::answers_below, crate::proofs::Growing::answers_grow))]
 fn goal_of(alloc: Global, k: &mut Kernel, call: Call) -> Result<B, Stop>
     ensures grows { Grows k.old k.new }
     ensures below { IfErr result (λ f. StopBelow (length k.new.trees) f) }
@@ -143,7 +143,7 @@ fn goal_of(alloc: Global, k: &mut Kernel, call: Call) -> Result<B, Stop>
 }
 
 /// A call on one or two theses.
-#[tactic(auto, using(crate::proofs::Faults::answers_below, crate::proofs::Growing::answers_grow))]
+#[tactic(auto, using(crate::proofs::Below::answers_below, crate::proofs::Growing::answers_grow))]
 pub fn judged(alloc: Global, k: &mut Kernel, call: Call) -> Result<J, Stop>
     ensures grows { Grows k.old k.new }
     ensures thesis { IfOk result (λ j. IsThesisOf k.new j) }
@@ -166,7 +166,7 @@ pub fn judged(alloc: Global, k: &mut Kernel, call: Call) -> Result<J, Stop>
 }
 
 /// A call on a variable, or a part of a boundary.
-#[tactic(auto, using(crate::proofs::Faults::answers_below, crate::proofs::Growing::answers_grow))]
+#[tactic(auto, using(crate::proofs::Below::answers_below, crate::proofs::Growing::answers_grow))]
 pub fn part(alloc: Global, k: &mut Kernel, call: Call) -> Result<J, Stop>
     ensures grows { Grows k.old k.new }
     ensures thesis { IfOk result (λ j. IsThesisOf k.new j) }
@@ -194,7 +194,7 @@ pub fn part(alloc: Global, k: &mut Kernel, call: Call) -> Result<J, Stop>
 }
 
 // A call that declares.
-#[tactic(auto, using(crate::proofs::Faults::variable_fault, crate::proofs::Faults::metavariable_fault, crate::proofs::Growing::variable_grows, crate::proofs::Growing::metavariable_grows))]
+#[tactic(auto, using(crate::proofs::Below::variable_fault, crate::proofs::Below::metavariable_fault, crate::proofs::Growing::variable_grows, crate::proofs::Growing::metavariable_grows))]
 fn declared(alloc: Global, k: &mut Kernel, call: Call) -> Result<(), Stop>
     ensures grows { Grows k.old k.new }
     ensures below { IfErr result (λ f. StopBelow (length k.new.trees) f) }

@@ -39,7 +39,7 @@ pub fn stop_of(k: &Kernel, fault: Fault) -> Stop
 }
 
 /// The thesis that a call answers, or its stop.
-#[tactic(auto, using(crate::proofs::Faults::fault_below))]
+#[tactic(auto, using(crate::proofs::Below::fault_below))]
 pub fn thesis_or(k: &Kernel, made: Result<J, Fault>) -> Result<J, Stop>
     requires thesis { IfOk made (λ j. IsThesisOf k.now j) }
     requires below { IfErr made (λ f. FaultBelow (length k.now.trees) f) }
@@ -53,7 +53,7 @@ pub fn thesis_or(k: &Kernel, made: Result<J, Fault>) -> Result<J, Stop>
 }
 
 /// The boundary that a call answers, or its stop.
-#[tactic(auto, using(crate::proofs::Faults::fault_below))]
+#[tactic(auto, using(crate::proofs::Below::fault_below))]
 pub fn boundary_or(k: &Kernel, made: Result<B, Fault>) -> Result<B, Stop>
     requires below { IfErr made (λ f. FaultBelow (length k.now.trees) f) }
     ensures below { IfErr result (λ f. StopBelow (length k.now.trees) f) }

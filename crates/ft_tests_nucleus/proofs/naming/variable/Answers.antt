@@ -1,4 +1,4 @@
-use Rattle.ft_tests_nucleus.proofs.Places.{variable_found}
+use Rattle.ft_tests_nucleus.proofs.Numbered.{variable_found}
 use Rattle.ft_tests_nucleus.proofs.naming.variable.Goals as goal
 
 pub returns-in-Var : goal.returns-in-Var

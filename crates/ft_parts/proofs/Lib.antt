@@ -5,3 +5,5 @@ pub mod Declared
 pub mod Told
 pub mod AtInstances
 pub mod Places
+pub mod Premises
+pub mod Found

@@ -16,8 +16,6 @@ use Rattle.ft_reference.specs.Refusals as reference
 use Rattle.ft_reference.specs.Refusals.{Check, asks, first_refusal, forms_result, AllSmall, expressions}
 use Rattle.ft_reference.specs.Checks.{is_application, application_checks}
 use Rattle.ft_syntax.specs.Arguments.{Argument, arguments_of, list_of_arguments, list_of_terms, node_of}
-use Rattle.ft_syntax.specs.Table.{tree, argument_in}
-use Rattle.ft_syntax.specs.declared.syntax.Arg.{Arg}
 use Rattle.ft_syntax.specs.declared.syntax.Node.TheVariants.{Sym, Meta}
 use Rattle.ft_syntax.specs.declared.syntax.SynFault.{SynFault}
 use Rattle.ft_syntax.specs.declared.syntax.SynFault.TheVariants as syntax
@@ -38,7 +36,6 @@ use Rattle.ft_parts.specs.Places.{IsNoPlainObjectAt, place_checked, FindsPlace, 
 use Rattle.ft_parts.proofs.Pairing.{numbers_of}
 use Rattle.ft_parts.proofs.Lines.{IsRule, no_rule, no_met, nth_past}
 use Rattle.ft_parts.proofs.Declared.{below_none}
-use Rattle.ft_parts.proofs.Opened.{term_there}
 use Rattle.ft_parts.proofs.Places.{body_of, premise_filled, filled_count, term_typed, typed_count, domain_placed, small_filled, other_application}
 use Rattle.ft_parts.proofs.AtInstances.{big_weaker}
 use Rattle.ft_parts.proofs.Premises.{premise_named}
@@ -72,8 +69,8 @@ finds_none_at : (ts : List Expression) (x : Expression) (i n : ℕ) (xs : List S
 finds_none_at ts x i n xs f a l h e =
     subst (λ f. FindsPlace ts (is_application x) i xs (Err f)) (sym e) (
       if_true (first_refusal (place_checked i xs)) (Some reference.NotApplication) (is_application x) a
-      ∙ if_false (first_refusal (forms_result (from_one xs i))) (Some (reference.ArgumentCount i (length xs))) (is_some (from_one xs i)) h
-      ∙ ap (λ n. Some (reference.ArgumentCount i n)) l,
+          ∙ if_false (first_refusal (forms_result (from_one xs i))) (Some (reference.ArgumentCount i (length xs))) (is_some (from_one xs i)) h
+          ∙ ap (λ n. Some (reference.ArgumentCount i n)) l,
       tt,
     )
 

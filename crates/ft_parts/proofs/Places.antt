@@ -1,6 +1,6 @@
 -- Arguments of applications by their place.
-use Rattle.std.proofs.Common.{◌≡◌, ◌∙◌, ℕ, zero, suc, ◌+◌, ◌<◌, ◌≤◌, min, true, false, cond, Option, Some, None, List, [], ◌∷◌, length, refl, sym, ap, ap₂, subst, arith}
-use Rattle.std.specs.Prelude.{slice_get, unwrap_or, option_map, Ok, Err, is_some}
+use Rattle.std.proofs.Common.{◌≡◌, ◌∙◌, ℕ, zero, suc, ◌+◌, ◌<◌, min, false, Option, Some, None, List, [], ◌∷◌, length, refl, ap, ap₂, arith}
+use Rattle.std.specs.Prelude.{slice_get, unwrap_or, option_map}
 use Rattle.std.proofs.lemmas.Option.{same_Some}
 use Rattle.ft_common.proofs.Options.{none_some}
 use Rattle.ft_common.proofs.Booleans.{true_false}
@@ -13,13 +13,8 @@ use Rattle.ft_reference.specs.Refusals as reference
 use Rattle.ft_reference.specs.Refusals.{first_refusal, AllSmall, claim_expressions, expressions}
 use Rattle.ft_reference.specs.Checks.{application_checks}
 use Rattle.ft_syntax.specs.Arguments.{Argument, list_of_arguments, list_of_terms}
-use Rattle.ft_syntax.specs.Table.{tree}
 use Rattle.ft_syntax.specs.declared.syntax.SynFault.{SynFault}
 use Rattle.ft_syntax.specs.declared.syntax.SynFault.TheVariants as syntax
-use Rattle.ft_judge.specs.Meaning.{claim_in, goal_in, under, thesis_in, boundary_in}
-use Rattle.ft_judge.specs.declared.judgement.Boundary.{Boundary}
-use Rattle.ft_judge.specs.declared.judgement.Form.{Form}
-use Rattle.ft_judge.specs.declared.judgement.Goal.{Goal}
 use Rattle.ft_kernel.specs.State.{State}
 use Rattle.ft_calls.specs.Answers.{Stays}
 use Rattle.ft_calls.proofs.Declared.{stays_same}

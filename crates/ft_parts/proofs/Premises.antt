@@ -6,7 +6,7 @@ use Rattle.std.proofs.lemmas.Bool.{cases_lt}
 use Rattle.std.proofs.lemmas.Option.{same_Some, slice_get-get_or, slice_get_past}
 use Rattle.ft_common.proofs.Options.{none_some}
 use Rattle.ft_theory.specs.Expressions.{Expression, free}
-use Rattle.ft_theory.specs.Statements.{Claim, Statement, plain, abstracted, act_statement, fill_goal, fill}
+use Rattle.ft_theory.specs.Statements.{Claim, plain, abstracted, act_statement, fill_goal, fill}
 use Rattle.ft_theory.specs.Rules.{rule_at}
 use Rattle.ft_items.specs.Good.{Good}
 use Rattle.ft_items.specs.Store.{Declared, Declarations, premises_of, nth, each, metavariable_named, metavariables_in, declared_by}

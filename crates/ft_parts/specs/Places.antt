@@ -1,5 +1,5 @@
 -- Arguments of applications, as they are looked for by their place.
-use Rattle.std.specs.Prelude.{ℕ, zero, suc, ◌≡◌, Option, Some, None, Bool, true, false, List, [], ◌∷◌, length, Result, Ok, Err, is_some}
+use Rattle.std.specs.Prelude.{ℕ, zero, suc, ◌≡◌, Option, Some, None, Bool, true, false, List, ◌∷◌, length, Result, Ok, Err, is_some}
 use Rattle.ft_theory.specs.Expressions.{Expression, bound}
 use Rattle.ft_theory.specs.Statements.{type_goal, is_type, has_type, Statement, plain, abstracted}
 use Rattle.ft_items.specs.Store.{Assertion, Declared}

@@ -78,13 +78,7 @@ fn no_place(i: u64, given: u64) -> Fault
 }
 
 // The argument at a place of the symbol.
-fn argument_of_symbol(
-    alloc: Global,
-    k: &mut Kernel,
-    s: u64,
-    e: E,
-    i: u64,
-) -> Result<Thesis, Fault>
+fn argument_of_symbol(alloc: Global, k: &mut Kernel, s: u64, e: E, i: u64) -> Result<Thesis, Fault>
     requires below { e < length k.old.trees }
     requires symbol { node_of (tree k.old.trees e) ≡ Sym s }
     ensures within { IfOk result (λ x. ThesisBelow (length k.new.trees) x) }

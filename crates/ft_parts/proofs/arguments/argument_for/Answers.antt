@@ -1,5 +1,4 @@
-use Rattle.std.proofs.Common.{◌≡◌, ◌∙◌, length, ap₂, subst, sym}
-use Rattle.ft_theory.specs.Expressions.{free}
+use Rattle.std.proofs.Common.{◌∙◌, length, ap₂, subst, sym}
 use Rattle.ft_theory.specs.Statements.{fill}
 use Rattle.ft_reference.specs.Refusals.{AllSmall, expressions}
 use Rattle.ft_syntax.specs.Laws.{below_extends, tree_extends, pairs_below_extends}

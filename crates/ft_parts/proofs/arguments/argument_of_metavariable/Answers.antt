@@ -1,4 +1,4 @@
-use Rattle.std.proofs.Common.{◌≡◌, ◌∙◌, ◌-◌, ◌<◌, ◌≤◌, Some, length, ap, ap₂, refl, sym, subst, arith}
+use Rattle.std.proofs.Common.{◌≡◌, ◌∙◌, ◌-◌, ◌<◌, Some, length, ap, ap₂, sym, subst, arith}
 use Rattle.std.specs.Prelude.{slice_get, Err}
 use Rattle.ft_theory.specs.Statements.{plain, has_type}
 use Rattle.ft_items.specs.Store.{declared_by, metavariables_in, Declared, nth}
@@ -61,11 +61,12 @@ returns-in-Ok-clause-finds c =
     let given : slice_get (arguments_of x) (c.args.i - 1) ≡ Some (argument_in s.trees a) = subst (λ ts. slice_get (arguments_of (tree ts c.args.e)) (c.args.i - 1) ≡ Some (argument_in ts a)) c.terms-terms.ensures.terms c.arg-argument.ensures.argument in
     let there : slice_get (arguments_of x) (c.args.i - 1) ≡ Some (0, Some (tree s.trees b)) = term_there s.trees (arguments_of x) (c.args.i - 1) b a terms given c.in-Some-body.is in
     let low : b < c.args.e = subst (BodyBelow c.args.e) c.in-Some-body.is c.arg-argument.ensures.below in
-    let within : b < length s.trees = omega (arith, low, c.requires.below) in
-    (meta_applies x m node,
-    meta_place W x m c.args.i d.0 (tree s.trees b) node d.1 c.if-i-lt1.false there
-    ∙ ap Some (ap₂ (λ t A. plain (has_type t A)) (sym (tree_extends s.trees t.trees b c.in-Ok.ensures.stays.1 within)) (sym c.in-Ok.ensures.ty))
-    ∙ ap (λ y. Some (thesis_in t.trees y)) (sym c.plain.ensures))
+    let within : b < length s.trees = omega (arith, low, c.requires.below) in (
+      meta_applies x m node,
+      meta_place W x m c.args.i d.0 (tree s.trees b) node d.1 c.if-i-lt1.false there
+          ∙ ap Some (ap₂ (λ t A. plain (has_type t A)) (sym (tree_extends s.trees t.trees b c.in-Ok.ensures.stays.1 within)) (sym c.in-Ok.ensures.ty))
+          ∙ ap (λ y. Some (thesis_in t.trees y)) (sym c.plain.ensures),
+    )
 
 pub returns-in-Err-clause-finds : goal.returns-in-Err-clause-finds
 returns-in-Err-clause-finds c =

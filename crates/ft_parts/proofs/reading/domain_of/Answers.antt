@@ -1,4 +1,4 @@
-use Rattle.std.proofs.Common.{◌≡◌, ◌∙◌, ◌-◌, ap, subst, sym}
+use Rattle.std.proofs.Common.{◌≡◌, ◌∙◌, ◌-◌, ap}
 use Rattle.std.specs.Prelude.{option_map, slice_get}
 use Rattle.ft_syntax.specs.Table.{tree}
 use Rattle.ft_parts.proofs.Lines.{IsMet, met_there, met_boundary}

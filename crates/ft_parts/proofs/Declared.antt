@@ -1,7 +1,7 @@
 -- Types by declaration: what is read of variables, rules and metavariables.
 use Rattle.std.proofs.Common.{Bool, nat_lt, if◌then◌else◌, ◌≡◌, ◌∙◌, ◌⊎◌, inl, inr, ℕ, zero, suc, ◌+◌, ◌<◌, ◌≤◌, true, false, Option, Some, None, List, [], ◌∷◌, length, refl, sym, ap, ap₂, subst, arith}
 use Rattle.std.specs.Prelude.{option_map}
-use Rattle.std.proofs.lemmas.Bool.{cases_lt, ltb-false}
+use Rattle.std.proofs.lemmas.Bool.{cases_lt, ltb-false, ltb-true}
 use Rattle.std.proofs.lemmas.Option.{same_Some}
 use Rattle.ft_common.proofs.Options.{none_some}
 use Rattle.ft_common.proofs.Booleans.{true_false}
@@ -234,7 +234,7 @@ meta_short W (symbol f a) m A d e h l = let no : ⊥ = cc in absurd no
 
 -- What is found by number.
 
-below_none : (n b : ℕ) → if_below n b ≡ None → b ≤ n
+pub below_none : (n b : ℕ) → if_below n b ≡ None → b ≤ n
 below_none n b h = go (nat_lt n b) refl h
   where
     go : (t : Bool) → nat_lt n b ≡ t → (if t then Some n else None) ≡ None → b ≤ n
@@ -247,6 +247,13 @@ below_some n b k h = go (nat_lt n b) h
     go : (t : Bool) → (if t then Some n else None) ≡ Some k → k ≡ n
     go true e = sym (same_Some n k e)
     go false e = none_some e
+
+pub below_less : (n b k : ℕ) → if_below n b ≡ Some k → n < b
+below_less n b k h = go (nat_lt n b) refl h
+  where
+    go : (t : Bool) → nat_lt n b ≡ t → (if t then Some n else None) ≡ Some k → n < b
+    go true e q = ltb-true n b e
+    go false e q = none_some q
 
 pub variable_found : (s : State) (v w : ℕ) (o : Option ℕ) → o ≡ option_map (λ x. v) (variable_numbered (variables_in s.items) v) → o ≡ Some w → IsVariableOf s w
 variable_found s v w o h e = go (variable_numbered (variables_in s.items) v) refl (sym h ∙ e)

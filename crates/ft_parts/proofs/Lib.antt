@@ -3,3 +3,7 @@ pub mod Pairing
 pub mod Lines
 pub mod Declared
 pub mod Told
+pub mod AtInstances
+pub mod Places
+pub mod Premises
+pub mod Found

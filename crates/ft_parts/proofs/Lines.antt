@@ -1,5 +1,5 @@
 -- The rules and the metavariables of a good list, by their lines.
-use Rattle.std.proofs.Common.{◌≡◌, ◌∙◌, ℕ, zero, suc, ◌≤◌, true, false, Option, Some, None, List, [], ◌∷◌, length, map, refl, sym, ap, ap₂, subst, arith}
+use Rattle.std.proofs.Common.{◌≡◌, ◌∙◌, ℕ, zero, suc, ◌<◌, ◌≤◌, true, false, Option, Some, None, List, [], ◌∷◌, length, map, refl, sym, ap, ap₂, subst, arith}
 use Rattle.std.specs.Prelude.{option_map, option_and_then}
 use Rattle.std.proofs.lemmas.Option.{same_Some}
 use Rattle.ft_common.proofs.Options.{none_some}
@@ -72,6 +72,7 @@ pub record IsRule (s : State) (r : ℕ) (ms : List ℕ) (p : ℕ) : Type 0 where
   pub premises : List (ℕ × Declared)
   pub conclusion : Assertion
   pub at : rule_at (declared_by s.items).rules r ≡ Some (declared_rule premises conclusion)
+  pub are : each (metavariable_named (declared_by s.items)) ms ≡ Some premises
   pub numbers : numbers_of (premises_of premises) ≡ ms
   pub is : entry_at s p ≡ Some conclusion
   pub boundary : is_thesis conclusion.statement ≡ false
@@ -101,6 +102,7 @@ rule_there s r x g h =
           ∙ nth_map (λ (x : Name × List ℕ × ℕ). ruled (each (metavariable_named W) x.1) (nth (entries_in s.items) x.2)) (rules_in s.items) r
           ∙ ap (option_map (λ (x : Name × List ℕ × ℕ). ruled (each (metavariable_named W) x.1) (nth (entries_in s.items) x.2))) h
           ∙ ap₂ (λ ds o. Some (ruled ds o)) l.are here;
+      are = l.are;
       numbers = numbers_are W x.1 l.premises l.are;
       is = here;
       boundary = l.boundary;
@@ -111,7 +113,7 @@ pub rule_boundary : (s : State) (r : ℕ) (ms : List ℕ) (p : ℕ) → IsRule s
 rule_boundary s r ms p R = (R.conclusion, R.is, R.boundary)
 
 -- there is none of a greater number
-nth_past : {A : Type 0} (xs : List A) (n : ℕ) → length xs ≤ n → nth xs n ≡ None
+pub nth_past : {A : Type 0} (xs : List A) (n : ℕ) → length xs ≤ n → nth xs n ≡ None
 nth_past [] n l = refl
 nth_past (x ∷ xs) zero l = absurd (omega (arith, l))
 nth_past (x ∷ xs) (suc n) l = nth_past xs n (omega (arith, l))
@@ -156,3 +158,15 @@ no_met s m g l =
     ap (λ ms. nth ms m) (store_is s.items g).metavariables
     ∙ nth_map (λ (x : Name × ℕ). declared x (nth (entries_in s.items) x.1)) (metavariables_in s.items) m
     ∙ ap (option_map (λ (x : Name × ℕ). declared x (nth (entries_in s.items) x.1))) (nth_past (metavariables_in s.items) m l)
+
+-- a metavariable of a number that there is
+nth_there : {A : Type 0} (xs : List A) (n : ℕ) → n < length xs → (x : A) × (nth xs n ≡ Some x)
+nth_there [] n l = absurd (omega (arith, l))
+nth_there (x ∷ xs) zero l = (x, refl)
+nth_there (x ∷ xs) (suc n) l = nth_there xs n (omega (arith, l))
+
+pub met_declared : (s : State) (m : ℕ) → Good s.items → m < length (metavariables_in s.items) → (d : Declared) × (nth (declared_by s.items).metavariables m ≡ Some d)
+met_declared s m g l =
+    let x : (x : Name × ℕ) × (nth (metavariables_in s.items) m ≡ Some x) = nth_there (metavariables_in s.items) m l in
+    let M : IsMet s m x.0.1 = met_there s m x.0 g x.1 in
+    (declared_metavariable M.name M.conclusion, M.at)

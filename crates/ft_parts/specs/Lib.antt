@@ -1,1 +1,3 @@
 pub mod Types
+pub mod Instances
+pub mod Places

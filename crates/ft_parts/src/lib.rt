@@ -1,9 +1,13 @@
-//! What an application tells of its type, over a kernel.
+//! What an application tells, over a kernel.
 #![tactic(auto)]
 
+mod arguments;
+mod filling;
 mod opening;
+mod putting;
 mod reading;
 mod symbols;
 mod types;
 
+pub use arguments::argument;
 pub use types::natural;

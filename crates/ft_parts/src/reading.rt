@@ -1,6 +1,6 @@
 //! What theses, variables, rules and metavariables say.
 
-ghost use Rattle.std.specs.Prelude.{◌≡◌, ◌<◌, Some, length, option_map, IfOk, IfErr, IfSome};
+ghost use Rattle.std.specs.Prelude.{◌≡◌, ◌≤◌, ◌<◌, ◌-◌, Some, length, option_map, IfOk, IfErr, IfSome};
 ghost use Rattle.ft_theory.specs.Expressions.{free};
 ghost use Rattle.ft_theory.specs.Rules.{rule_at};
 ghost use Rattle.ft_theory.specs.Statements.{plain, is_type, has_type};
@@ -11,6 +11,7 @@ ghost use Rattle.ft_judge.specs.declared.fault.Refusal.TheVariants.{WrongForm};
 ghost use Rattle.ft_kernel.specs.State.{statement_at, IsThesisOf, IsVariableOf};
 ghost use Rattle.ft_calls.specs.Named.{IsPlainTypeAt, IsNoPlainTypeAt};
 ghost use Rattle.ft_parts.specs.Types.{IsNoPlainTermAt, concluded_type, type_of_metavariable};
+ghost use Rattle.ft_parts.specs.Places.{StatesHead, IsNoPlainObjectAt, domain_at};
 
 use ft_calls::form_named;
 use ft_judge::{Form, Goal, Refusal};
@@ -110,4 +111,33 @@ pub(crate) fn type_of_boundary(k: &Kernel, m: M) -> Option<(E, u64)>
         Goal::Tm(a) => Some((a, boundary.domains.items().len() as u64)),
         _ => None,
     }
+}
+
+/// The type of a plain thesis about a type, the term of one about a term. Others are of the wrong form.
+/// It takes no memory.
+pub(crate) fn plain_head(k: &Kernel, j: J) -> Result<E, Refusal>
+    requires { IsThesisOf k.now j }
+    ensures states { IfOk result (λ e. StatesHead k.now j (tree k.now.trees e)) }
+    ensures below { IfOk result (λ e. e < length k.now.trees) }
+    ensures other { IfErr result (λ q. IsNoPlainObjectAt k.now j) }
+    ensures refused { IfErr result (λ q. q ≡ WrongForm) }
+{
+    let form = form_named(k, j)?;
+    match form {
+        Form::Ty(a) => Ok(a),
+        Form::Tm(term, _) => Ok(term),
+        _ => Err(Refusal::WrongForm),
+    }
+}
+
+/// The domain of a metavariable's boundary at a place, counted from 1. It takes no memory.
+pub(crate) fn domain_of(k: &Kernel, m: M, i: u64) -> Option<E>
+    requires met { m < length (metavariables_in k.now.items) }
+    requires first { 1 ≤ i }
+    ensures domain { option_map (tree k.now.trees) result ≡
+        domain_at (i - 1) (nth (declared_by k.now.items).metavariables m) }
+    ensures below { IfSome result (λ e. e < length k.now.trees) }
+{
+    let domains = k.boundary_at(k.met(m).boundary).domains.items();
+    domains.get((i - 1) as usize).copied()
 }

@@ -25,3 +25,9 @@ mod Applies
 mod Compares
 mod PutTogether
 mod HeadsPut
+mod Argued
+mod NextBoundaries
+mod Copied
+mod Started
+mod Congruent
+mod Moved

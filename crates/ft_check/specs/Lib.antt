@@ -5,5 +5,7 @@ pub mod Kinds
 pub mod Comparing
 pub mod Putting
 pub mod Applying
+pub mod Arguing
 pub mod Typing
 pub mod Substituting
+pub mod Equations

@@ -28,8 +28,9 @@ fn push(list: &mut Vec<Compared>, found: E, wanted: E) -> Result<(), Memory>
     Ok(())
 }
 
+/// Adds what has to be the same for as many domains to be the instances of others.
 #[tactic(auto, using(crate::proofs::Compares::domains_next, crate::proofs::Compares::domains_end, ft_syntax::specs::Laws::one_below))]
-fn push_domains(list: &mut Vec<Compared>, found: &[E], wanted: &[E]) -> Result<(), Memory>
+pub fn push_domains(list: &mut Vec<Compared>, found: &[E], wanted: &[E]) -> Result<(), Memory>
     requires { length found.now ≡ length wanted.now }
     ensures same { (ts : List Expression) (j : Expression → Expression) → OnOk result (all_same ts j list.new.items ≡ (all_same ts j list.old.items && domains_same ts j found.now wanted.now)) }
     ensures below { (n : ℕ) → ComparedBelow n list.old.items → AllBelow n found.now → AllBelow n wanted.now → OnOk result (ComparedBelow n list.new.items) }

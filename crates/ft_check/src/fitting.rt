@@ -18,8 +18,8 @@ use ft_base::Memory;
 use ft_judge::{Boundary, Goal};
 use ft_stated::StatedItems;
 
-// The boundary of the metavariable of a number.
-fn boundary_named(items: &StatedItems, i: u64, m: u64) -> Option<Entry<'_>>
+/// The boundary of the metavariable of a number.
+pub fn boundary_named(items: &StatedItems, i: u64, m: u64) -> Option<Entry<'_>>
     ensures entry { (d : Declared) → Good (take i items.now.items) → nth (declared_by (take i items.now.items)).metavariables m ≡ Some d → option_map (λ e. (entry_in items.now.trees e).statement) result ≡ Some d.boundary }
     ensures below { IfSome result (λ e. EntryBelow (length items.now.trees) e) }
 {
@@ -29,8 +29,12 @@ fn boundary_named(items: &StatedItems, i: u64, m: u64) -> Option<Entry<'_>>
     }
 }
 
-// Adds what has to be the same for a thesis to fit an instance of a boundary, or answers false where it fits none.
-fn push_entry(list: &mut Vec<Compared>, found: Entry<'_>, wanted: Entry<'_>) -> Result<bool, Memory>
+/// Adds what has to be the same for a thesis to fit an instance of a boundary, or answers false where it fits none.
+pub fn push_entry(
+    list: &mut Vec<Compared>,
+    found: Entry<'_>,
+    wanted: Entry<'_>,
+) -> Result<bool, Memory>
     ensures same { (ts : List Expression) (j : Expression → Expression) → is_thesis (entry_in ts found.entry).statement ≡ true → is_thesis (entry_in ts wanted.entry).statement ≡ false
         → IfOk result (λ yes. (yes && all_same ts j list.new.items) ≡ (all_same ts j list.old.items && fits (entry_in ts found.entry).statement (map_statement (λ k. j) zero (entry_in ts wanted.entry).statement))) }
     ensures below { (n : ℕ) → ComparedBelow n list.old.items → EntryBelow n found.entry → EntryBelow n wanted.entry → IfOk result (λ yes. ComparedBelow n list.new.items) }

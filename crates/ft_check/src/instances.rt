@@ -29,9 +29,9 @@ pub struct Put {
     pub arguments: Vec<Arg>,
 }
 
-// The argument of another table.
+/// The argument of another table.
 #[tactic(auto, using(ft_syntax::specs::Laws::extends_same))]
-fn copy(terms: &mut Terms, other: &Terms, head: Arg) -> Result<Arg, Memory>
+pub fn copy(terms: &mut Terms, other: &Terms, head: Arg) -> Result<Arg, Memory>
     requires { BodyBelow (length other.now) head.body }
     ensures is { IfOk result (λ x. argument_in terms.new x ≡ argument_in other.now head) }
     ensures below { IfOk result (λ x. BodyBelow (length terms.new) x.body) }
@@ -89,9 +89,9 @@ fn heads_in(
     Ok(list)
 }
 
-// Each metavariable with the argument in its place.
+/// Each metavariable with the argument in its place.
 #[tactic(auto, using(crate::proofs::HeadsPut::pairing_more, crate::proofs::HeadsPut::pairing_end))]
-fn paired(alloc: Global, ms: &[u64], arguments: &[Arg]) -> Result<Pairs, Memory>
+pub fn paired(alloc: Global, ms: &[u64], arguments: &[Arg]) -> Result<Pairs, Memory>
     ensures { IfOk result (λ x. x ≡ pairs_of ms.now arguments.now) }
 {
     let mut pairs = Pairs::new(alloc);

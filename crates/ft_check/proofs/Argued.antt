@@ -136,6 +136,12 @@ after_read ts items x R n y k m b p = record {
 abbrev pub Fitting : List Expression → Bool → List Compared → List Compared → List (ℕ × Statement) → List Statement → Type 0
 Fitting ts y new old qs xs = (j : Expression → Expression) → (y && all_same ts j new) ≡ (all_same ts j old && fit_all (map_statement (λ k. j) zero) qs xs)
 
+pub not_pushed : (ts : List Expression) (j : Expression → Expression) (y : Bool) (new old : List Compared) (d : Bool) → (y && all_same ts j new) ≡ (all_same ts j old && d) → old ≡ [] → y ≡ false → false ≡ d
+not_pushed ts j y new old d f e n = no_same y _ _ n f ∙ ap (λ l. all_same ts j l && d) e
+
+pub all_pushed : (ts : List Expression) (j : Expression → Expression) (y b : Bool) (new old : List Compared) (d : Bool) → (y && all_same ts j new) ≡ (all_same ts j old && d) → old ≡ [] → y ≡ true → b ≡ all_same ts j new → b ≡ d
+all_pushed ts j y b new old d f e n h = h ∙ yes_same y _ _ n f ∙ ap (λ l. all_same ts j l && d) e
+
 pub not_arguments : (ts : List Expression) (y : Bool) (new old : List Compared) (qs : List (ℕ × Statement)) (xs : List Statement) → Fitting ts y new old qs xs → old ≡ [] → y ≡ false → false ≡ are_arguments qs xs
 not_arguments ts y new old qs xs f e n =
     no_same y _ _ n (f (instantiate (instance_of qs (heads xs))))

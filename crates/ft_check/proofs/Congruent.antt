@@ -96,14 +96,14 @@ not_three a b c d e f h = sym (ap (λ a. (a && b) && c) h ∙ sym e ∙ f)
 pub no_object : (ts : List Expression) (W : Declarations) (x : RuleAt) (R : ℕ × Rule) (X Y : List Statement) (Q : List Atom) (e : Assertion) (t : Stated) (a : Bool) → IsRule ts W x R → a ≡ is_object_goal (goal_in ts x.goal) → a ≡ false
     → Some premise ≡ reason_of_result (congruence_of R.0 R.1 X Y) Q (with_step e t)
 no_object ts W x R X Y Q e t a k h n =
-    premise_not false _ _ Q (with_step e t) refl
+    premise_not false ((is_object_goal R.1.conclusion && are_arguments R.1.premises X) && start_all X Y) _ Q (with_step e t) refl
     (ap (λ o. (o && are_arguments R.1.premises X) && start_all X Y) (sym n ∙ h ∙ ap is_object_goal k.conclusion))
 
 pub no_sides : (ts : List Expression) (W : Declarations) (x : RuleAt) (R : ℕ × Rule) (xs ys : List Assertion) (Q : List Atom) (e : Assertion) (t : Stated) (a d : Bool) (k : IsRule ts W x R) → a ≡ is_object_goal (goal_in ts x.goal) → a ≡ true
     → d ≡ (are_arguments (premises_of k.declared) (statements xs) && start_all (statements xs) (statements ys)) → d ≡ false
     → Some premise ≡ reason_of_result (congruence_of R.0 R.1 (statements xs) (statements ys)) Q (with_step e t)
 no_sides ts W x R xs ys Q e t a d k h n f g =
-    premise_not false _ _ Q (with_step e t) refl
+    premise_not false ((is_object_goal R.1.conclusion && are_arguments R.1.premises (statements xs)) && start_all (statements xs) (statements ys)) _ Q (with_step e t) refl
     (not_three (is_object_goal R.1.conclusion) (are_arguments R.1.premises (statements xs)) (start_all (statements xs) (statements ys)) d
     (f ∙ ap (λ ps. are_arguments ps (statements xs) && start_all (statements xs) (statements ys)) (sym k.premises)) g (sym (ap is_object_goal k.conclusion) ∙ sym h ∙ n))
 
@@ -118,7 +118,7 @@ congruence_judged ts W x R s xs ys Q S e t a d b m r k h n f g p c l q o =
     let Y = statements ys in
     let wanted = plain (equate_goal (conclusion_at R.1 (heads X)) (symbol R.0 (heads X)) (symbol R.0 (right_heads X Y))) in
     let there : AreSides s R.1.premises X Y = subst (λ ps. AreSides s ps X Y) (sym k.premises) p in
-    reasons true _ b m wanted Q (with_step e t) r refl
+    reasons true ((is_object_goal R.1.conclusion && are_arguments R.1.premises X) && start_all X Y) b m wanted Q (with_step e t) r refl
     (all_three (is_object_goal R.1.conclusion) (are_arguments R.1.premises X) (start_all X Y) d (sym (ap is_object_goal k.conclusion) ∙ sym h ∙ n)
     (f ∙ ap (λ ps. are_arguments ps X && start_all X Y) (sym k.premises)) g)
     (c ∙ ap (λ w. equal_statements e.statement (plain w)) (equated_is ts W x R s X Y k there) ∙ statements_back e.statement wanted)

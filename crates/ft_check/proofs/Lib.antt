@@ -31,3 +31,4 @@ mod Copied
 mod Started
 mod Congruent
 mod Moved
+mod Sided

@@ -1,5 +1,5 @@
 -- An argument for the next premise, moved along equations, and the reasons against that.
-use Rattle.std.proofs.Common.{◌≡◌, ℕ, zero, suc, ◌<◌, Bool, true, false, ◌&&◌, Option, Some, None, List, [], ◌∷◌, refl, sym, ap, ap₂, ◌∙◌, subst, length, take, drop, nat_lt, arith, IsTrue, ◌↔◌}
+use Rattle.std.proofs.Common.{◌≡◌, ℕ, zero, suc, ◌<◌, Bool, true, false, ◌&&◌, Option, Some, None, List, [], ◌∷◌, refl, sym, ap, ap₂, ◌∙◌, subst, length, take, drop, nat_lt, arith, IsTrue, ◌↔◌, IfSome}
 use Rattle.std.proofs.Math.Bool.{and_assoc, and_comm, and-false, and-true}
 use Rattle.std.proofs.lemmas.Bool.{le-ltb}
 use Rattle.std.specs.Prelude.{option_map}
@@ -16,11 +16,15 @@ use Rattle.ft_items.specs.Rows.{are_arguments, boundary_after, first_premises, m
 use Rattle.ft_items.specs.Good.{Reject as Reason, Premise as premise, Conclusion as conclusion, Set as set, reason_of_result, unless}
 use Rattle.ft_sound.proofs.EqualLemmas.{equal_back, by_equal}
 use Rattle.ft_syntax.specs.Instances.{instance_in}
-use Rattle.ft_syntax.specs.Table.{tree}
-use Rattle.ft_judge.specs.Meaning.{head_of_statement, head_of_claim as claim_head}
+use Rattle.ft_syntax.specs.Table.{tree, BodyBelow}
+use Rattle.ft_judge.specs.Meaning.{under, goal_in, boundary_in, head_of_statement, head_of_claim as claim_head}
+use Rattle.ft_judge.specs.declared.judgement.Goal.{Goal}
+use Rattle.ft_judge.specs.declared.judgement.Goal.TheVariants as goal
+use Rattle.ft_judge.specs.declared.judgement.Boundary.{Boundary as BoundaryValue}
 use Rattle.ft_check.specs.Arguing.{AreTheses, IsAfter, IsPut, boundary_next}
 use Rattle.ft_check.specs.Entries.{entry_in, with_step}
 use Rattle.ft_check.specs.Equations.{AreSides, converted, directed, same_head}
+use Rattle.ft_check.specs.Putting.{IsPutIn}
 use Rattle.ft_check.specs.declared.after.After.{After}
 use Rattle.ft_check.specs.declared.conversions.Way.{Way}
 use Rattle.ft_check.specs.declared.conversions.Way.TheVariants.{Forth, Back}
@@ -82,6 +86,10 @@ terms_same type_goal d u v C = refl
 terms_same (term_goal A) d u v C = refl
 terms_same (type_equation_goal A B) d u v C = refl
 terms_same (term_equation_goal s t A) d u v C = refl
+
+pub directed_below : (w : Way) (s : Sides) → IsPutIn s.left → IsPutIn s.right → IsPutIn (directed w s).left × IsPutIn (directed w s).right
+directed_below Forth s l r = (l, r)
+directed_below Back s l r = (r, l)
 
 -- what fits no goal
 unfit : {P : Type 0} → false ≡ true → P
@@ -174,6 +182,21 @@ statement_moved f g k (abstracted B b) (abstracted C x) (abstracted A y) h =
     and_assoc (equal_expressions C (g k B)) (fits x (map_statement g (suc k) b)) (same_head (head_of_statement x) (head_of_statement y))
     ∙ ap₂ ◌&&◌ (equal_back C (g k B)) (statement_moved f g (suc k) b x y (second (equal_expressions A (f k B)) (fits y (map_statement f (suc k) b)) h))
 
+-- the head of an entry
+goal_head : (ts : List Expression) (As : List ℕ) (g : Goal) → None ≡ head_of_statement (under ts As (plain (goal_in ts g)))
+goal_head ts (A ∷ As) g = goal_head ts As g
+goal_head ts [] goal.Ty = refl
+goal_head ts [] (goal.Tm A) = refl
+goal_head ts [] (goal.EqTy A B) = refl
+goal_head ts [] (goal.EqTm s t A) = refl
+
+pub boundary_head : (ts : List Expression) (b : BoundaryValue) (x : Statement) → x ≡ boundary_in ts b → None ≡ head_of_statement x
+boundary_head ts b x e = goal_head ts b.domains b.goal ∙ ap head_of_statement (sym e)
+
+pub body_some : (n : ℕ) (b : Option ℕ) → BodyBelow n b → IfSome b (λ e. e < n)
+body_some n None h = tt
+body_some n (Some e) h = h
+
 -- the heads of two entries
 pub no_first : (ts : List Expression) (o : Option ℕ) (h k : Option Expression) → o ≡ None → option_map (tree ts) o ≡ h → true ≡ same_head h k
 no_first ts o h k n e = ap (λ h. same_head h k) (sym (ap (option_map (tree ts)) n) ∙ e)
@@ -207,7 +230,7 @@ to_put Back s ps X Y h = h.left
 
 -- the boundary that comes after the first premises, at arguments
 bound_at : (ts : List Expression) (items : List Item) (x : After) (R : Rule) (ps : List ℕ) (xs : List Assertion) (a : Arguments) (k : IsAfter ts items x R (length ps)) → AreTheses items ps xs
-    → map_statement (λ k. instantiate (instance_of (premises_of k.declared) a)) zero (entry_in ts x.boundary).statement ≡ boundary_after R (statements xs) a
+    → map_statement (λ m. instantiate (instance_of (premises_of k.declared) a)) zero (entry_in ts x.boundary).statement ≡ boundary_after R (statements xs) a
 bound_at ts items x R ps xs a k h =
     let X = statements xs in
     let same : length ps ≡ length X = theses_length items ps xs h in

@@ -143,7 +143,7 @@ no_arguments ts items x R ps xs e t b k h f n =
     (f ∙ ap (λ qs. are_arguments qs (statements xs)) (are_first ts items x R ps xs k h))
 
 pub boundary_there : (ts : List Expression) (items : List Item) (x : After) (R : Rule) (ps : List ℕ) (xs : List Assertion) (k : IsAfter ts items x R (length ps)) → AreTheses items ps xs
-    → map_statement (λ k. instantiate (instance_of (premises_of k.declared) (heads (statements xs)))) zero (entry_in ts x.boundary).statement ≡ boundary_after R (statements xs) (heads (statements xs))
+    → map_statement (λ m. instantiate (instance_of (premises_of k.declared) (heads (statements xs)))) zero (entry_in ts x.boundary).statement ≡ boundary_after R (statements xs) (heads (statements xs))
 boundary_there ts items x R ps xs k h =
     let X = statements xs in
     let same : length ps ≡ length X = theses_length items ps xs h in

@@ -205,7 +205,11 @@ with_head x es b o h t e =
 abbrev pub rights : List Statement → List Statement → Option (List Argument)
 rights [] [] = Some []
 rights [] (e ∷ es) = None
-rights (x ∷ xs) es = option_and_then (λ (s : Argument × List Statement). option_map (λ as'. s.0 ∷ as') (rights xs s.1)) (right_and_rest x es)
+rights (x ∷ xs) es = option_and_then (λ (s : Argument × List Statement). option_map (λ (as' : List Argument). s.0 ∷ as') (rights xs s.1)) (right_and_rest x es)
+
+-- one more argument
+abbrev first_of : Argument → List Argument → List Argument
+first_of a as' = a ∷ as'
 
 some_map : {A B : Type 0} (f : A → B) (o : Option A) → is_some (option_map f o) ≡ is_some o
 some_map f None = refl
@@ -216,18 +220,18 @@ start_rights [] [] = refl
 start_rights [] (e ∷ es) = refl
 start_rights (x ∷ xs) [] = go (has_head x)
   where
-    go : (b : Bool) → is_some (option_and_then (λ (s : Argument × List Statement). option_map (λ as'. s.0 ∷ as') (rights xs s.1)) (cond b None (Some ((domain_count x, None), [])))) ≡ cond b false (start_all xs [])
+    go : (b : Bool) → is_some (option_and_then (λ (s : Argument × List Statement). option_map (λ (as' : List Argument). s.0 ∷ as') (rights xs s.1)) (cond b None (Some ((domain_count x, None), [])))) ≡ cond b false (start_all xs [])
     go true = refl
-    go false = some_map (λ as'. (domain_count x, None) ∷ as') (rights xs []) ∙ start_rights xs []
+    go false = some_map (first_of (domain_count x, None)) (rights xs []) ∙ start_rights xs []
 start_rights (x ∷ xs) (e ∷ es) = go (has_head x) (starts x e)
   where
-    go : (b d : Bool) → is_some (option_and_then (λ (s : Argument × List Statement). option_map (λ as'. s.0 ∷ as') (rights xs s.1)) (cond b (cond d (Some ((domain_count x, Some (right_head e)), es)) None) (Some ((domain_count x, None), e ∷ es))))
+    go : (b d : Bool) → is_some (option_and_then (λ (s : Argument × List Statement). option_map (λ (as' : List Argument). s.0 ∷ as') (rights xs s.1)) (cond b (cond d (Some ((domain_count x, Some (right_head e)), es)) None) (Some ((domain_count x, None), e ∷ es))))
         ≡ cond b (d && start_all xs es) (start_all xs (e ∷ es))
-    go true true = some_map (λ as'. (domain_count x, Some (right_head e)) ∷ as') (rights xs es) ∙ start_rights xs es
+    go true true = some_map (first_of (domain_count x, Some (right_head e))) (rights xs es) ∙ start_rights xs es
     go true false = refl
-    go false d = some_map (λ as'. (domain_count x, None) ∷ as') (rights xs (e ∷ es)) ∙ start_rights xs (e ∷ es)
+    go false d = some_map (first_of (domain_count x, None)) (rights xs (e ∷ es)) ∙ start_rights xs (e ∷ es)
 
-pushed : (a : Argument) (o : Option (List Argument)) (as' : List Argument) → option_map (λ as'. a ∷ as') o ≡ Some as' → (bs : List Argument) × (o ≡ Some bs) × (a ∷ bs ≡ as')
+pushed : (a : Argument) (o : Option (List Argument)) (as' : List Argument) → option_map (λ (as' : List Argument). a ∷ as') o ≡ Some as' → (bs : List Argument) × (o ≡ Some bs) × (a ∷ bs ≡ as')
 pushed a None as' h = none_some h
 pushed a (Some bs) as' h = (bs, refl, same_Some (a ∷ bs) as' h)
 
@@ -236,7 +240,7 @@ right_rights [] [] as' h = sym (ap as_arguments (same_Some [] as' h))
 right_rights [] (e ∷ es) as' h = none_some h
 right_rights (x ∷ xs) [] as' h = go (has_head x) h
   where
-    go : (b : Bool) → option_and_then (λ (s : Argument × List Statement). option_map (λ as'. s.0 ∷ as') (rights xs s.1)) (cond b None (Some ((domain_count x, None), []))) ≡ Some as'
+    go : (b : Bool) → option_and_then (λ (s : Argument × List Statement). option_map (λ (as' : List Argument). s.0 ∷ as') (rights xs s.1)) (cond b None (Some ((domain_count x, None), []))) ≡ Some as'
         → as_arguments as' ≡ dummy (domain_count x) (right_heads xs [])
     go true h = none_some h
     go false h =
@@ -244,7 +248,7 @@ right_rights (x ∷ xs) [] as' h = go (has_head x) h
         sym (ap as_arguments p.2) ∙ ap (dummy (domain_count x)) (right_rights xs [] p.0 p.1)
 right_rights (x ∷ xs) (e ∷ es) as' h = go (has_head x) (starts x e) h
   where
-    go : (b d : Bool) → option_and_then (λ (s : Argument × List Statement). option_map (λ as'. s.0 ∷ as') (rights xs s.1)) (cond b (cond d (Some ((domain_count x, Some (right_head e)), es)) None) (Some ((domain_count x, None), e ∷ es))) ≡ Some as'
+    go : (b d : Bool) → option_and_then (λ (s : Argument × List Statement). option_map (λ (as' : List Argument). s.0 ∷ as') (rights xs s.1)) (cond b (cond d (Some ((domain_count x, Some (right_head e)), es)) None) (Some ((domain_count x, None), e ∷ es))) ≡ Some as'
         → as_arguments as' ≡ cond b (with_body (domain_count x) (right_head e) (right_heads xs es)) (dummy (domain_count x) (right_heads xs (e ∷ es)))
     go true true h =
         let p = pushed (domain_count x, Some (right_head e)) (rights xs es) as' h in
@@ -259,16 +263,16 @@ pub record RightsSoFar (items : List Item) (ps es : List ℕ) (k used : ℕ) (ts
   pub within : used ≤ length es
   pub below : ArgumentsBelow (length ts) list
   pub going : (xs ys : List Assertion) → AreTheses items ps xs → AreTheses items es ys
-      → option_map (λ as'. map (argument_in ts) list ++ as') (rights (drop k (statements xs)) (drop used (statements ys))) ≡ rights (statements xs) (statements ys)
+      → option_map (λ (as' : List Argument). map (argument_in ts) list ++ as') (rights (drop k (statements xs)) (drop used (statements ys))) ≡ rights (statements xs) (statements ys)
 
-same_map : {A : Type 0} (o : Option (List A)) → option_map (λ as'. [] ++ as') o ≡ o
+same_map : (o : Option (List Argument)) → option_map (λ (as' : List Argument). [] ++ as') o ≡ o
 same_map None = refl
 same_map (Some x) = refl
 
 pub rights_start : (items : List Item) (ps es : List ℕ) (ts : List Expression) → RightsSoFar items ps es 0 0 ts []
 rights_start items ps es ts = record { within = omega arith; below = tt; going = λ xs ys h g. same_map (rights (statements xs) (statements ys)) }
 
-more_map : (zs : List Argument) (a : Argument) (o : Option (List Argument)) → option_map (λ as'. (zs ++ a ∷ []) ++ as') o ≡ option_map (λ as'. zs ++ as') (option_map (λ as'. a ∷ as') o)
+more_map : (zs : List Argument) (a : Argument) (o : Option (List Argument)) → option_map (λ (as' : List Argument). (zs ++ a ∷ []) ++ as') o ≡ option_map (λ (as' : List Argument). zs ++ as') (option_map (λ (as' : List Argument). a ∷ as') o)
 more_map zs a None = refl
 more_map zs a (Some bs) = ap Some (append_assoc zs (a ∷ []) bs)
 
@@ -282,10 +286,10 @@ rights_more items ps es k used p ts list new o x h l e f s u b z = subst (Rights
       going = λ xs ys q r.
           let one = standing items ps xs k p q l e in
           let there : Some (next_in ts (statements ys) x) ≡ right_and_rest one.one.statement (drop used (statements ys)) = sym (ap (option_map (next_in ts (statements ys))) s) ∙ f one.one ys one.is one.thesis r in
-          ap (λ zs. option_map (λ as'. zs ++ as') (rights (drop (k + 1) (statements xs)) (drop x.used (statements ys)))) (map-append (argument_in ts) list (x.argument ∷ []))
+          ap (λ zs. option_map (λ (as' : List Argument). zs ++ as') (rights (drop (k + 1) (statements xs)) (drop x.used (statements ys)))) (map-append (argument_in ts) list (x.argument ∷ []))
           ∙ more_map (map (argument_in ts) list) (argument_in ts x.argument) (rights (drop (k + 1) (statements xs)) (drop x.used (statements ys)))
-          ∙ ap (λ o. option_map (λ as'. map (argument_in ts) list ++ as') (option_and_then (λ (s : Argument × List Statement). option_map (λ as'. s.0 ∷ as') (rights (drop (k + 1) (statements xs)) s.1)) o)) there
-          ∙ ap (λ zs. option_map (λ as'. map (argument_in ts) list ++ as') (rights zs (drop used (statements ys)))) (sym one.rest)
+          ∙ ap (λ o. option_map (λ (as' : List Argument). map (argument_in ts) list ++ as') (option_and_then (λ (s : Argument × List Statement). option_map (λ (as' : List Argument). s.0 ∷ as') (rights (drop (k + 1) (statements xs)) s.1)) o)) there
+          ∙ ap (λ zs. option_map (λ (as' : List Argument). map (argument_in ts) list ++ as') (rights zs (drop used (statements ys)))) (sym one.rest)
           ∙ h.going xs ys q r;
     })
 
@@ -297,8 +301,8 @@ rights_not items ps es k used p ts list o xs ys h l e f s q r =
     let one = standing items ps xs k p q l e in
     let there : None ≡ right_and_rest one.one.statement (drop used (statements ys)) = sym (ap (option_map (next_in ts (statements ys))) s) ∙ f one.one ys one.is one.thesis r in
     let none : None ≡ rights (drop k (statements xs)) (drop used (statements ys)) =
-    ap (option_and_then (λ (s : Argument × List Statement). option_map (λ as'. s.0 ∷ as') (rights (drop (k + 1) (statements xs)) s.1))) there ∙ ap (λ zs. rights zs (drop used (statements ys))) (sym one.rest) in
-    ap is_some (ap (option_map (λ as'. map (argument_in ts) list ++ as')) none ∙ h.going xs ys q r) ∙ start_rights (statements xs) (statements ys)
+    ap (option_and_then (λ (s : Argument × List Statement). option_map (λ (as' : List Argument). s.0 ∷ as') (rights (drop (k + 1) (statements xs)) s.1))) there ∙ ap (λ zs. rights zs (drop used (statements ys))) (sym one.rest) in
+    ap is_some (ap (option_map (λ (as' : List Argument). map (argument_in ts) list ++ as')) none ∙ h.going xs ys q r) ∙ start_rights (statements xs) (statements ys)
 
 -- where equations are left over
 pub rights_over : (items : List Item) (ps es : List ℕ) (k used : ℕ) (ts : List Expression) (list : List Arg) (xs ys : List Assertion) → RightsSoFar items ps es k used ts list → length ps ≤ k → used < length es
@@ -306,14 +310,14 @@ pub rights_over : (items : List Item) (ps es : List ℕ) (k used : ℕ) (ts : Li
 rights_over items ps es k used ts list xs ys h l u q r =
     let one = standing items es ys used (get_or es used 0) r u refl in
     let none : None ≡ rights (drop k (statements xs)) (drop used (statements ys)) = sym (ap₂ rights (none_left items ps xs k q l) one.rest) in
-    ap is_some (ap (option_map (λ as'. map (argument_in ts) list ++ as')) none ∙ h.going xs ys q r) ∙ start_rights (statements xs) (statements ys)
+    ap is_some (ap (option_map (λ (as' : List Argument). map (argument_in ts) list ++ as')) none ∙ h.going xs ys q r) ∙ start_rights (statements xs) (statements ys)
 
 -- where all is done
 all_there : (items : List Item) (ps es : List ℕ) (k used : ℕ) (ts : List Expression) (list : List Arg) (xs ys : List Assertion) → RightsSoFar items ps es k used ts list → length ps ≤ k → length es ≤ used
     → AreTheses items ps xs → AreTheses items es ys → Some (map (argument_in ts) list) ≡ rights (statements xs) (statements ys)
 all_there items ps es k used ts list xs ys h l u q r =
     ap Some (sym (append-nil (map (argument_in ts) list)))
-    ∙ ap (option_map (λ as'. map (argument_in ts) list ++ as')) (sym (ap₂ rights (none_left items ps xs k q l) (none_left items es ys used r u)))
+    ∙ ap (option_map (λ (as' : List Argument). map (argument_in ts) list ++ as')) (sym (ap₂ rights (none_left items ps xs k q l) (none_left items es ys used r u)))
     ∙ h.going xs ys q r
 
 pub rights_all : (items : List Item) (ps es : List ℕ) (k used : ℕ) (ts : List Expression) (list : List Arg) (xs ys : List Assertion) → RightsSoFar items ps es k used ts list → length ps ≤ k → length es ≤ used

@@ -85,13 +85,14 @@ fn are_typed(
         (instantiate (instance_in sides.old.left.terms sides.old.left.instance.pairs)
         (tree terms.now ty.wanted)))) }
 {
-    if !sides.left.are_instances(terms, &[ty])? {
+    if !sides.left.has_instance(terms, ty)? {
         return Ok(false);
     }
     are_applied(sides, terms, r, a, b)
 }
 
 // Whether the form is the equation between the symbol at both sides, at the instance of the rule's goal at the left one.
+#[tactic(auto, using(crate::proofs::Congruent::no_equated))]
 fn is_equated(
     sides: &mut Sides,
     terms: &Terms,
@@ -120,6 +121,7 @@ fn is_equated(
 }
 
 // Whether the entry is that equation.
+#[tactic(auto, using(crate::proofs::Congruent::boundary_no_equation, crate::proofs::Congruent::thesis_congruent, crate::proofs::Congruent::thesis_not_congruent))]
 fn is_congruence(
     sides: &mut Sides,
     terms: &Terms,
@@ -191,8 +193,9 @@ fn check_congruence(
         return Ok(Some(Reject::Premise));
     };
     let is_concluded = is_congruence(&mut sides, items.terms(), found, rule)?;
-    let set = union_of_two(alloc, items, i, ps, es)?;
-    Ok(against_result(is_concluded, is_same_set(&set, found.set())))
+    let whole = union_of_two(alloc, items, i, ps, es)?;
+    let stated = found.set();
+    Ok(against_result(is_concluded, is_same_set(&whole, stated)))
 }
 
 /// The reason against an entry as the rule's symbol at arguments that equal the right sides of equations.

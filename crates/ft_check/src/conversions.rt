@@ -79,6 +79,7 @@ fn fits_at(
 }
 
 // The head of a thesis that has one.
+#[tactic(auto, using(crate::proofs::HeadsPut::head_below, crate::proofs::Moved::body_some))]
 fn head_in(x: Entry<'_>) -> Option<E>
     ensures is { (ts : List Expression)
         → option_map (tree ts) result
@@ -93,6 +94,7 @@ fn head_in(x: Entry<'_>) -> Option<E>
 }
 
 // Whether the second thesis has a head where the first has one, and it is the same.
+#[tactic(auto, using(crate::proofs::Moved::no_first, crate::proofs::Moved::no_second, crate::proofs::Moved::both_heads))]
 fn has_same_head(terms: &Terms, x: Entry<'_>, y: Entry<'_>) -> bool
     requires x { EntryBelow (length terms.now) x }
     requires y { EntryBelow (length terms.now) y }
@@ -204,8 +206,9 @@ fn check_moved(
         after.boundary,
         moved,
     )?;
-    let set = union_moved(alloc, items, i, ps, es, moved)?;
-    Ok(against_result(is_concluded, is_same_set(&set, found.set())))
+    let whole = union_moved(alloc, items, i, ps, es, moved)?;
+    let stated = found.set();
+    Ok(against_result(is_concluded, is_same_set(&whole, stated)))
 }
 
 /// The reason against a thesis as entry `q`, an argument for the premise of the rule `r` after those before it, moved that way

@@ -225,4 +225,21 @@ impl Put {
     {
         is_symbol(&mut self.terms, &self.arguments, terms, r, found)
     }
+
+    /// Whether the expression that is found is the instance of the one that is wanted.
+    #[tactic(auto, using(ft_syntax::specs::Laws::pairs_below_extends, ft_syntax::specs::Laws::instance_extends, ft_syntax::specs::Laws::arguments_below_extends, crate::proofs::HeadsPut::arguments_stay))]
+    pub fn has_instance(&mut self, terms: &Terms, p: Compared) -> Result<bool, Memory>
+        requires compared { (p.found < length terms.now) × (p.wanted < length terms.now) }
+        requires below { IsPutIn self.old }
+        ensures is { IfOk result (λ yes. yes ≡ equal_expressions (tree terms.now p.found)
+            (instantiate (instance_in self.old.terms self.old.instance.pairs)
+            (tree terms.now p.wanted))) }
+        ensures below { IsPutIn self.new }
+        ensures instance { instance_in self.new.terms self.new.instance.pairs
+            ≡ instance_in self.old.terms self.old.instance.pairs }
+        ensures arguments { arguments_in self.new.terms self.new.arguments.items
+            ≡ arguments_in self.old.terms self.old.arguments.items }
+    {
+        is_instance(&mut self.terms, &self.instance, terms, p)
+    }
 }

@@ -123,8 +123,9 @@ fn check_next(
         return Ok(Some(Reject::Premise));
     };
     let is_concluded = is_bound(alloc, &mut put, items.terms(), found, after.boundary)?;
-    let set = union_of(alloc, items, i, ps)?;
-    Ok(against_result(is_concluded, is_same_set(&set, found.set())))
+    let whole = union_of(alloc, items, i, ps)?;
+    let stated = found.set();
+    Ok(against_result(is_concluded, is_same_set(&whole, stated)))
 }
 
 /// The reason against a boundary as that of the rule `r` after arguments for its first premises.

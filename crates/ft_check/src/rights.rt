@@ -21,6 +21,7 @@ use ft_syntax::{Arg, E, Terms};
 use std::alloc::Global;
 
 // Whether the entry `e` is an equation whose left side is the head of the entry `x`, at its type and under the same domains.
+#[tactic(auto, using(crate::proofs::Started::no_left, crate::proofs::Started::left_there))]
 fn starts(terms: &Terms, x: Entry<'_>, e: Entry<'_>) -> bool
     requires x { EntryBelow (length terms.now) x }
     requires e { EntryBelow (length terms.now) e }
@@ -38,6 +39,7 @@ fn starts(terms: &Terms, x: Entry<'_>, e: Entry<'_>) -> bool
 }
 
 // The right side of an equation.
+#[tactic(auto, using(crate::proofs::Started::right_is, crate::proofs::Started::no_equation))]
 fn right_of(x: &Thesis) -> Option<E>
     ensures is { (ts : List Expression) → IfSome result (λ b. tree ts b ≡ right_head (thesis_in ts x.now)) }
     ensures there { (ts : List Expression) (y : Statement)
@@ -79,6 +81,7 @@ pub struct Next {
 }
 
 // The argument in the place of a thesis with a head, of which the next equation is to tell the right side.
+#[tactic(auto, using(crate::proofs::Started::taken_none, crate::proofs::Started::taken_not, crate::proofs::Started::taken_some))]
 fn right_at(
     items: &StatedItems,
     i: u64,
@@ -112,6 +115,7 @@ fn right_at(
 }
 
 // The argument in the place of the thesis `p`: the right side of the next equation, or a dummy where it has no head.
+#[tactic(auto, using(crate::proofs::Started::thesis_depth, crate::proofs::Started::thesis_head, crate::proofs::Started::without_head, crate::proofs::Started::with_head))]
 fn next_right(items: &StatedItems, i: u64, p: u64, es: &[u64], used: usize) -> Option<Next>
     requires { used ≤ length es.now }
     ensures next { (a : Assertion) (ys : List Assertion)
@@ -142,6 +146,7 @@ fn next_right(items: &StatedItems, i: u64, p: u64, es: &[u64], used: usize) -> O
 }
 
 /// The right sides of equations that start at the theses' heads, one for each head, or None where the equations are no such.
+#[tactic(auto, using(crate::proofs::Started::rights_start, crate::proofs::Started::rights_over, crate::proofs::Started::rights_all, crate::proofs::Started::rights_are))]
 pub fn rights_of(
     alloc: Global,
     items: &StatedItems,

@@ -218,18 +218,20 @@ some_map f (Some x) = refl
 pub start_rights : (xs es : List Statement) → is_some (rights xs es) ≡ start_all xs es
 start_rights [] [] = refl
 start_rights [] (e ∷ es) = refl
-start_rights (x ∷ xs) [] = go (has_head x)
+start_rights (x ∷ xs) [] = go (has_head x) (start_rights xs [])
   where
-    go : (b : Bool) → is_some (option_and_then (λ (s : Argument × List Statement). option_map (λ (as' : List Argument). s.0 ∷ as') (rights xs s.1)) (cond b None (Some ((domain_count x, None), [])))) ≡ cond b false (start_all xs [])
-    go true = refl
-    go false = some_map (first_of (domain_count x, None)) (rights xs []) ∙ start_rights xs []
-start_rights (x ∷ xs) (e ∷ es) = go (has_head x) (starts x e)
+    go : (b : Bool) → is_some (rights xs []) ≡ start_all xs []
+        → is_some (option_and_then (λ (s : Argument × List Statement). option_map (λ (as' : List Argument). s.0 ∷ as') (rights xs s.1)) (cond b None (Some ((domain_count x, None), [])))) ≡ cond b false (start_all xs [])
+    go true h = refl
+    go false h = some_map (first_of (domain_count x, None)) (rights xs []) ∙ h
+start_rights (x ∷ xs) (e ∷ es) = go (has_head x) (starts x e) (start_rights xs es) (start_rights xs (e ∷ es))
   where
-    go : (b d : Bool) → is_some (option_and_then (λ (s : Argument × List Statement). option_map (λ (as' : List Argument). s.0 ∷ as') (rights xs s.1)) (cond b (cond d (Some ((domain_count x, Some (right_head e)), es)) None) (Some ((domain_count x, None), e ∷ es))))
+    go : (b d : Bool) → is_some (rights xs es) ≡ start_all xs es → is_some (rights xs (e ∷ es)) ≡ start_all xs (e ∷ es)
+        → is_some (option_and_then (λ (s : Argument × List Statement). option_map (λ (as' : List Argument). s.0 ∷ as') (rights xs s.1)) (cond b (cond d (Some ((domain_count x, Some (right_head e)), es)) None) (Some ((domain_count x, None), e ∷ es))))
         ≡ cond b (d && start_all xs es) (start_all xs (e ∷ es))
-    go true true = some_map (first_of (domain_count x, Some (right_head e))) (rights xs es) ∙ start_rights xs es
-    go true false = refl
-    go false d = some_map (first_of (domain_count x, None)) (rights xs (e ∷ es)) ∙ start_rights xs (e ∷ es)
+    go true true h k = some_map (first_of (domain_count x, Some (right_head e))) (rights xs es) ∙ h
+    go true false h k = refl
+    go false d h k = some_map (first_of (domain_count x, None)) (rights xs (e ∷ es)) ∙ k
 
 pushed : (a : Argument) (o : Option (List Argument)) (as' : List Argument) → option_map (λ (as' : List Argument). a ∷ as') o ≡ Some as' → (bs : List Argument) × (o ≡ Some bs) × (a ∷ bs ≡ as')
 pushed a None as' h = none_some h
@@ -238,25 +240,28 @@ pushed a (Some bs) as' h = (bs, refl, same_Some (a ∷ bs) as' h)
 pub right_rights : (xs es : List Statement) (as' : List Argument) → rights xs es ≡ Some as' → as_arguments as' ≡ right_heads xs es
 right_rights [] [] as' h = sym (ap as_arguments (same_Some [] as' h))
 right_rights [] (e ∷ es) as' h = none_some h
-right_rights (x ∷ xs) [] as' h = go (has_head x) h
+right_rights (x ∷ xs) [] as' h = go (has_head x) (right_rights xs []) h
   where
-    go : (b : Bool) → option_and_then (λ (s : Argument × List Statement). option_map (λ (as' : List Argument). s.0 ∷ as') (rights xs s.1)) (cond b None (Some ((domain_count x, None), []))) ≡ Some as'
+    go : (b : Bool) → ((bs : List Argument) → rights xs [] ≡ Some bs → as_arguments bs ≡ right_heads xs [])
+        → option_and_then (λ (s : Argument × List Statement). option_map (λ (as' : List Argument). s.0 ∷ as') (rights xs s.1)) (cond b None (Some ((domain_count x, None), []))) ≡ Some as'
         → as_arguments as' ≡ dummy (domain_count x) (right_heads xs [])
-    go true h = none_some h
-    go false h =
+    go true f h = none_some h
+    go false f h =
         let p = pushed (domain_count x, None) (rights xs []) as' h in
-        sym (ap as_arguments p.2) ∙ ap (dummy (domain_count x)) (right_rights xs [] p.0 p.1)
-right_rights (x ∷ xs) (e ∷ es) as' h = go (has_head x) (starts x e) h
+        sym (ap as_arguments p.2) ∙ ap (dummy (domain_count x)) (f p.0 p.1)
+right_rights (x ∷ xs) (e ∷ es) as' h = go (has_head x) (starts x e) (right_rights xs es) (right_rights xs (e ∷ es)) h
   where
-    go : (b d : Bool) → option_and_then (λ (s : Argument × List Statement). option_map (λ (as' : List Argument). s.0 ∷ as') (rights xs s.1)) (cond b (cond d (Some ((domain_count x, Some (right_head e)), es)) None) (Some ((domain_count x, None), e ∷ es))) ≡ Some as'
+    go : (b d : Bool) → ((bs : List Argument) → rights xs es ≡ Some bs → as_arguments bs ≡ right_heads xs es)
+        → ((bs : List Argument) → rights xs (e ∷ es) ≡ Some bs → as_arguments bs ≡ right_heads xs (e ∷ es))
+        → option_and_then (λ (s : Argument × List Statement). option_map (λ (as' : List Argument). s.0 ∷ as') (rights xs s.1)) (cond b (cond d (Some ((domain_count x, Some (right_head e)), es)) None) (Some ((domain_count x, None), e ∷ es))) ≡ Some as'
         → as_arguments as' ≡ cond b (with_body (domain_count x) (right_head e) (right_heads xs es)) (dummy (domain_count x) (right_heads xs (e ∷ es)))
-    go true true h =
+    go true true f g h =
         let p = pushed (domain_count x, Some (right_head e)) (rights xs es) as' h in
-        sym (ap as_arguments p.2) ∙ ap (with_body (domain_count x) (right_head e)) (right_rights xs es p.0 p.1)
-    go true false h = none_some h
-    go false d h =
+        sym (ap as_arguments p.2) ∙ ap (with_body (domain_count x) (right_head e)) (f p.0 p.1)
+    go true false f g h = none_some h
+    go false d f g h =
         let p = pushed (domain_count x, None) (rights xs (e ∷ es)) as' h in
-        sym (ap as_arguments p.2) ∙ ap (dummy (domain_count x)) (right_rights xs (e ∷ es) p.0 p.1)
+        sym (ap as_arguments p.2) ∙ ap (dummy (domain_count x)) (g p.0 p.1)
 
 -- The first k theses have their arguments, from the first equations.
 pub record RightsSoFar (items : List Item) (ps es : List ℕ) (k used : ℕ) (ts : List Expression) (list : List Arg) : Type 0 where

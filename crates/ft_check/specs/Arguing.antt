@@ -62,7 +62,8 @@ pub record IsNext (ts : List Expression) (e : Entry) (R : Rule) (n : ℕ) : Type
   pub kind : is_thesis (entry_in ts e).statement ≡ false
 
 -- What is read is what the rule has after its first n premises: these, the boundary then, and whether it is that of a premise.
-pub record IsAfter (ts : List Expression) (items : List Item) (x : After) (R : Rule) (n : ℕ) : Type 0 where
+pub record IsAfter (ts : List Expression) (items : List Item) (x : After) (R : Rule) (n : ℕ)
+    : Type 0 where
   pub declared : List (ℕ × Declared)
   pub are : AreDeclared items x.metavariables.now declared
   pub premises : take n R.premises ≡ premises_of declared

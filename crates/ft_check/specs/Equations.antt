@@ -52,5 +52,7 @@ same_head (Some e) (Some h) = equal_expressions e h
 
 -- the equation between the rule's symbol at the arguments of each side, at the rule's goal at those of the left one
 abbrev pub equated : List Expression → Sides → RuleAt → Claim
-equated ts s r = equate_goal (map_claim (instantiate (instance_in s.left.terms s.left.instance.pairs)) (goal_in ts r.goal))
-    (symbol r.symbol (arguments_in s.left.terms s.left.arguments.items)) (symbol r.symbol (arguments_in s.right.terms s.right.arguments.items))
+equated ts s r =
+    equate_goal (map_claim (instantiate (instance_in s.left.terms s.left.instance.pairs)) (goal_in ts r.goal))
+    (symbol r.symbol (arguments_in s.left.terms s.left.arguments.items))
+    (symbol r.symbol (arguments_in s.right.terms s.right.arguments.items))

@@ -41,7 +41,8 @@ fn starts(terms: &Terms, x: Entry<'_>, e: Entry<'_>) -> bool
 // The right side of an equation.
 #[tactic(auto, using(crate::proofs::Started::right_is, crate::proofs::Started::no_equation))]
 fn right_of(x: &Thesis) -> Option<E>
-    ensures is { (ts : List Expression) → IfSome result (λ b. tree ts b ≡ right_head (thesis_in ts x.now)) }
+    ensures is { (ts : List Expression)
+        → IfSome result (λ b. tree ts b ≡ right_head (thesis_in ts x.now)) }
     ensures there { (ts : List Expression) (y : Statement)
         → starts_at y (thesis_in ts x.now) ≡ true → is_some result ≡ true }
     ensures below { (n : ℕ) → ThesisBelow n x.now → IfSome result (λ b. b < n) }
@@ -58,7 +59,8 @@ fn right_from(terms: &Terms, x: Entry<'_>, e: Entry<'_>) -> Option<E>
     requires x { EntryBelow (length terms.now) x }
     requires e { EntryBelow (length terms.now) e }
     ensures is { is_thesis (entry_in terms.now e.entry).statement ≡ true
-        → IfSome result (λ b. tree terms.now b ≡ right_head (entry_in terms.now e.entry).statement) }
+        → IfSome result (λ b. tree terms.now b
+        ≡ right_head (entry_in terms.now e.entry).statement) }
     ensures there { is_thesis (entry_in terms.now e.entry).statement ≡ true
         → is_some result ≡ starts_at (entry_in terms.now x.entry).statement
         (entry_in terms.now e.entry).statement }
@@ -104,7 +106,9 @@ fn right_at(
         return None;
     }
     let e = entry_before(items, i, es[used])?;
-    let body = right_from(items.terms(), x, e)?;
+    let Some(body) = right_from(items.terms(), x, e) else {
+        return None;
+    };
     Some(Next {
         argument: Arg {
             binders,
@@ -161,7 +165,8 @@ pub fn rights_of(
         → AreTheses (take i items.now.items) es.now ys
         → IfOk result (λ o. IfSome o (λ l. arguments_in items.now.trees l.items
         ≡ right_heads (statements xs) (statements ys))) }
-    ensures below { IfOk result (λ o. IfSome o (λ l. ArgumentsBelow (length items.now.trees) l.items)) }
+    ensures below { IfOk result (λ o. IfSome o (λ l.
+        ArgumentsBelow (length items.now.trees) l.items)) }
 {
     let mut list = Vec::new(alloc);
     let mut used = 0;
@@ -169,8 +174,10 @@ pub fn rights_of(
         match next_right(items, i, ps[k], es, used) {
             None => return Ok(None),
             Some(next) => {
-                list.push(next.argument)?;
-                used = next.used;
+                let later = next.used;
+                let Arg { binders, body } = next.argument;
+                list.push(Arg { binders, body })?;
+                used = later;
             }
         }
     }

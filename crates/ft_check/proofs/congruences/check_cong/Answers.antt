@@ -10,4 +10,4 @@ pub returns-in-Some : goal.returns-in-Some
 returns-in-Some c = λ R xs ys t g e q u.
     c.check_congruence.ensures R xs ys t g (c.in-Some.ensures.is R g e)
     (subst (λ ps. AreTheses (take c.args.i c.args.items.now.items) ps xs) (sym c.items.ensures) q)
-    (subst (λ ps. AreTheses (take c.args.i c.args.items.now.items) ps ys) (sym c.items-2.ensures) u)
+    (subst (λ ps. AreTheses (take c.args.i c.args.items.now.items) ps ys) (sym c.items-in-Some.ensures) u)

@@ -9,8 +9,9 @@ use Rattle.ft_syntax.specs.Instances.{instance_in}
 use Rattle.ft_judge.specs.Meaning.{head_of_statement}
 use Rattle.ft_check.specs.Entries.{entry_in, with_step}
 use Rattle.ft_check.specs.Equations.{AreSides, directed, same_head}
+use Rattle.ft_check.specs.Putting.{IsPutIn}
 use Rattle.ft_check.specs.declared.sides.Sides.{Sides}
-use Rattle.ft_check.proofs.Moved.{moved_judged, no_sides_moved, unfit_moved}
+use Rattle.ft_check.proofs.Moved.{directed_below, moved_judged, no_sides_moved, unfit_moved}
 use Rattle.ft_check.proofs.conversions.check_moved.Goals as goal
 
 pub returns-in_default : goal.returns-in_default
@@ -55,3 +56,13 @@ returns c = λ R xs ys t k p q u m f.
     (concluded ∙ ap (λ (s : Sides). fits (entry_in T c.args.found).statement (map_statement (λ n. instantiate (instance_in s.right.terms s.right.instance.pairs)) zero (entry_in T c.args.after.now.boundary).statement)
     && same_head (head_of_statement (entry_in T c.args.found).statement) (head_of_statement (entry_in T c.args.moved).statement)) c.directed-between.ensures)
     (c.in_ok-whole.ensures xs ys q u) (c.is_same_set.ensures ∙ ap (same_set _) (c.set-stated.ensures T)) c.against_result.ensures
+
+pub fits_at-requires-clause-below : goal.fits_at-requires-clause-below
+fits_at-requires-clause-below c =
+    let both : IsPutIn c.in-Some.sides.left × IsPutIn c.in-Some.sides.right = subst (λ o. IfSome o (λ s. IsPutIn s.left × IsPutIn s.right)) c.in-Some.is c.in_ok-sides.ensures.below in
+    subst (λ (s : Sides). IsPutIn s.left) (sym c.directed-between.ensures) (directed_below c.args.way c.in-Some.sides both.0 both.1).0
+
+pub is_refilled-requires-clause-below : goal.is_refilled-requires-clause-below
+is_refilled-requires-clause-below c =
+    let both : IsPutIn c.in-Some.sides.left × IsPutIn c.in-Some.sides.right = subst (λ o. IfSome o (λ s. IsPutIn s.left × IsPutIn s.right)) c.in-Some.is c.in_ok-sides.ensures.below in
+    subst (λ (s : Sides). IsPutIn s.right) (sym c.directed-between.ensures) (directed_below c.args.way c.in-Some.sides both.0 both.1).1

@@ -21,15 +21,15 @@ returns-in_err-e-clause-next c = λ ys h m.
     let s = standing (take c.args.i c.args.items.now.items) c.args.es.now ys c.args.used _ h lt refl in
     none_some (sym (ap (option_map (entry_in c.args.items.now.trees)) c.in_err-e.was) ∙ c.entry_before.ensures.entry ∙ s.is)
 
-pub returns-in_err-body-clause-next : goal.returns-in_err-body-clause-next
-returns-in_err-body-clause-next c = λ ys h m.
+pub returns-in_default-clause-next : goal.returns-in_default-clause-next
+returns-in_default-clause-next c = λ ys h m.
     let T = c.args.items.now.trees in
     let lt : c.args.used < length c.args.es.now = search rules in
     let s = standing (take c.args.i c.args.items.now.items) c.args.es.now ys c.args.used _ h lt refl in
     let same = same_Some (entry_in T c.in_ok-e.e) s.one (sym (ap (option_map (entry_in T)) c.in_ok-e.was) ∙ c.entry_before.ensures.entry ∙ s.is) in
     let thesis : is_thesis (entry_in T c.in_ok-e.e).statement ≡ true = ap (λ (a : Assertion). is_thesis a.statement) same ∙ s.thesis in
     let there = subst (λ ts. is_thesis (entry_in ts c.in_ok-e.e).statement ≡ true → is_some c.right_from.result ≡ starts (entry_in ts c.args.x).statement (entry_in ts c.in_ok-e.e).statement) c.terms.ensures c.right_from.ensures.there thesis in
-    taken_not (entry_in T c.args.x).statement s.one.statement _ _ _ s.rest (there ∙ ap (λ (a : Assertion). starts (entry_in T c.args.x).statement a.statement) same) (ap is_some c.in_err-body.was)
+    taken_not (entry_in T c.args.x).statement s.one.statement _ _ _ s.rest (there ∙ ap (λ (a : Assertion). starts (entry_in T c.args.x).statement a.statement) same) (ap is_some c.in_default.is)
 
 pub returns-clause-next : goal.returns-clause-next
 returns-clause-next c = λ ys h m.
@@ -39,6 +39,6 @@ returns-clause-next c = λ ys h m.
     let same = same_Some (entry_in T c.in_ok-e.e) s.one (sym (ap (option_map (entry_in T)) c.in_ok-e.was) ∙ c.entry_before.ensures.entry ∙ s.is) in
     let thesis : is_thesis (entry_in T c.in_ok-e.e).statement ≡ true = ap (λ (a : Assertion). is_thesis a.statement) same ∙ s.thesis in
     let there = subst (λ ts. is_thesis (entry_in ts c.in_ok-e.e).statement ≡ true → is_some c.right_from.result ≡ starts (entry_in ts c.args.x).statement (entry_in ts c.in_ok-e.e).statement) c.terms.ensures c.right_from.ensures.there thesis in
-    let side = subst (λ ts. is_thesis (entry_in ts c.in_ok-e.e).statement ≡ true → tree ts c.in_ok-body.body ≡ right_head (entry_in ts c.in_ok-e.e).statement) c.terms.ensures c.in_ok-body.ensures.is thesis in
-    taken_some (entry_in T c.args.x).statement s.one.statement _ _ _ _ _ s.rest (there ∙ ap (λ (a : Assertion). starts (entry_in T c.args.x).statement a.statement) same) (ap is_some c.in_ok-body.was) m
+    let side = subst (λ ts. is_thesis (entry_in ts c.in_ok-e.e).statement ≡ true → tree ts c.in-Some.body ≡ right_head (entry_in ts c.in_ok-e.e).statement) c.terms.ensures c.in-Some.ensures.is thesis in
+    taken_some (entry_in T c.args.x).statement s.one.statement _ _ _ _ _ s.rest (there ∙ ap (λ (a : Assertion). starts (entry_in T c.args.x).statement a.statement) same) (ap is_some c.in-Some.is) m
     (side ∙ ap (λ (a : Assertion). right_head a.statement) same)

@@ -19,3 +19,9 @@ returns-in-Some c = λ h.
     left_there (entry_in T c.args.x).statement (entry_in T c.args.e).statement (statement_in T c.in-Some.left) _
     (sym (ap (option_map (statement_in T)) c.in-Some.is) ∙ c.from_one.ensures.is T ∙ ap (under_domains left_side) (c.parts.ensures.is T))
     (c.is_same.ensures ∙ ap (λ z. equal_statements z (statement_in T c.in-Some.left)) (c.parts-stated.ensures.is T)) h
+
+pub is_same-requires-clause-x : goal.is_same-requires-clause-x
+is_same-requires-clause-x c = c.parts-stated.ensures.below (length c.args.terms.now) c.requires.x
+
+pub is_same-requires-clause-y : goal.is_same-requires-clause-y
+is_same-requires-clause-y c = c.in-Some.ensures.below (length c.args.terms.now) (c.parts.ensures.below (length c.args.terms.now) c.requires.e)

@@ -32,3 +32,4 @@ mod Started
 mod Congruent
 mod Moved
 mod Sided
+mod StepsAtRules

@@ -14,7 +14,10 @@ ghost use Rattle.ft_check.specs.Rejects.{reason_of};
 
 use crate::binding::{By, check_abs, check_subst, check_var};
 use crate::boundaries::check_btype;
+use crate::congruences::check_cong;
+use crate::conversions::{Way, check_conv};
 use crate::entry::Entry;
+use crate::next_boundary::check_inst;
 use crate::parted::{check_from_one, check_from_three, check_from_two};
 use crate::reject::Reject;
 use crate::rules_at::{check_applied, check_applied_with};
@@ -59,6 +62,14 @@ fn check_result(
         StatedStep::Beqtm(p, s, t) => check_from_three(items, i, found, *p, *s, *t),
         StatedStep::Rule(r, ps) => check_applied(alloc, items, i, found, *r, ps),
         StatedStep::Rulewith(r, b, ps) => { check_applied_with(alloc, items, i, found, *r, *b, ps) }
+        StatedStep::Inst(r, ps) => check_inst(alloc, items, i, found, *r, ps),
+        StatedStep::Cong(r, ps, es) => check_cong(alloc, items, i, found, *r, ps, es),
+        StatedStep::Convprem(r, ps, es, q) => {
+            check_conv(alloc, items, i, found, Way::Forth, *r, ps, es, *q)
+        }
+        StatedStep::Convback(r, ps, es, q) => {
+            check_conv(alloc, items, i, found, Way::Back, *r, ps, es, *q)
+        }
         _ => Ok(Some(Reject::Premise)),
     }
 }

@@ -5,6 +5,8 @@ use Rattle.ft_items.specs.Store.{store_of, entry_named, variable_named, resolve,
 use Rattle.ft_stated.specs.Steps.{stated_step}
 use Rattle.ft_check.specs.Entries.{entry_in}
 use Rattle.ft_check.proofs.Entering.{btype_result, one_checked, one_result, two_result, three_result, unbuilt_result, rule_result, rulewith_result}
+use Rattle.ft_check.specs.declared.conversions.Way.TheVariants.{Forth, Back}
+use Rattle.ft_check.proofs.StepsAtRules.{inst_result, cong_result, conv_result}
 use Rattle.ft_check.proofs.item.check_result.Goals as goal
 
 pub returns-in-Var : goal.returns-in-Var
@@ -90,6 +92,22 @@ pub returns-in-Rulewith : goal.returns-in-Rulewith
 returns-in-Rulewith c = λ s g q k. rulewith_result (store_of (take c.args.i c.args.items.now.items)) c.args.step.now c.in-Rulewith.r c.in-Rulewith.b c.in-Rulewith.ps (entry_in c.args.items.now.trees c.args.found) c.check_applied_with.result (is_thesis (entry_in c.args.items.now.trees c.args.found).statement) s c.in-Rulewith.is q k
     (λ R b given f m n e a. c.check_applied_with.ensures R b given (stated_step c.args.step.now) g f m n e a)
 
+pub returns-in-Inst : goal.returns-in-Inst
+returns-in-Inst c = λ s g q k. inst_result (take c.args.i c.args.items.now.items) c.args.step.now c.in-Inst.r c.in-Inst.ps (entry_in c.args.items.now.trees c.args.found) c.check_inst.result s c.in-Inst.is q k
+    (λ R xs f h o. c.check_inst.ensures R xs (stated_step c.args.step.now) g f h o)
+
+pub returns-in-Cong : goal.returns-in-Cong
+returns-in-Cong c = λ s g q k. cong_result (take c.args.i c.args.items.now.items) c.args.step.now c.in-Cong.r c.in-Cong.ps c.in-Cong.es (entry_in c.args.items.now.trees c.args.found) c.check_cong.result _ s c.in-Cong.is q k
+    (λ R xs ys f h o. c.check_cong.ensures R xs ys (stated_step c.args.step.now) g f h o)
+
+pub returns-in-Convprem : goal.returns-in-Convprem
+returns-in-Convprem c = λ s g q k. conv_result Forth (take c.args.i c.args.items.now.items) c.args.step.now c.in-Convprem.r c.in-Convprem.q c.in-Convprem.ps c.in-Convprem.es (entry_in c.args.items.now.trees c.args.found) c.check_conv.result s (ap (λ t. resolve (store_of (take c.args.i c.args.items.now.items)) (stated_step t)) c.in-Convprem.is) q k
+    (λ R xs ys d f h o e m n. c.check_conv.ensures R xs ys d (stated_step c.args.step.now) g f h o e m n)
+
+pub returns-in-Convback : goal.returns-in-Convback
+returns-in-Convback c = λ s g q k. conv_result Back (take c.args.i c.args.items.now.items) c.args.step.now c.in-Convback.r c.in-Convback.q c.in-Convback.ps c.in-Convback.es (entry_in c.args.items.now.trees c.args.found) c.check_conv-in-Convback.result s (ap (λ t. resolve (store_of (take c.args.i c.args.items.now.items)) (stated_step t)) c.in-Convback.is) q k
+    (λ R xs ys d f h o e m n. c.check_conv-in-Convback.ensures R xs ys d (stated_step c.args.step.now) g f h o e m n)
+
 pub returns-in_default : goal.returns-in_default
 returns-in_default c = λ s g q k. unbuilt_result (store_of (take c.args.i c.args.items.now.items)) c.args.step.now (entry_in c.args.items.now.trees c.args.found) s q
-    c.in_default.not-Var c.in_default.not-Abs c.in_default.not-Subst c.in_default.not-Substeq c.in_default.not-Refl c.in_default.not-Sym c.in_default.not-Trans c.in_default.not-Conv c.in_default.not-Conveq c.in_default.not-Left c.in_default.not-Right c.in_default.not-Typeof c.in_default.not-Domain c.in_default.not-Boundary c.in_default.not-Widen c.in_default.not-Btype c.in_default.not-Bterm c.in_default.not-Beqty c.in_default.not-Beqtm c.in_default.not-Rule c.in_default.not-Rulewith
+    c.in_default.not-Var c.in_default.not-Abs c.in_default.not-Subst c.in_default.not-Substeq c.in_default.not-Refl c.in_default.not-Sym c.in_default.not-Trans c.in_default.not-Conv c.in_default.not-Conveq c.in_default.not-Left c.in_default.not-Right c.in_default.not-Typeof c.in_default.not-Domain c.in_default.not-Boundary c.in_default.not-Widen c.in_default.not-Btype c.in_default.not-Bterm c.in_default.not-Beqty c.in_default.not-Beqtm c.in_default.not-Rule c.in_default.not-Rulewith c.in_default.not-Inst c.in_default.not-Cong c.in_default.not-Convprem c.in_default.not-Convback

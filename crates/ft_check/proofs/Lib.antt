@@ -25,3 +25,5 @@ mod Applies
 mod Compares
 mod PutTogether
 mod HeadsPut
+mod MetavariableRead
+mod SidesFound

@@ -7,3 +7,6 @@ pub mod Putting
 pub mod Applying
 pub mod Typing
 pub mod Substituting
+pub mod Earlier
+pub mod Judging
+pub mod Declared

@@ -24,8 +24,8 @@ use ft_base::Memory;
 use ft_stated::{Numbers, StatedItems};
 use std::alloc::Global;
 
-// The sets of these entries, together.
-fn union_of(alloc: Global, items: &StatedItems, i: u64, ps: &[u64]) -> Result<Assume, Memory>
+/// The sets of these entries, together.
+pub fn union_of(alloc: Global, items: &StatedItems, i: u64, ps: &[u64]) -> Result<Assume, Memory>
     ensures { (given : List Assertion) → each (entry_named (store_of (take i items.now.items))) ps.now ≡ Some given → IfOk result (λ S. S ≡ unions (sets given)) }
 {
     let mut set = Assume::new(alloc);

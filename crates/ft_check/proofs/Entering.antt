@@ -133,37 +133,40 @@ not_built : (t : StatedStep) → ((v : ℕ) → t ≡ step.Var v → ⊥)
     → ((p : ℕ) (u : ℕ) (w : ℕ) → t ≡ step.Beqtm p u w → ⊥)
     → ((r : ℕ) (ps : List ℕ) → t ≡ step.Rule r ps → ⊥)
     → ((r : ℕ) (b : ℕ) (ps : List ℕ) → t ≡ step.Rulewith r b ps → ⊥)
+    → ((m : ℕ) → t ≡ step.Generic m → ⊥)
+    → ((m : ℕ) (ps : List ℕ) → t ≡ step.Meta m ps → ⊥)
+    → ((m : ℕ) (es : List ℕ) → t ≡ step.Metacong m es → ⊥)
     → is_built (stated_step t) ≡ false
-not_built (step.Var v) n0 n1 n2 n3 n4 n5 n6 n7 n8 n9 n10 n11 n12 n13 n14 n15 n16 n17 n18 n19 n20 = absurd (n0 v refl)
-not_built (step.Generic m) n0 n1 n2 n3 n4 n5 n6 n7 n8 n9 n10 n11 n12 n13 n14 n15 n16 n17 n18 n19 n20 = refl
-not_built (step.Meta m ps) n0 n1 n2 n3 n4 n5 n6 n7 n8 n9 n10 n11 n12 n13 n14 n15 n16 n17 n18 n19 n20 = refl
-not_built (step.Metacong m es) n0 n1 n2 n3 n4 n5 n6 n7 n8 n9 n10 n11 n12 n13 n14 n15 n16 n17 n18 n19 n20 = refl
-not_built (step.Abs v p) n0 n1 n2 n3 n4 n5 n6 n7 n8 n9 n10 n11 n12 n13 n14 n15 n16 n17 n18 n19 n20 = absurd (n1 v p refl)
-not_built (step.Subst p u) n0 n1 n2 n3 n4 n5 n6 n7 n8 n9 n10 n11 n12 n13 n14 n15 n16 n17 n18 n19 n20 = absurd (n2 p u refl)
-not_built (step.Substeq p e) n0 n1 n2 n3 n4 n5 n6 n7 n8 n9 n10 n11 n12 n13 n14 n15 n16 n17 n18 n19 n20 = absurd (n3 p e refl)
-not_built (step.Refl p) n0 n1 n2 n3 n4 n5 n6 n7 n8 n9 n10 n11 n12 n13 n14 n15 n16 n17 n18 n19 n20 = absurd (n4 p refl)
-not_built (step.Sym p) n0 n1 n2 n3 n4 n5 n6 n7 n8 n9 n10 n11 n12 n13 n14 n15 n16 n17 n18 n19 n20 = absurd (n5 p refl)
-not_built (step.Trans p q) n0 n1 n2 n3 n4 n5 n6 n7 n8 n9 n10 n11 n12 n13 n14 n15 n16 n17 n18 n19 n20 = absurd (n6 p q refl)
-not_built (step.Conv p e) n0 n1 n2 n3 n4 n5 n6 n7 n8 n9 n10 n11 n12 n13 n14 n15 n16 n17 n18 n19 n20 = absurd (n7 p e refl)
-not_built (step.Conveq p e) n0 n1 n2 n3 n4 n5 n6 n7 n8 n9 n10 n11 n12 n13 n14 n15 n16 n17 n18 n19 n20 = absurd (n8 p e refl)
-not_built (step.Left p) n0 n1 n2 n3 n4 n5 n6 n7 n8 n9 n10 n11 n12 n13 n14 n15 n16 n17 n18 n19 n20 = absurd (n9 p refl)
-not_built (step.Right p) n0 n1 n2 n3 n4 n5 n6 n7 n8 n9 n10 n11 n12 n13 n14 n15 n16 n17 n18 n19 n20 = absurd (n10 p refl)
-not_built (step.Typeof p) n0 n1 n2 n3 n4 n5 n6 n7 n8 n9 n10 n11 n12 n13 n14 n15 n16 n17 n18 n19 n20 = absurd (n11 p refl)
-not_built (step.Domain p) n0 n1 n2 n3 n4 n5 n6 n7 n8 n9 n10 n11 n12 n13 n14 n15 n16 n17 n18 n19 n20 = absurd (n12 p refl)
-not_built (step.Boundary p) n0 n1 n2 n3 n4 n5 n6 n7 n8 n9 n10 n11 n12 n13 n14 n15 n16 n17 n18 n19 n20 = absurd (n13 p refl)
-not_built (step.Widen p q) n0 n1 n2 n3 n4 n5 n6 n7 n8 n9 n10 n11 n12 n13 n14 n15 n16 n17 n18 n19 n20 = absurd (n14 p q refl)
-not_built step.Btype n0 n1 n2 n3 n4 n5 n6 n7 n8 n9 n10 n11 n12 n13 n14 n15 n16 n17 n18 n19 n20 = absurd (n15 refl)
-not_built (step.Bterm p) n0 n1 n2 n3 n4 n5 n6 n7 n8 n9 n10 n11 n12 n13 n14 n15 n16 n17 n18 n19 n20 = absurd (n16 p refl)
-not_built (step.Beqty p q) n0 n1 n2 n3 n4 n5 n6 n7 n8 n9 n10 n11 n12 n13 n14 n15 n16 n17 n18 n19 n20 = absurd (n17 p q refl)
-not_built (step.Beqtm p u w) n0 n1 n2 n3 n4 n5 n6 n7 n8 n9 n10 n11 n12 n13 n14 n15 n16 n17 n18 n19 n20 = absurd (n18 p u w refl)
-not_built (step.Rule r ps) n0 n1 n2 n3 n4 n5 n6 n7 n8 n9 n10 n11 n12 n13 n14 n15 n16 n17 n18 n19 n20 = absurd (n19 r ps refl)
-not_built (step.Rulewith r b ps) n0 n1 n2 n3 n4 n5 n6 n7 n8 n9 n10 n11 n12 n13 n14 n15 n16 n17 n18 n19 n20 = absurd (n20 r b ps refl)
-not_built (step.Inst r ps) n0 n1 n2 n3 n4 n5 n6 n7 n8 n9 n10 n11 n12 n13 n14 n15 n16 n17 n18 n19 n20 = refl
-not_built (step.Cong r ps es) n0 n1 n2 n3 n4 n5 n6 n7 n8 n9 n10 n11 n12 n13 n14 n15 n16 n17 n18 n19 n20 = refl
-not_built (step.Convprem r ps es q) n0 n1 n2 n3 n4 n5 n6 n7 n8 n9 n10 n11 n12 n13 n14 n15 n16 n17 n18 n19 n20 = refl
-not_built (step.Convback r ps es q) n0 n1 n2 n3 n4 n5 n6 n7 n8 n9 n10 n11 n12 n13 n14 n15 n16 n17 n18 n19 n20 = refl
-not_built (step.Arg i p) n0 n1 n2 n3 n4 n5 n6 n7 n8 n9 n10 n11 n12 n13 n14 n15 n16 n17 n18 n19 n20 = refl
-not_built (step.Natural p) n0 n1 n2 n3 n4 n5 n6 n7 n8 n9 n10 n11 n12 n13 n14 n15 n16 n17 n18 n19 n20 = refl
+not_built (step.Var v) n0 n1 n2 n3 n4 n5 n6 n7 n8 n9 n10 n11 n12 n13 n14 n15 n16 n17 n18 n19 n20 n21 n22 n23 = absurd (n0 v refl)
+not_built (step.Generic m) n0 n1 n2 n3 n4 n5 n6 n7 n8 n9 n10 n11 n12 n13 n14 n15 n16 n17 n18 n19 n20 n21 n22 n23 = absurd (n21 m refl)
+not_built (step.Meta m ps) n0 n1 n2 n3 n4 n5 n6 n7 n8 n9 n10 n11 n12 n13 n14 n15 n16 n17 n18 n19 n20 n21 n22 n23 = absurd (n22 m ps refl)
+not_built (step.Metacong m es) n0 n1 n2 n3 n4 n5 n6 n7 n8 n9 n10 n11 n12 n13 n14 n15 n16 n17 n18 n19 n20 n21 n22 n23 = absurd (n23 m es refl)
+not_built (step.Abs v p) n0 n1 n2 n3 n4 n5 n6 n7 n8 n9 n10 n11 n12 n13 n14 n15 n16 n17 n18 n19 n20 n21 n22 n23 = absurd (n1 v p refl)
+not_built (step.Subst p u) n0 n1 n2 n3 n4 n5 n6 n7 n8 n9 n10 n11 n12 n13 n14 n15 n16 n17 n18 n19 n20 n21 n22 n23 = absurd (n2 p u refl)
+not_built (step.Substeq p e) n0 n1 n2 n3 n4 n5 n6 n7 n8 n9 n10 n11 n12 n13 n14 n15 n16 n17 n18 n19 n20 n21 n22 n23 = absurd (n3 p e refl)
+not_built (step.Refl p) n0 n1 n2 n3 n4 n5 n6 n7 n8 n9 n10 n11 n12 n13 n14 n15 n16 n17 n18 n19 n20 n21 n22 n23 = absurd (n4 p refl)
+not_built (step.Sym p) n0 n1 n2 n3 n4 n5 n6 n7 n8 n9 n10 n11 n12 n13 n14 n15 n16 n17 n18 n19 n20 n21 n22 n23 = absurd (n5 p refl)
+not_built (step.Trans p q) n0 n1 n2 n3 n4 n5 n6 n7 n8 n9 n10 n11 n12 n13 n14 n15 n16 n17 n18 n19 n20 n21 n22 n23 = absurd (n6 p q refl)
+not_built (step.Conv p e) n0 n1 n2 n3 n4 n5 n6 n7 n8 n9 n10 n11 n12 n13 n14 n15 n16 n17 n18 n19 n20 n21 n22 n23 = absurd (n7 p e refl)
+not_built (step.Conveq p e) n0 n1 n2 n3 n4 n5 n6 n7 n8 n9 n10 n11 n12 n13 n14 n15 n16 n17 n18 n19 n20 n21 n22 n23 = absurd (n8 p e refl)
+not_built (step.Left p) n0 n1 n2 n3 n4 n5 n6 n7 n8 n9 n10 n11 n12 n13 n14 n15 n16 n17 n18 n19 n20 n21 n22 n23 = absurd (n9 p refl)
+not_built (step.Right p) n0 n1 n2 n3 n4 n5 n6 n7 n8 n9 n10 n11 n12 n13 n14 n15 n16 n17 n18 n19 n20 n21 n22 n23 = absurd (n10 p refl)
+not_built (step.Typeof p) n0 n1 n2 n3 n4 n5 n6 n7 n8 n9 n10 n11 n12 n13 n14 n15 n16 n17 n18 n19 n20 n21 n22 n23 = absurd (n11 p refl)
+not_built (step.Domain p) n0 n1 n2 n3 n4 n5 n6 n7 n8 n9 n10 n11 n12 n13 n14 n15 n16 n17 n18 n19 n20 n21 n22 n23 = absurd (n12 p refl)
+not_built (step.Boundary p) n0 n1 n2 n3 n4 n5 n6 n7 n8 n9 n10 n11 n12 n13 n14 n15 n16 n17 n18 n19 n20 n21 n22 n23 = absurd (n13 p refl)
+not_built (step.Widen p q) n0 n1 n2 n3 n4 n5 n6 n7 n8 n9 n10 n11 n12 n13 n14 n15 n16 n17 n18 n19 n20 n21 n22 n23 = absurd (n14 p q refl)
+not_built step.Btype n0 n1 n2 n3 n4 n5 n6 n7 n8 n9 n10 n11 n12 n13 n14 n15 n16 n17 n18 n19 n20 n21 n22 n23 = absurd (n15 refl)
+not_built (step.Bterm p) n0 n1 n2 n3 n4 n5 n6 n7 n8 n9 n10 n11 n12 n13 n14 n15 n16 n17 n18 n19 n20 n21 n22 n23 = absurd (n16 p refl)
+not_built (step.Beqty p q) n0 n1 n2 n3 n4 n5 n6 n7 n8 n9 n10 n11 n12 n13 n14 n15 n16 n17 n18 n19 n20 n21 n22 n23 = absurd (n17 p q refl)
+not_built (step.Beqtm p u w) n0 n1 n2 n3 n4 n5 n6 n7 n8 n9 n10 n11 n12 n13 n14 n15 n16 n17 n18 n19 n20 n21 n22 n23 = absurd (n18 p u w refl)
+not_built (step.Rule r ps) n0 n1 n2 n3 n4 n5 n6 n7 n8 n9 n10 n11 n12 n13 n14 n15 n16 n17 n18 n19 n20 n21 n22 n23 = absurd (n19 r ps refl)
+not_built (step.Rulewith r b ps) n0 n1 n2 n3 n4 n5 n6 n7 n8 n9 n10 n11 n12 n13 n14 n15 n16 n17 n18 n19 n20 n21 n22 n23 = absurd (n20 r b ps refl)
+not_built (step.Inst r ps) n0 n1 n2 n3 n4 n5 n6 n7 n8 n9 n10 n11 n12 n13 n14 n15 n16 n17 n18 n19 n20 n21 n22 n23 = refl
+not_built (step.Cong r ps es) n0 n1 n2 n3 n4 n5 n6 n7 n8 n9 n10 n11 n12 n13 n14 n15 n16 n17 n18 n19 n20 n21 n22 n23 = refl
+not_built (step.Convprem r ps es q) n0 n1 n2 n3 n4 n5 n6 n7 n8 n9 n10 n11 n12 n13 n14 n15 n16 n17 n18 n19 n20 n21 n22 n23 = refl
+not_built (step.Convback r ps es q) n0 n1 n2 n3 n4 n5 n6 n7 n8 n9 n10 n11 n12 n13 n14 n15 n16 n17 n18 n19 n20 n21 n22 n23 = refl
+not_built (step.Arg i p) n0 n1 n2 n3 n4 n5 n6 n7 n8 n9 n10 n11 n12 n13 n14 n15 n16 n17 n18 n19 n20 n21 n22 n23 = refl
+not_built (step.Natural p) n0 n1 n2 n3 n4 n5 n6 n7 n8 n9 n10 n11 n12 n13 n14 n15 n16 n17 n18 n19 n20 n21 n22 n23 = refl
 
 pub unbuilt_result : (W : Store) (t : StatedStep) (a : Assertion) (s : Resolved) → resolve W (stated_step t) ≡ Some s
     → ((v : ℕ) → t ≡ step.Var v → ⊥)
@@ -187,9 +190,12 @@ pub unbuilt_result : (W : Store) (t : StatedStep) (a : Assertion) (s : Resolved)
     → ((p : ℕ) (u : ℕ) (w : ℕ) → t ≡ step.Beqtm p u w → ⊥)
     → ((r : ℕ) (ps : List ℕ) → t ≡ step.Rule r ps → ⊥)
     → ((r : ℕ) (b : ℕ) (ps : List ℕ) → t ≡ step.Rulewith r b ps → ⊥)
+    → ((m : ℕ) → t ≡ step.Generic m → ⊥)
+    → ((m : ℕ) (ps : List ℕ) → t ≡ step.Meta m ps → ⊥)
+    → ((m : ℕ) (es : List ℕ) → t ≡ step.Metacong m es → ⊥)
     → Some premise ≡ result_of W s a t
-unbuilt_result W t a s q n0 n1 n2 n3 n4 n5 n6 n7 n8 n9 n10 n11 n12 n13 n14 n15 n16 n17 n18 n19 n20 =
-    ap (λ b. reason_of_result (cond b (Rattle.ft_items.specs.Rows.conclusion W.declarations s) None) (result_set s) (with_step a (stated_step t))) (sym (resolved_built W (stated_step t) s q ∙ not_built t n0 n1 n2 n3 n4 n5 n6 n7 n8 n9 n10 n11 n12 n13 n14 n15 n16 n17 n18 n19 n20))
+unbuilt_result W t a s q n0 n1 n2 n3 n4 n5 n6 n7 n8 n9 n10 n11 n12 n13 n14 n15 n16 n17 n18 n19 n20 n21 n22 n23 =
+    ap (λ b. reason_of_result (cond b (Rattle.ft_items.specs.Rows.conclusion W.declarations s) None) (result_set s) (with_step a (stated_step t))) (sym (resolved_built W (stated_step t) s q ∙ not_built t n0 n1 n2 n3 n4 n5 n6 n7 n8 n9 n10 n11 n12 n13 n14 n15 n16 n17 n18 n19 n20 n21 n22 n23))
 
 -- an item without a step
 pub not_entry : (ts : List Expression) (s : Stated) → ((x : _) (S : _) (t : _) → s ≡ Thesis x S t → ⊥) → ((x : _) (S : _) (t : _) → s ≡ Boundary x S t → ⊥) → is_entry (item_in ts s) ≡ false

@@ -14,9 +14,9 @@ use Rattle.ft_items.proofs.Lists.{store_is}
 use Rattle.ft_judge.specs.Meaning.{thesis_in, boundary_in}
 use Rattle.ft_judge.specs.declared.judgement.Thesis.{Thesis as ThesisValue}
 use Rattle.ft_judge.specs.declared.judgement.Boundary.{Boundary as BoundaryValue}
-use Rattle.ft_metas.specs.Sides.{placed}
-use Rattle.ft_metas.specs.declared.sides.At.{At}
-use Rattle.ft_check.specs.Declared.{generic, IsMetavariable}
+use Rattle.ft_placing.specs.Sides.{placed}
+use Rattle.ft_placing.specs.declared.sides.At.{At}
+use Rattle.ft_check.specs.AtHand.{generic, IsMetavariable}
 use Rattle.ft_check.specs.declared.metavariable_at.MetavariableAt.{MetavariableAt}
 use Rattle.ft_check.proofs.Basics.{named, nth_map}
 use Rattle.ft_check.proofs.OfKind.{thesis_is}
@@ -54,7 +54,7 @@ read items m d g h = go (nth (metavariables_in items) m) refl
     go (Some x) e =
         let b = metavariable_line items m x g e in
         let same : d.1 ≡ declared x (Some b.conclusion) =
-          sym (same_Some (f x) d.1 (sym (ap (option_map f) e) ∙ found)) ∙ declares_so x b.conclusion (nth (entries_in items) x.1) (sym (entries_are items x.1) ∙ b.is) in
+        sym (same_Some (f x) d.1 (sym (ap (option_map f) e) ∙ found)) ∙ declares_so x b.conclusion (nth (entries_in items) x.1) (sym (entries_are items x.1) ∙ b.is) in
         record {
           line = x;
           stands = e;

@@ -1,13 +1,14 @@
 -- The sides of the entries that a step names, one by one.
-use Rattle.std.proofs.Common.{◌≡◌, ℕ, zero, suc, ◌+◌, ◌<◌, ◌≤◌, Bool, false, ◌&&◌, Option, Some, List, [], ◌∷◌, ◌++◌, refl, sym, ap, ap₂, ◌∙◌, subst, length, drop, map, get_or}
+use Rattle.std.proofs.Common.{◌≡◌, ℕ, zero, suc, ◌+◌, ◌<◌, ◌≤◌, Bool, false, ◌&&◌, Option, Some, None, List, [], ◌∷◌, ◌++◌, refl, sym, ap, ap₂, ◌∙◌, subst, length, drop, map, get_or}
+use Rattle.std.specs.Prelude.{IfSome, IfNone}
 use Rattle.std.proofs.lemmas.List.{append_assoc, append-nil, drop_all, map-append}
 use Rattle.std.proofs.Math.Bool.{and-false}
 use Rattle.ft_theory.specs.Expressions.{Expression}
 use Rattle.ft_items.specs.Store.{Assertion, Store, each, entry_named}
 use Rattle.ft_items.specs.Rows.{statements}
-use Rattle.ft_metas.specs.Sides.{all_have_sides, has_sides, side_in, sides_in, SideBelow, SidesBelow}
-use Rattle.ft_metas.specs.declared.sides.At.{At}
-use Rattle.ft_metas.specs.declared.sides.Sides.{Sides}
+use Rattle.ft_placing.specs.Sides.{all_have_sides, has_sides, side_in, sides_in, SideBelow, SidesBelow}
+use Rattle.ft_placing.specs.declared.sides.At.{At}
+use Rattle.ft_placing.specs.declared.sides.Sides.{Sides}
 use Rattle.ft_check.proofs.Fits.{each_at, each_length}
 
 -- The first k are found, and the others are to come.
@@ -52,3 +53,12 @@ pub found_none : (W : Store) (ps : List ℕ) (a : At) (k p : ℕ) (given : List 
 found_none W ps a k p given h l e f =
     let x = each_at (entry_named W) ps given k p h l e in
     later_none a given k (ap (λ xs. all_have_sides a (statements xs)) x.2 ∙ ap (λ b. b && all_have_sides a (statements (drop (k + 1) given))) (f x.0 x.1))
+
+-- what is said of what is there, or where nothing is
+pub if_some : {A : Type 0} (P Q : A → Type 0) (o : Option A) → ((x : A) → P x → Q x) → IfSome o P → IfSome o Q
+if_some P Q None f h = tt
+if_some P Q (Some x) f h = f x h
+
+pub if_none : {A P Q : Type 0} (o : Option A) → (P → Q) → IfNone o P → IfNone o Q
+if_none None f h = f h
+if_none (Some x) f h = tt

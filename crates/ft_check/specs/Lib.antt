@@ -9,4 +9,4 @@ pub mod Typing
 pub mod Substituting
 pub mod Earlier
 pub mod Judging
-pub mod Declared
+pub mod AtHand

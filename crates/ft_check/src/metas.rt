@@ -5,8 +5,8 @@ ghost use Rattle.ft_items.specs.Item.{Stated as StatedNumbers};
 ghost use Rattle.ft_items.specs.Sets.{insert, met, union, unions};
 ghost use Rattle.ft_items.specs.Store.{Assertion, Declared, each, entry_named, metavariable_named};
 ghost use Rattle.ft_items.specs.Rows.{sets, statements};
-ghost use Rattle.ft_metas.specs.Sides.{all_have_sides, has_sides, placed, side_in, sides_in, SideBelow, SidesBelow};
-ghost use Rattle.ft_check.specs.Declared.{generic};
+ghost use Rattle.ft_placing.specs.Sides.{all_have_sides, has_sides, placed, side_in, sides_in, SideBelow, SidesBelow};
+ghost use Rattle.ft_check.specs.AtHand.{generic};
 ghost use Rattle.ft_check.specs.Earlier.{declared_before, store_before, GoodBefore};
 ghost use Rattle.ft_check.specs.Entries.{EntryBelow};
 ghost use Rattle.ft_check.specs.Judging.{stated, Judges};
@@ -18,7 +18,7 @@ use crate::reject::Reject;
 use crate::rules_at::union_of;
 use ft_assume::{Assume, Atom};
 use ft_base::Memory;
-use ft_metas::{At, Sides, is_generic_thesis, is_placed, sides_of};
+use ft_placing::{At, Sides, is_generic_thesis, is_placed, sides_of};
 use ft_stated::{Numbers, StatedItems};
 use std::alloc::Global;
 
@@ -109,7 +109,15 @@ pub fn check_meta(
     let others = declared.set.union(&named)?;
     let set = Assume::single(alloc, Atom::Met(m))?.union(&others)?;
     let claimed = found.parts();
-    match is_placed(alloc, items.terms(), at, m, declared.boundary, &sides, &claimed)? {
+    match is_placed(
+        alloc,
+        items.terms(),
+        at,
+        m,
+        declared.boundary,
+        &sides,
+        &claimed,
+    )? {
         None => Ok(Some(Reject::Premise)),
         Some(is_concluded) => Ok(against_test(is_concluded, &set, found)),
     }

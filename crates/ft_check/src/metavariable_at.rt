@@ -3,7 +3,7 @@
 ghost use Rattle.std.specs.Prelude.{◌≡◌, ℕ, Some, length, IfSome, IsSomeAnd};
 ghost use Rattle.ft_items.specs.Store.{Declared, metavariable_named};
 ghost use Rattle.ft_judge.specs.Meaning.{BoundaryBelow};
-ghost use Rattle.ft_check.specs.Declared.{IsMetavariable};
+ghost use Rattle.ft_check.specs.AtHand.{IsMetavariable};
 ghost use Rattle.ft_check.specs.Earlier.{declared_before, GoodBefore};
 
 use crate::entry::{Entry, entry_before, metavariable_before};

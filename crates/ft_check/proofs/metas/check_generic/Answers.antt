@@ -4,7 +4,7 @@ use Rattle.ft_items.specs.Good.{reason_of_result}
 use Rattle.ft_items.specs.Sets.{union}
 use Rattle.ft_judge.specs.Meaning.{boundary_in, BoundaryBelow}
 use Rattle.ft_steps.specs.Parts.{statement_in, PartsBelow}
-use Rattle.ft_check.specs.Declared.{generic, IsMetavariable}
+use Rattle.ft_check.specs.AtHand.{generic, IsMetavariable}
 use Rattle.ft_check.specs.Judging.{stated}
 use Rattle.ft_check.proofs.Bindings.{as_some}
 use Rattle.ft_check.proofs.MetavariableRead.{generic_reason}

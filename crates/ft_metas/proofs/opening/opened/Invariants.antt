@@ -1,5 +1,0 @@
-use Rattle.ft_metas.proofs.Opened.{OpenedSoFar}
-use Rattle.ft_metas.proofs.opening.opened.Given as goal
-
-abbrev pub invariant-loop-k : goal.invariant-loop-k
-invariant-loop-k l = OpenedSoFar l.fn.own l.list l.fn.e l.k l.own l.formed

@@ -1,5 +1,5 @@
 -- The metavariables of a good list, by their lines, with what they rest on.
-use Rattle.std.proofs.Common.{◌≡◌, ℕ, true, false, Option, Some, None, List, refl, sym, ap, ◌∙◌}
+use Rattle.std.proofs.Common.{◌≡◌, ℕ, Bool, true, false, Option, Some, None, List, refl, sym, ap, ◌∙◌}
 use Rattle.std.specs.Prelude.{option_map, IsSomeAnd}
 use Rattle.std.proofs.lemmas.Option.{same_Some}
 use Rattle.ft_common.proofs.Options.{none_some}
@@ -7,9 +7,9 @@ use Rattle.ft_theory.specs.Expressions.{Expression, meta}
 use Rattle.ft_theory.specs.Statements.{Statement}
 use Rattle.ft_items.specs.Item.{Name, Item, Entry as AnyEntry}
 use Rattle.ft_items.specs.Sets.{Atom, insert, met, union}
-use Rattle.ft_items.specs.Equal.{is_thesis}
+use Rattle.ft_items.specs.Equal.{equal_statements, is_thesis}
 use Rattle.ft_items.specs.Store.{Assertion, Declared, declared, entry_named, metavariable_named, nth, entries_in, metavariables_in, store_of, declared_by}
-use Rattle.ft_items.specs.Good.{Reject as Reason, Good, reason_of_result}
+use Rattle.ft_items.specs.Good.{Reject as Reason, Premise, Good, reason_of_result}
 use Rattle.ft_items.proofs.Lists.{store_is}
 use Rattle.ft_judge.specs.Meaning.{thesis_in, boundary_in}
 use Rattle.ft_judge.specs.declared.judgement.Thesis.{Thesis as ThesisValue}
@@ -115,3 +115,8 @@ placed_reason ts a m d x xs ys S R e r k f g h =
     ∙ ap (λ T. reason_of_result (placed a d.0 d.1.boundary xs) (insert (met d.0) (union T S)) e) k.set
     ∙ ap (λ xs. reason_of_result (placed a d.0 d.1.boundary xs) (insert (met d.0) (union d.1.set S)) e) f
     ∙ ap (λ S. reason_of_result (placed a d.0 d.1.boundary ys) (insert (met d.0) (union d.1.set S)) e) g
+
+-- where the test finds that nothing is concluded
+pub tested_none : (C : Option Statement) (y : Statement) (S : List Atom) (e : AnyEntry) (o : Option Bool) → o ≡ option_map (λ z. equal_statements z y) C → o ≡ None → Some Premise ≡ reason_of_result C S e
+tested_none None y S e o h k = refl
+tested_none (Some x) y S e o h k = none_some (sym k ∙ h)

@@ -33,9 +33,9 @@ four_built f b h (Some x) p q r s e = three_built (f x) b (h x) p q r s e
 
 pub resolved_built : (W : Store) (t : Stated) (s : Resolved) → resolve W t ≡ Some s → is_built s ≡ is_built t
 resolved_built W (by_var v) s e = one_built by_var true (λ x. refl) _ s e
-resolved_built W (by_generic m) s e = one_built by_generic false (λ x. refl) _ s e
-resolved_built W (by_meta m ps) s e = two_built by_meta false (λ x y. refl) _ _ s e
-resolved_built W (by_metacong m es) s e = two_built by_metacong false (λ x y. refl) _ _ s e
+resolved_built W (by_generic m) s e = one_built by_generic true (λ x. refl) _ s e
+resolved_built W (by_meta m ps) s e = two_built by_meta true (λ x y. refl) _ _ s e
+resolved_built W (by_metacong m es) s e = two_built by_metacong true (λ x y. refl) _ _ s e
 resolved_built W (by_abs v p) s e = two_built by_abs true (λ x y. refl) _ _ s e
 resolved_built W (by_subst p t) s e = two_built by_subst true (λ x y. refl) _ _ s e
 resolved_built W (by_substeq p f) s e = two_built by_substeq true (λ x y. refl) _ _ s e

@@ -33,3 +33,5 @@ mod Congruent
 mod Moved
 mod Sided
 mod StepsAtRules
+mod MetavariableRead
+mod SidesFound

@@ -9,3 +9,6 @@ pub mod Arguing
 pub mod Typing
 pub mod Substituting
 pub mod Equations
+pub mod Earlier
+pub mod Judging
+pub mod AtHand

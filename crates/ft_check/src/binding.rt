@@ -25,9 +25,9 @@ use ft_steps::{Parts, is_abstracted, is_equally_substituted, is_substituted, is_
 use ft_syntax::Terms;
 use std::alloc::Global;
 
-// The reason against an entry with the set, by the test whether it is what is concluded.
+/// The reason against an entry with the set, by the test whether it is what is concluded.
 #[tactic(auto, using(crate::proofs::Concluded::is_some))]
-fn against_test(is_concluded: bool, set: &Assume, found: Entry<'_>) -> Option<Reject>
+pub fn against_test(is_concluded: bool, set: &Assume, found: Entry<'_>) -> Option<Reject>
     ensures { (ts : List Expression) (x : Statement) (t : StatedNumbers) → is_concluded ≡ equal_statements x (entry_in ts found.entry).statement → option_map reason_of result ≡ reason_of_result (Some x) set.now (with_step (entry_in ts found.entry) t) }
 {
     against_result(is_concluded, is_same_set(set, found.set()))

@@ -17,6 +17,7 @@ use crate::boundaries::check_btype;
 use crate::congruences::check_cong;
 use crate::conversions::{Way, check_conv};
 use crate::entry::Entry;
+use crate::metas::{check_generic, check_meta};
 use crate::next_boundary::check_inst;
 use crate::parted::{check_from_one, check_from_three, check_from_two};
 use crate::reject::Reject;
@@ -24,6 +25,7 @@ use crate::rules_at::{check_applied, check_applied_with};
 use crate::step_kinds::kinds;
 use crate::without_step::check_without_step;
 use ft_base::Memory;
+use ft_placing::At;
 use ft_stated::{Stated, StatedItems, StatedStep};
 use ft_steps::{FromOne, FromTwo};
 use std::alloc::Global;
@@ -42,6 +44,9 @@ fn check_result(
 {
     match step {
         StatedStep::Var(v) => check_var(alloc, items, i, found, *v),
+        StatedStep::Generic(m) => check_generic(alloc, items, i, found, *m),
+        StatedStep::Meta(m, ps) => check_meta(alloc, items, i, found, At::Terms, *m, ps),
+        StatedStep::Metacong(m, es) => check_meta(alloc, items, i, found, At::EqualTerms, *m, es),
         StatedStep::Abs(v, p) => check_abs(alloc, items, i, found, *v, *p),
         StatedStep::Subst(p, q) => check_subst(alloc, items, i, found, By::Term, *p, *q),
         StatedStep::Substeq(p, q) => check_subst(alloc, items, i, found, By::Equation, *p, *q),
@@ -70,7 +75,7 @@ fn check_result(
         StatedStep::Convback(r, ps, es, q) => {
             check_conv(alloc, items, i, found, Way::Back, *r, ps, es, *q)
         }
-        _ => Ok(Some(Reject::Premise)),
+        StatedStep::Arg(..) | StatedStep::Natural(_) => Ok(Some(Reject::Premise)),
     }
 }
 

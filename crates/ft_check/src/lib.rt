@@ -19,6 +19,8 @@ mod instances;
 mod item;
 mod laws;
 mod list;
+mod metas;
+mod metavariable_at;
 mod metavariables;
 mod named;
 mod next_boundary;

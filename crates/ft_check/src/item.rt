@@ -39,8 +39,12 @@ fn check_result(
     step: &StatedStep,
 ) -> Result<Option<Reject>, Memory>
     requires { EntryBelow (length items.now.trees) found }
-    ensures { (s : Resolved) → Good (take i items.now.items) → resolve (store_of (take i items.now.items)) (stated_step step.now) ≡ Some s → kinds_right (is_thesis (entry_in items.now.trees found.entry).statement) s ≡ true
-        → IfOk result (λ r. option_map reason_of r ≡ reason_of_result (conclusion_built (declared_by (take i items.now.items)) s) (result_set s) (with_step (entry_in items.now.trees found.entry) (stated_step step.now))) }
+    ensures { (s : Resolved) → Good (take i items.now.items)
+        → resolve (store_of (take i items.now.items)) (stated_step step.now) ≡ Some s
+        → kinds_right (is_thesis (entry_in items.now.trees found.entry).statement) s ≡ true
+        → IfOk result (λ r. option_map reason_of r ≡
+        reason_of_result (conclusion_built (declared_by (take i items.now.items)) s) (result_set s)
+        (with_step (entry_in items.now.trees found.entry) (stated_step step.now))) }
 {
     match step {
         StatedStep::Var(v) => check_var(alloc, items, i, found, *v),
@@ -88,8 +92,10 @@ fn check_entry(
     step: &StatedStep,
 ) -> Result<Option<Reject>, Memory>
     requires { EntryBelow (length items.now.trees) found }
-    ensures { Good (take i items.now.items)
-        → IfOk result (λ r. option_map reason_of r ≡ reason_by conclusion_built (declared_by (take i items.now.items)) (resolve (store_of (take i items.now.items)) (stated_step step.now)) (with_step (entry_in items.now.trees found.entry) (stated_step step.now))) }
+    ensures { Good (take i items.now.items) → IfOk result (λ r. option_map reason_of r ≡
+        reason_by conclusion_built (declared_by (take i items.now.items))
+        (resolve (store_of (take i items.now.items)) (stated_step step.now))
+        (with_step (entry_in items.now.trees found.entry) (stated_step step.now))) }
 {
     match kinds(items, i, step, found.is_thesis()) {
         None => Ok(Some(Reject::Reference)),
@@ -102,7 +108,9 @@ fn check_entry(
 /// it are no good list, nothing is said of the answer.
 pub fn check_item(alloc: Global, items: &StatedItems, i: u64) -> Result<Option<Reject>, Memory>
     requires { i < length items.now.items }
-    ensures { (x : Item) → nth items.now.items i ≡ Some x → Good (take i items.now.items) → IfOk result (λ r. option_map reason_of r ≡ reason_built (store_of (take i items.now.items)) x) }
+    ensures { (x : Item) → nth items.now.items i ≡ Some x → Good (take i items.now.items)
+        → IfOk result (λ r. option_map reason_of r ≡
+        reason_built (store_of (take i items.now.items)) x) }
 {
     match items.item(i) {
         Stated::Thesis(thesis, set, step) => {

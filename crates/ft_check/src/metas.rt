@@ -33,7 +33,8 @@ pub fn check_generic(
     requires { EntryBelow (length items.now.trees) found }
     ensures { (d : ℕ × Declared) (t : StatedNumbers) → GoodBefore i items.now.items
         → metavariable_named (declared_before i items.now.items) m ≡ Some d
-        → IfOk result (λ x. Judges (stated items.now.trees found.entry t) (Some (generic d.0 d.1.boundary)) (insert (met d.0) d.1.set) x) }
+        → IfOk result (λ x. Judges (stated items.now.trees found.entry t)
+        (Some (generic d.0 d.1.boundary)) (insert (met d.0) d.1.set) x) }
 {
     let Some(declared) = metavariable_at_hand(items, i, m) else {
         return Ok(Some(Reject::Reference));
@@ -46,8 +47,10 @@ pub fn check_generic(
 
 // The sides of the entry of a number, where it is a plain term, or a plain equation of terms.
 fn sides_at(items: &StatedItems, i: u64, at: At, p: u64) -> Option<Sides>
-    ensures some { (a : Assertion) → entry_named (store_before i items.now.items) p ≡ Some a → IfSome result (λ s. side_in at items.now.trees s ≡ a.statement) }
-    ensures none { (a : Assertion) → entry_named (store_before i items.now.items) p ≡ Some a → IfNone result (has_sides at a.statement ≡ false) }
+    ensures some { (a : Assertion) → entry_named (store_before i items.now.items) p ≡ Some a
+        → IfSome result (λ s. side_in at items.now.trees s ≡ a.statement) }
+    ensures none { (a : Assertion) → entry_named (store_before i items.now.items) p ≡ Some a
+        → IfNone result (has_sides at a.statement ≡ false) }
     ensures below { IfSome result (λ s. SideBelow (length items.now.trees) s) }
 {
     match entry_before(items, i, p) {
@@ -68,10 +71,12 @@ fn all_sides(
     at: At,
     ps: &[u64],
 ) -> Result<Option<Vec<Sides>>, Memory>
-    ensures some { (given : List Assertion) → each (entry_named (store_before i items.now.items)) ps.now ≡ Some given
-        → IfOk result (λ o. IfSome o (λ v. sides_in at items.now.trees v.items ≡ statements given)) }
-    ensures none { (given : List Assertion) → each (entry_named (store_before i items.now.items)) ps.now ≡ Some given
-        → IfOk result (λ o. IfNone o (all_have_sides at (statements given) ≡ false)) }
+    ensures some { (given : List Assertion) → each (entry_named (store_before i items.now.items))
+        ps.now ≡ Some given → IfOk result (λ o. IfSome o (λ v. sides_in at items.now.trees v.items ≡
+        statements given)) }
+    ensures none { (given : List Assertion) → each (entry_named (store_before i items.now.items))
+        ps.now ≡ Some given → IfOk result (λ o. IfNone o (all_have_sides at (statements given) ≡
+        false)) }
     ensures below { IfOk result (λ o. IfSome o (λ v. SidesBelow (length items.now.trees) v.items)) }
 {
     let mut list = Vec::new(alloc);
@@ -95,9 +100,12 @@ pub fn check_meta(
     ps: &Numbers,
 ) -> Result<Option<Reject>, Memory>
     requires { EntryBelow (length items.now.trees) found }
-    ensures { (d : ℕ × Declared) (given : List Assertion) (t : StatedNumbers) → GoodBefore i items.now.items
-        → metavariable_named (declared_before i items.now.items) m ≡ Some d → each (entry_named (store_before i items.now.items)) ps.now ≡ Some given
-        → IfOk result (λ x. Judges (stated items.now.trees found.entry t) (placed at d.0 d.1.boundary (statements given)) (insert (met d.0) (union d.1.set (unions (sets given)))) x) }
+    ensures { (d : ℕ × Declared) (given : List Assertion) (t : StatedNumbers)
+        → GoodBefore i items.now.items → metavariable_named (declared_before i items.now.items) m ≡
+        Some d → each (entry_named (store_before i items.now.items)) ps.now ≡ Some given
+        → IfOk result (λ x. Judges (stated items.now.trees found.entry t)
+        (placed at d.0 d.1.boundary (statements given))
+        (insert (met d.0) (union d.1.set (unions (sets given)))) x) }
 {
     let Some(declared) = metavariable_at_hand(items, i, m) else {
         return Ok(Some(Reject::Reference));

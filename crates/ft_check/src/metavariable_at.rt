@@ -20,7 +20,8 @@ pub struct MetavariableAt<'a> {
 
 /// The metavariable of a number before place `i`, or None where there is none.
 pub fn metavariable_at_hand(items: &StatedItems, i: u64, m: u64) -> Option<MetavariableAt<'_>>
-    ensures is { (d : ℕ × Declared) → GoodBefore i items.now.items → metavariable_named (declared_before i items.now.items) m ≡ Some d
+    ensures is { (d : ℕ × Declared) → GoodBefore i items.now.items
+        → metavariable_named (declared_before i items.now.items) m ≡ Some d
         → IsSomeAnd result (λ x. IsMetavariable items.now.trees m x d) }
     ensures below { IfSome result (λ x. BoundaryBelow (length items.now.trees) x.boundary.now) }
 {

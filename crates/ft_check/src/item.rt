@@ -79,7 +79,8 @@ fn check_result(
         StatedStep::Convback(r, ps, es, q) => {
             check_conv(alloc, items, i, found, Way::Back, *r, ps, es, *q)
         }
-        StatedStep::Arg(..) | StatedStep::Natural(_) => Ok(Some(Reject::Premise)),
+        StatedStep::Arg(_, _) => Ok(Some(Reject::Premise)),
+        StatedStep::Natural(_) => Ok(Some(Reject::Premise)),
     }
 }
 

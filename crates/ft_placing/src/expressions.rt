@@ -83,8 +83,10 @@ pub fn is_generic(terms: &Terms, m: u64, n: u64, e: E) -> bool
 // Adds the body, where there is one.
 #[tactic(auto, using(crate::proofs::Nodes::body_pushed, crate::proofs::Nodes::body_below, crate::proofs::Nodes::no_body_pushed))]
 fn push_body(list: &mut Vec<E>, body: Option<E>) -> Result<(), Memory>
-    ensures trees { (ts : List Expression) → OnOk result (trees_of ts list.new.items ≡ trees_of ts list.old.items ++ body_listed (option_map (tree ts) body)) }
-    ensures below { (n : ℕ) → AllBelow n list.old.items → BodyBelow n body → OnOk result (AllBelow n list.new.items) }
+    ensures trees { (ts : List Expression) → OnOk result (trees_of ts list.new.items ≡
+        trees_of ts list.old.items ++ body_listed (option_map (tree ts) body)) }
+    ensures below { (n : ℕ) → AllBelow n list.old.items → BodyBelow n body
+        → OnOk result (AllBelow n list.new.items) }
 {
     match body {
         None => {}
@@ -97,7 +99,8 @@ fn push_body(list: &mut Vec<E>, body: Option<E>) -> Result<(), Memory>
 #[tactic(auto, using(crate::proofs::Nodes::bodies_start, crate::proofs::Nodes::bodies_next, crate::proofs::Nodes::bodies_end, ft_syntax::specs::Laws::body_longer))]
 pub fn bodies_of(alloc: Global, terms: &Terms, e: E) -> Result<Vec<E>, Memory>
     requires { e < length terms.now }
-    ensures are { IfOk result (λ xs. trees_of terms.now xs.items ≡ bodies (arguments_of (tree terms.now e))) }
+    ensures are { IfOk result (λ xs. trees_of terms.now xs.items ≡
+        bodies (arguments_of (tree terms.now e))) }
     ensures below { IfOk result (λ xs. AllBelow (length terms.now) xs.items) }
 {
     let mut list = Vec::new(alloc);

@@ -33,7 +33,9 @@ fn has_generic_head(terms: &Terms, m: u64, n: u64, c: Claim) -> bool
 pub fn is_generic_thesis(terms: &Terms, m: u64, b: &Boundary, y: &Parts<'_>) -> bool
     requires b { BoundaryBelow (length terms.now) b.now }
     requires y { PartsBelow (length terms.now) y.now }
-    ensures { result ≡ equal_statements (fill (boundary_in terms.now b.now) (meta m (bounds (domain_count (boundary_in terms.now b.now))))) (statement_in terms.now y.now) }
+    ensures { result ≡ equal_statements (fill (boundary_in terms.now b.now)
+        (meta m (bounds (domain_count (boundary_in terms.now b.now)))))
+        (statement_in terms.now y.now) }
 {
     let asked = boundary_parts(b);
     let stated = Parts {

@@ -32,8 +32,10 @@ fn opened(own: &mut Terms, list: &[E], e: E) -> Result<E, SynFault>
     requires e { e < length own.old }
     requires list { AllBelow (length own.old) list.now }
     ensures within { IfOk result (λ r. r < length own.new) }
-    ensures tree { IfOk result (λ r. tree own.new r ≡ opened_by 0 (trees_of own.old list.now) (tree own.old e)) }
-    ensures too_big { IfErr result (λ f. f ≡ TooBig → IsSmall (opened_by 0 (trees_of own.old list.now) (tree own.old e)) → ⊥) }
+    ensures tree { IfOk result (λ r. tree own.new r ≡
+        opened_by 0 (trees_of own.old list.now) (tree own.old e)) }
+    ensures too_big { IfErr result (λ f. f ≡ TooBig
+        → IsSmall (opened_by 0 (trees_of own.old list.now) (tree own.old e)) → ⊥) }
 {
     let mut formed = e;
     for k in 0..list.len() {
@@ -88,7 +90,8 @@ pub fn is_applied(
 ) -> Result<bool, Memory>
     requires list { AllBelow (length terms.now) list.now }
     requires found { found < length terms.now }
-    ensures { IfOk result (λ yes. yes ≡ equal_expressions (meta_at terms.now m list.now) (tree terms.now found)) }
+    ensures { IfOk result (λ yes. yes ≡ equal_expressions (meta_at terms.now m list.now)
+        (tree terms.now found)) }
 {
     // what is found is small, so that an application that is not small is another
     let _ = terms.depth(found);

@@ -43,7 +43,8 @@ fn are_opened(
     requires put { AllBelow (length terms.now) put.now }
     requires wanted { (wanted.0 < length terms.now) × (wanted.1 < length terms.now) }
     requires found { (found.0 < length terms.now) × (found.1 < length terms.now) }
-    ensures { IfOk result (λ yes. yes ≡ (is_put terms.now put.now wanted.0 found.0 && is_put terms.now put.now wanted.1 found.1)) }
+    ensures { IfOk result (λ yes. yes ≡ (is_put terms.now put.now wanted.0 found.0
+        && is_put terms.now put.now wanted.1 found.1)) }
 {
     if is_opened(alloc, terms, put, wanted.0, found.0)? {
         is_opened(alloc, terms, put, wanted.1, found.1)
@@ -64,7 +65,9 @@ fn is_filled(
     requires put { AllBelow (length terms.now) put.now }
     requires goal { GoalBelow (length terms.now) goal.now }
     requires c { ClaimBelow (length terms.now) c }
-    ensures { IfOk result (λ yes. yes ≡ equal_claims (fill_goal (goal_put terms.now put.now goal.now) (meta_at terms.now m put.now)) (claim_in terms.now c)) }
+    ensures { IfOk result (λ yes. yes ≡ equal_claims
+        (fill_goal (goal_put terms.now put.now goal.now) (meta_at terms.now m put.now))
+        (claim_in terms.now c)) }
 {
     match *goal {
         Goal::Ty => match c {
@@ -110,7 +113,9 @@ fn are_applied(
     requires put { AllBelow (length terms.now) put.now }
     requires others { AllBelow (length terms.now) others.now }
     requires found { (found.0 < length terms.now) × (found.1 < length terms.now) }
-    ensures { IfOk result (λ yes. yes ≡ (equal_expressions (meta_at terms.now m put.now) (tree terms.now found.0) && equal_expressions (meta_at terms.now m others.now) (tree terms.now found.1))) }
+    ensures { IfOk result (λ yes. yes ≡ (equal_expressions (meta_at terms.now m put.now)
+        (tree terms.now found.0) && equal_expressions (meta_at terms.now m others.now)
+        (tree terms.now found.1))) }
 {
     if is_applied(alloc, terms, m, put, found.0)? {
         is_applied(alloc, terms, m, others, found.1)
@@ -134,7 +139,9 @@ fn is_equated(
     requires goal { GoalBelow (length terms.now) goal.now }
     requires c { ClaimBelow (length terms.now) c }
     requires object { is_object_goal (goal_in terms.now goal.now) ≡ true }
-    ensures { IfOk result (λ yes. yes ≡ equal_claims (equate_goal (goal_put terms.now put.now goal.now) (meta_at terms.now m put.now) (meta_at terms.now m others.now)) (claim_in terms.now c)) }
+    ensures { IfOk result (λ yes. yes ≡ equal_claims
+        (equate_goal (goal_put terms.now put.now goal.now) (meta_at terms.now m put.now)
+        (meta_at terms.now m others.now)) (claim_in terms.now c)) }
 {
     match *goal {
         Goal::Ty => match c {
@@ -172,7 +179,9 @@ fn is_concluded(
     requires goal { GoalBelow (length terms.now) goal.now }
     requires y { PartsBelow (length terms.now) y.now }
     requires may { goal_may at (goal_in terms.now goal.now) ≡ true }
-    ensures { IfOk result (λ yes. yes ≡ equal_statements (plain (with_heads at (goal_put terms.now put.now goal.now) (meta_at terms.now m put.now) (meta_at terms.now m others.now))) (statement_in terms.now y.now)) }
+    ensures { IfOk result (λ yes. yes ≡ equal_statements
+        (plain (with_heads at (goal_put terms.now put.now goal.now) (meta_at terms.now m put.now)
+        (meta_at terms.now m others.now))) (statement_in terms.now y.now)) }
 {
     if !y.domains.is_empty() {
         return Ok(false);
@@ -198,7 +207,9 @@ pub fn is_placed(
     requires b { BoundaryBelow (length terms.now) b.now }
     requires list { SidesBelow (length terms.now) list.now }
     requires y { PartsBelow (length terms.now) y.now }
-    ensures { IfOk result (λ o. o ≡ option_map (λ z. equal_statements z (statement_in terms.now y.now)) (placed at m (boundary_in terms.now b.now) (sides_in at terms.now list.now))) }
+    ensures { IfOk result (λ o. o ≡ option_map (λ z.
+        equal_statements z (statement_in terms.now y.now))
+        (placed at m (boundary_in terms.now b.now) (sides_in at terms.now list.now))) }
 {
     let domains = b.domains.items();
     if !goal_allows(at, &b.goal) {

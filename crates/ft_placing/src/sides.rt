@@ -56,8 +56,10 @@ fn sides_of_claim(at: At, c: Claim) -> Option<Sides>
 /// The sides, where the statement is a plain term, or a plain equation of terms.
 #[tactic(auto, using(crate::proofs::Siding::plain_sides, crate::proofs::Siding::no_sides))]
 pub fn sides_of(at: At, x: &Parts<'_>) -> Option<Sides>
-    ensures some { (ts : List Expression) → IfSome result (λ s. side_in at ts s ≡ statement_in ts x.now) }
-    ensures none { (ts : List Expression) → IfNone result (has_sides at (statement_in ts x.now) ≡ false) }
+    ensures some { (ts : List Expression) → IfSome result (λ s. side_in at ts s ≡
+        statement_in ts x.now) }
+    ensures none { (ts : List Expression) → IfNone result (has_sides at (statement_in ts x.now) ≡
+        false) }
     ensures below { (n : ℕ) → PartsBelow n x.now → IfSome result (λ s. SideBelow n s) }
 {
     if x.domains.is_empty() {

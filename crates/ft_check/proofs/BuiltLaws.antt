@@ -33,9 +33,9 @@ four_built f b h (Some x) p q r s e = three_built (f x) b (h x) p q r s e
 
 pub resolved_built : (W : Store) (t : Stated) (s : Resolved) → resolve W t ≡ Some s → is_built s ≡ is_built t
 resolved_built W (by_var v) s e = one_built by_var true (λ x. refl) _ s e
-resolved_built W (by_generic m) s e = one_built by_generic false (λ x. refl) _ s e
-resolved_built W (by_meta m ps) s e = two_built by_meta false (λ x y. refl) _ _ s e
-resolved_built W (by_metacong m es) s e = two_built by_metacong false (λ x y. refl) _ _ s e
+resolved_built W (by_generic m) s e = one_built by_generic true (λ x. refl) _ s e
+resolved_built W (by_meta m ps) s e = two_built by_meta true (λ x y. refl) _ _ s e
+resolved_built W (by_metacong m es) s e = two_built by_metacong true (λ x y. refl) _ _ s e
 resolved_built W (by_abs v p) s e = two_built by_abs true (λ x y. refl) _ _ s e
 resolved_built W (by_subst p t) s e = two_built by_subst true (λ x y. refl) _ _ s e
 resolved_built W (by_substeq p f) s e = two_built by_substeq true (λ x y. refl) _ _ s e
@@ -56,10 +56,10 @@ resolved_built W (by_beqty p q) s e = two_built by_beqty true (λ x y. refl) _ _
 resolved_built W (by_beqtm p t u) s e = three_built by_beqtm true (λ x y z. refl) (entry_named W p) (entry_named W t) (entry_named W u) s e
 resolved_built W (by_rule r ps) s e = two_built by_rule true (λ x y. refl) _ _ s e
 resolved_built W (by_rulewith r b ps) s e = three_built by_rulewith true (λ x y z. refl) _ _ _ s e
-resolved_built W (by_inst r ps) s e = two_built by_inst false (λ x y. refl) _ _ s e
-resolved_built W (by_cong r ps es) s e = three_built by_cong false (λ x y z. refl) _ _ _ s e
-resolved_built W (by_convprem r ps es q) s e = four_built by_convprem false (λ x y z w. refl) (rule_named W.declarations r) (each (entry_named W) ps) (each (entry_named W) es) (entry_named W q) s e
-resolved_built W (by_convback r ps es q) s e = four_built by_convback false (λ x y z w. refl) (rule_named W.declarations r) (each (entry_named W) ps) (each (entry_named W) es) (entry_named W q) s e
+resolved_built W (by_inst r ps) s e = two_built by_inst true (λ x y. refl) _ _ s e
+resolved_built W (by_cong r ps es) s e = three_built by_cong true (λ x y z. refl) _ _ _ s e
+resolved_built W (by_convprem r ps es q) s e = four_built by_convprem true (λ x y z w. refl) (rule_named W.declarations r) (each (entry_named W) ps) (each (entry_named W) es) (entry_named W q) s e
+resolved_built W (by_convback r ps es q) s e = four_built by_convback true (λ x y z w. refl) (rule_named W.declarations r) (each (entry_named W) ps) (each (entry_named W) es) (entry_named W q) s e
 resolved_built W (by_arg i p) s e = one_built (by_arg i) false (λ x. refl) _ s e
 resolved_built W (by_natural p) s e = one_built by_natural false (λ x. refl) _ s e
 resolved_built W (by_metainst p ms qs) s e = three_built by_metainst false (λ x y z. refl) _ _ _ s e

@@ -104,7 +104,7 @@ thesis_fits ts j x b As Bs o m n d g e f =
     ∙ and_assoc o (domains_same ts j x.domains b.domains) (fits_goal (claim_in ts x.form) (map_claim j (goal_in ts b.goal)))
     ∙ ap (λ b. o && b) (fits_under ts j zero x.domains b.domains (claim_in ts x.form) (goal_in ts b.goal))
 
-other_domains : (ts : List Expression) (j : Expression → Expression) (As Bs : List ℕ) → length As ≢ length Bs → domains_same ts j As Bs ≡ false
+pub other_domains : (ts : List Expression) (j : Expression → Expression) (As Bs : List ℕ) → length As ≢ length Bs → domains_same ts j As Bs ≡ false
 other_domains ts j [] [] n = absurd (n refl)
 other_domains ts j [] (B ∷ Bs) n = refl
 other_domains ts j (A ∷ As) [] n = refl

@@ -110,7 +110,7 @@ pub each_length : {A B : Type 0} (f : A → Option B) (xs : List A) (ys : List B
 each_length f [] ys h = ap length (sym (same_Some [] ys h))
 each_length f (x ∷ xs) ys h = let s = each_first f x xs ys h in ap length s.4 ∙ ap suc (each_length f xs s.1 s.3)
 
-theses_drop : (xs : List Assertion) (k : ℕ) → all_theses xs ≡ true → all_theses (drop k xs) ≡ true
+pub theses_drop : (xs : List Assertion) (k : ℕ) → all_theses xs ≡ true → all_theses (drop k xs) ≡ true
 theses_drop [] zero h = refl
 theses_drop [] (suc k) h = refl
 theses_drop (x ∷ xs) zero h = h

@@ -25,3 +25,13 @@ mod Applies
 mod Compares
 mod PutTogether
 mod HeadsPut
+mod Argued
+mod NextBoundaries
+mod Copied
+mod Started
+mod Congruent
+mod Moved
+mod Sided
+mod StepsAtRules
+mod MetavariableRead
+mod SidesFound

@@ -5,5 +5,10 @@ pub mod Kinds
 pub mod Comparing
 pub mod Putting
 pub mod Applying
+pub mod Arguing
 pub mod Typing
 pub mod Substituting
+pub mod Equations
+pub mod Earlier
+pub mod Judging
+pub mod AtHand

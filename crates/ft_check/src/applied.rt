@@ -21,7 +21,9 @@ pub struct RuleAt<'a> {
 
 /// The rule of a number before place `i`, or None where there is none.
 pub fn rule_at_hand(items: &StatedItems, i: u64, r: u64) -> Option<RuleAt<'_>>
-    ensures is { (R : ℕ × Rule) → Good (take i items.now.items) → rule_named (declared_by (take i items.now.items)) r ≡ Some R → IsSomeAnd result (λ x. IsRule items.now.trees (declared_by (take i items.now.items)) x R) }
+    ensures is { (R : ℕ × Rule) → Good (take i items.now.items)
+        → rule_named (declared_by (take i items.now.items)) r ≡ Some R
+        → IsSomeAnd result (λ x. IsRule items.now.trees (declared_by (take i items.now.items)) x R) }
     ensures below { IfSome result (λ x. GoalBelow (length items.now.trees) x.goal) }
 {
     let line = rule_before(items, i, r)?;

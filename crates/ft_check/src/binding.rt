@@ -25,10 +25,13 @@ use ft_steps::{Parts, is_abstracted, is_equally_substituted, is_substituted, is_
 use ft_syntax::Terms;
 use std::alloc::Global;
 
-// The reason against an entry with the set, by the test whether it is what is concluded.
+/// The reason against an entry with the set, by the test whether it is what is concluded.
 #[tactic(auto, using(crate::proofs::Concluded::is_some))]
-fn against_test(is_concluded: bool, set: &Assume, found: Entry<'_>) -> Option<Reject>
-    ensures { (ts : List Expression) (x : Statement) (t : StatedNumbers) → is_concluded ≡ equal_statements x (entry_in ts found.entry).statement → option_map reason_of result ≡ reason_of_result (Some x) set.now (with_step (entry_in ts found.entry) t) }
+pub fn against_test(is_concluded: bool, set: &Assume, found: Entry<'_>) -> Option<Reject>
+    ensures { (ts : List Expression) (x : Statement) (t : StatedNumbers)
+        → is_concluded ≡ equal_statements x (entry_in ts found.entry).statement
+        → option_map reason_of result ≡ reason_of_result (Some x) set.now
+        (with_step (entry_in ts found.entry) t) }
 {
     against_result(is_concluded, is_same_set(set, found.set()))
 }
@@ -42,8 +45,11 @@ pub fn check_var(
     v: u64,
 ) -> Result<Option<Reject>, Memory>
     requires { EntryBelow (length items.now.trees) found }
-    ensures { (d : ℕ × Annotation) (t : StatedNumbers) → Good (take i items.now.items) → variable_named (declared_by (take i items.now.items)) v ≡ Some d
-        → IfOk result (λ x. option_map reason_of x ≡ reason_of_result (Some (plain (has_type (free d.0) d.1.annotation))) (insert (var d.0) d.1.set) (with_step (entry_in items.now.trees found.entry) t)) }
+    ensures { (d : ℕ × Annotation) (t : StatedNumbers) → Good (take i items.now.items)
+        → variable_named (declared_by (take i items.now.items)) v ≡ Some d
+        → IfOk result (λ x. option_map reason_of x ≡
+        reason_of_result (Some (plain (has_type (free d.0) d.1.annotation)))
+        (insert (var d.0) d.1.set) (with_step (entry_in items.now.trees found.entry) t)) }
 {
     let Some(typed) = typed_before(items, i, v) else {
         return Ok(Some(Reject::Reference));
@@ -64,8 +70,14 @@ pub fn check_abs(
     p: u64,
 ) -> Result<Option<Reject>, Memory>
     requires { EntryBelow (length items.now.trees) found }
-    ensures { (d : ℕ × Annotation) (a : Assertion) (t : StatedNumbers) → Good (take i items.now.items) → variable_named (declared_by (take i items.now.items)) v ≡ Some d → entry_named (store_of (take i items.now.items)) p ≡ Some a
-        → IfOk result (λ x. option_map reason_of x ≡ reason_of_result (when (not (depends_in (declared_by (take i items.now.items)).variables d.0 a.set)) (abstracted d.1.annotation (close_statement d.0 a.statement))) (union d.1.set (without (var d.0) a.set)) (with_step (entry_in items.now.trees found.entry) t)) }
+    ensures { (d : ℕ × Annotation) (a : Assertion) (t : StatedNumbers)
+        → Good (take i items.now.items) → variable_named (declared_by (take i items.now.items)) v ≡
+        Some d → entry_named (store_of (take i items.now.items)) p ≡ Some a
+        → IfOk result (λ x. option_map reason_of x ≡
+        reason_of_result (when (not (depends_in (declared_by (take i items.now.items)).variables d.0
+        a.set)) (abstracted d.1.annotation (close_statement d.0 a.statement)))
+        (union d.1.set (without (var d.0) a.set)) (with_step (entry_in items.now.trees found.entry)
+        t)) }
 {
     let Some(typed) = typed_before(items, i, v) else {
         return Ok(Some(Reject::Reference));
@@ -103,7 +115,9 @@ fn is_put(
     requires x { PartsBelow (length terms.now) x.now }
     requires t { PartsBelow (length terms.now) t.now }
     requires y { PartsBelow (length terms.now) y.now }
-    ensures { IfOk result (λ o. o ≡ option_map (λ z. equal_statements z (statement_in terms.now y.now)) (put by (statement_in terms.now x.now) (statement_in terms.now t.now))) }
+    ensures { IfOk result (λ o. o ≡ option_map (λ z.
+        equal_statements z (statement_in terms.now y.now))
+        (put by (statement_in terms.now x.now) (statement_in terms.now t.now))) }
 {
     match by {
         By::Term => is_substituted(alloc, terms, x, t, y),
@@ -122,8 +136,12 @@ pub fn check_subst(
     q: u64,
 ) -> Result<Option<Reject>, Memory>
     requires { EntryBelow (length items.now.trees) found }
-    ensures { (a b : Assertion) (n : StatedNumbers) → entry_named (store_of (take i items.now.items)) p ≡ Some a → entry_named (store_of (take i items.now.items)) q ≡ Some b
-        → IfOk result (λ x. option_map reason_of x ≡ reason_of_result (put by a.statement b.statement) (union a.set b.set) (with_step (entry_in items.now.trees found.entry) n)) }
+    ensures { (a b : Assertion) (n : StatedNumbers)
+        → entry_named (store_of (take i items.now.items)) p ≡ Some a
+        → entry_named (store_of (take i items.now.items)) q ≡ Some b
+        → IfOk result (λ x. option_map reason_of x ≡
+        reason_of_result (put by a.statement b.statement) (union a.set b.set)
+        (with_step (entry_in items.now.trees found.entry) n)) }
 {
     let Some(named) = entry_before(items, i, p) else {
         return Ok(Some(Reject::Reference));

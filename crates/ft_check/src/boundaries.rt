@@ -19,7 +19,8 @@ use ft_judge::{Boundary, Goal};
 // Whether the boundary is that of a type.
 #[tactic(auto, using(crate::proofs::Results::type_goal_is, crate::proofs::Results::no_type_goal))]
 fn is_type_goal(b: &Boundary) -> bool
-    ensures { (ts : List Expression) → result ≡ equal_statements (plain type_goal) (boundary_in ts b.now) }
+    ensures { (ts : List Expression) → result ≡ equal_statements (plain type_goal)
+        (boundary_in ts b.now) }
 {
     match b.goal {
         Goal::Ty => is_empty(&b.domains),
@@ -29,7 +30,8 @@ fn is_type_goal(b: &Boundary) -> bool
 
 #[tactic(auto, using(crate::proofs::Results::thesis_no_type_goal))]
 fn states_type_goal(found: Entry<'_>) -> bool
-    ensures { (ts : List Expression) → result ≡ equal_statements (plain type_goal) (entry_in ts found.entry).statement }
+    ensures { (ts : List Expression) → result ≡ equal_statements (plain type_goal)
+        (entry_in ts found.entry).statement }
 {
     match found {
         Entry::Thesis(..) => false,
@@ -39,7 +41,9 @@ fn states_type_goal(found: Entry<'_>) -> bool
 
 /// The reason against an entry as the boundary of a type.
 pub fn check_btype(found: Entry<'_>) -> Option<Reject>
-    ensures { (ts : List Expression) (t : StatedNumbers) → option_map reason_of result ≡ reason_of_result (Some (plain type_goal)) [] (with_step (entry_in ts found.entry) t) }
+    ensures { (ts : List Expression) (t : StatedNumbers)
+        → option_map reason_of result ≡ reason_of_result (Some (plain type_goal)) []
+        (with_step (entry_in ts found.entry) t) }
 {
     against_result(states_type_goal(found), found.set().atoms().is_empty())
 }

@@ -21,18 +21,25 @@ pub struct Compared {
 
 #[tactic(auto, using(crate::proofs::Compares::same_pushed, crate::proofs::Compares::below_pushed))]
 fn push(list: &mut Vec<Compared>, found: E, wanted: E) -> Result<(), Memory>
-    ensures same { (ts : List Expression) (j : Expression → Expression) → OnOk result (all_same ts j list.new.items ≡ (all_same ts j list.old.items && equal_expressions (tree ts found) (j (tree ts wanted)))) }
-    ensures below { (n : ℕ) → ComparedBelow n list.old.items → found < n → wanted < n → OnOk result (ComparedBelow n list.new.items) }
+    ensures same { (ts : List Expression) (j : Expression → Expression)
+        → OnOk result (all_same ts j list.new.items ≡
+        (all_same ts j list.old.items && equal_expressions (tree ts found) (j (tree ts wanted)))) }
+    ensures below { (n : ℕ) → ComparedBelow n list.old.items → found < n → wanted < n
+        → OnOk result (ComparedBelow n list.new.items) }
 {
     list.push(Compared { found, wanted })?;
     Ok(())
 }
 
+/// Adds what has to be the same for as many domains to be the instances of others.
 #[tactic(auto, using(crate::proofs::Compares::domains_next, crate::proofs::Compares::domains_end, ft_syntax::specs::Laws::one_below))]
-fn push_domains(list: &mut Vec<Compared>, found: &[E], wanted: &[E]) -> Result<(), Memory>
+pub fn push_domains(list: &mut Vec<Compared>, found: &[E], wanted: &[E]) -> Result<(), Memory>
     requires { length found.now ≡ length wanted.now }
-    ensures same { (ts : List Expression) (j : Expression → Expression) → OnOk result (all_same ts j list.new.items ≡ (all_same ts j list.old.items && domains_same ts j found.now wanted.now)) }
-    ensures below { (n : ℕ) → ComparedBelow n list.old.items → AllBelow n found.now → AllBelow n wanted.now → OnOk result (ComparedBelow n list.new.items) }
+    ensures same { (ts : List Expression) (j : Expression → Expression)
+        → OnOk result (all_same ts j list.new.items ≡
+        (all_same ts j list.old.items && domains_same ts j found.now wanted.now)) }
+    ensures below { (n : ℕ) → ComparedBelow n list.old.items → AllBelow n found.now
+        → AllBelow n wanted.now → OnOk result (ComparedBelow n list.new.items) }
 {
     for k in 0..found.len() {
         push(list, found[k], wanted[k])?;
@@ -42,8 +49,12 @@ fn push_domains(list: &mut Vec<Compared>, found: &[E], wanted: &[E]) -> Result<(
 
 /// Adds what has to be the same for a form to fit an instance of a goal, or answers false where it fits none.
 pub fn push_form(list: &mut Vec<Compared>, form: &Form, goal: &Goal) -> Result<bool, Memory>
-    ensures same { (ts : List Expression) (j : Expression → Expression) → IfOk result (λ yes. (yes && all_same ts j list.new.items) ≡ (all_same ts j list.old.items && fits_goal (claim_in ts form.now) (map_claim j (goal_in ts goal.now)))) }
-    ensures below { (n : ℕ) → ComparedBelow n list.old.items → FormBelow n form.now → GoalBelow n goal.now → IfOk result (λ yes. ComparedBelow n list.new.items) }
+    ensures same { (ts : List Expression) (j : Expression → Expression)
+        → IfOk result (λ yes. (yes && all_same ts j list.new.items) ≡
+        (all_same ts j list.old.items && fits_goal (claim_in ts form.now)
+        (map_claim j (goal_in ts goal.now)))) }
+    ensures below { (n : ℕ) → ComparedBelow n list.old.items → FormBelow n form.now
+        → GoalBelow n goal.now → IfOk result (λ yes. ComparedBelow n list.new.items) }
 {
     match (form, goal) {
         (Form::Ty(_), Goal::Ty) => Ok(true),
@@ -68,8 +79,12 @@ pub fn push_form(list: &mut Vec<Compared>, form: &Form, goal: &Goal) -> Result<b
 
 /// Adds what has to be the same for a goal to be an instance of the other, or answers false where it is none.
 pub fn push_goal(list: &mut Vec<Compared>, found: &Goal, wanted: &Goal) -> Result<bool, Memory>
-    ensures same { (ts : List Expression) (j : Expression → Expression) → IfOk result (λ yes. (yes && all_same ts j list.new.items) ≡ (all_same ts j list.old.items && equal_claims (goal_in ts found.now) (map_claim j (goal_in ts wanted.now)))) }
-    ensures below { (n : ℕ) → ComparedBelow n list.old.items → GoalBelow n found.now → GoalBelow n wanted.now → IfOk result (λ yes. ComparedBelow n list.new.items) }
+    ensures same { (ts : List Expression) (j : Expression → Expression)
+        → IfOk result (λ yes. (yes && all_same ts j list.new.items) ≡
+        (all_same ts j list.old.items && equal_claims (goal_in ts found.now)
+        (map_claim j (goal_in ts wanted.now)))) }
+    ensures below { (n : ℕ) → ComparedBelow n list.old.items → GoalBelow n found.now
+        → GoalBelow n wanted.now → IfOk result (λ yes. ComparedBelow n list.new.items) }
 {
     match (found, wanted) {
         (Goal::Ty, Goal::Ty) => Ok(true),
@@ -94,8 +109,12 @@ pub fn push_goal(list: &mut Vec<Compared>, found: &Goal, wanted: &Goal) -> Resul
 
 /// Adds what has to be the same for a thesis to fit an instance of a boundary, or answers false where it fits none.
 pub fn push_thesis(list: &mut Vec<Compared>, x: &Thesis, b: &Boundary) -> Result<bool, Memory>
-    ensures same { (ts : List Expression) (j : Expression → Expression) → IfOk result (λ yes. (yes && all_same ts j list.new.items) ≡ (all_same ts j list.old.items && statement_fits (thesis_in ts x.now) (map_statement (λ k. j) zero (boundary_in ts b.now)))) }
-    ensures below { (n : ℕ) → ComparedBelow n list.old.items → ThesisBelow n x.now → BoundaryBelow n b.now → IfOk result (λ yes. ComparedBelow n list.new.items) }
+    ensures same { (ts : List Expression) (j : Expression → Expression)
+        → IfOk result (λ yes. (yes && all_same ts j list.new.items) ≡
+        (all_same ts j list.old.items && statement_fits (thesis_in ts x.now)
+        (map_statement (λ k. j) zero (boundary_in ts b.now)))) }
+    ensures below { (n : ℕ) → ComparedBelow n list.old.items → ThesisBelow n x.now
+        → BoundaryBelow n b.now → IfOk result (λ yes. ComparedBelow n list.new.items) }
 {
     let found = x.domains.items();
     let wanted = b.domains.items();

@@ -32,7 +32,8 @@ use std::alloc::Global;
 fn has_applied(put: &mut Put, terms: &Terms, form: &Form, r: u64) -> Result<bool, Memory>
     requires form { FormBelow (length terms.now) form.now }
     requires below { IsPutIn put.old }
-    ensures { IfOk result (λ yes. yes ≡ head_same terms.now (symbol r (arguments_in put.old.terms put.old.arguments.items)) form.now) }
+    ensures { IfOk result (λ yes. yes ≡ head_same terms.now
+        (symbol r (arguments_in put.old.terms put.old.arguments.items)) form.now) }
 {
     match head_of_form(form) {
         None => Ok(true),
@@ -51,7 +52,10 @@ fn is_filled(
     requires form { FormBelow (length terms.now) form.now }
     requires goal { GoalBelow (length terms.now) rule.now.goal }
     requires below { IsPutIn put.old }
-    ensures { IfOk result (λ yes. yes ≡ equal_claims (fill_goal (map_claim (instantiate (instance_in put.old.terms put.old.instance.pairs)) (goal_in terms.now rule.now.goal)) (symbol rule.now.symbol (arguments_in put.old.terms put.old.arguments.items))) (claim_in terms.now form.now)) }
+    ensures { IfOk result (λ yes. yes ≡ equal_claims
+        (fill_goal (map_claim (instantiate (instance_in put.old.terms put.old.instance.pairs))
+        (goal_in terms.now rule.now.goal)) (symbol rule.now.symbol
+        (arguments_in put.old.terms put.old.arguments.items))) (claim_in terms.now form.now)) }
 {
     let mut list = Vec::new(alloc);
     if !push_form(&mut list, form, &rule.goal)? {
@@ -74,7 +78,11 @@ fn is_conclusion(
     requires found { EntryBelow (length terms.now) found }
     requires goal { GoalBelow (length terms.now) rule.now.goal }
     requires below { IsPutIn put.old }
-    ensures { IfOk result (λ yes. yes ≡ equal_statements (plain (fill_goal (map_claim (instantiate (instance_in put.old.terms put.old.instance.pairs)) (goal_in terms.now rule.now.goal)) (symbol rule.now.symbol (arguments_in put.old.terms put.old.arguments.items)))) (entry_in terms.now found.entry).statement) }
+    ensures { IfOk result (λ yes. yes ≡ equal_statements
+        (plain (fill_goal (map_claim (instantiate (instance_in put.old.terms
+        put.old.instance.pairs)) (goal_in terms.now rule.now.goal))
+        (symbol rule.now.symbol (arguments_in put.old.terms put.old.arguments.items))))
+        (entry_in terms.now found.entry).statement) }
 {
     match found {
         Entry::Boundary(..) => Ok(false),
@@ -103,7 +111,13 @@ pub fn check_conclusion(
     requires found { EntryBelow (length terms.now) found }
     requires goal { GoalBelow (length terms.now) rule.now.goal }
     requires below { IsPutIn put.old }
-    ensures { (t : StatedNumbers) → IfOk result (λ x. option_map reason_of x ≡ reason_of_result (when (all_same terms.now (instantiate (instance_in put.old.terms put.old.instance.pairs)) list.now) (plain (fill_goal (map_claim (instantiate (instance_in put.old.terms put.old.instance.pairs)) (goal_in terms.now rule.now.goal)) (symbol rule.now.symbol (arguments_in put.old.terms put.old.arguments.items))))) set.now (with_step (entry_in terms.now found.entry) t)) }
+    ensures { (t : StatedNumbers) → IfOk result (λ x. option_map reason_of x ≡
+        reason_of_result (when (all_same terms.now
+        (instantiate (instance_in put.old.terms put.old.instance.pairs)) list.now)
+        (plain (fill_goal (map_claim (instantiate (instance_in put.old.terms
+        put.old.instance.pairs)) (goal_in terms.now rule.now.goal))
+        (symbol rule.now.symbol (arguments_in put.old.terms put.old.arguments.items))))) set.now
+        (with_step (entry_in terms.now found.entry) t)) }
 {
     if !put.are_instances(terms, list)? {
         return Ok(Some(Reject::Premise));

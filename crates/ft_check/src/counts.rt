@@ -40,7 +40,9 @@ fn goal_level(goal: Goal) -> u64
 
 // The same for the rule of a number.
 fn rule_level(items: &StatedItems, i: u64, r: u64) -> u64
-    ensures { (R : Rule) → Good (take i items.now.items) → rule_at (declared_by (take i items.now.items)).rules r ≡ Some R → result ≡ level_of_rule R.conclusion }
+    ensures { (R : Rule) → Good (take i items.now.items)
+        → rule_at (declared_by (take i items.now.items)).rules r ≡ Some R
+        → result ≡ level_of_rule R.conclusion }
 {
     match rule_at_hand(items, i, r) {
         None => 0,
@@ -50,7 +52,8 @@ fn rule_level(items: &StatedItems, i: u64, r: u64) -> u64
 
 // The level of reflexivity from entry `p`.
 fn plain_level(items: &StatedItems, i: u64, p: u64) -> u64
-    ensures { (a : Assertion) → entry_named (store_of (take i items.now.items)) p ≡ Some a → result ≡ cond (is_plain a.statement) 0 3 }
+    ensures { (a : Assertion) → entry_named (store_of (take i items.now.items)) p ≡ Some a
+        → result ≡ cond (is_plain a.statement) 0 3 }
 {
     match entry_before(items, i, p) {
         None => 0,
@@ -60,7 +63,9 @@ fn plain_level(items: &StatedItems, i: u64, p: u64) -> u64
 
 // The level of a step.
 fn step_level(items: &StatedItems, i: u64, step: &StatedStep) -> u64
-    ensures { (s : Resolved) → Good (take i items.now.items) → resolve (store_of (take i items.now.items)) (stated_step step.now) ≡ Some s → result ≡ level_of s }
+    ensures { (s : Resolved) → Good (take i items.now.items)
+        → resolve (store_of (take i items.now.items)) (stated_step step.now) ≡ Some s
+        → result ≡ level_of s }
 {
     match step {
         StatedStep::Var(_) => 1,
@@ -98,7 +103,9 @@ fn step_level(items: &StatedItems, i: u64, step: &StatedStep) -> u64
 
 // The level of an item against which there is no reason.
 fn item_level(items: &StatedItems, i: u64, x: &Stated) -> u64
-    ensures { (ts : List Expression) → Good (take i items.now.items) → reason_built (store_of (take i items.now.items)) (item_in ts x.now) ≡ None → result ≡ level_in (store_of (take i items.now.items)) (item_in ts x.now) }
+    ensures { (ts : List Expression) → Good (take i items.now.items)
+        → reason_built (store_of (take i items.now.items)) (item_in ts x.now) ≡ None
+        → result ≡ level_in (store_of (take i items.now.items)) (item_in ts x.now) }
 {
     match x {
         Stated::Thesis(_, _, step) => step_level(items, i, step),
@@ -113,9 +120,12 @@ impl Counted {
         requires rules { self.rules + 1 < 2 ^ 64 }
         requires entries { self.entries + 1 < 2 ^ 64 }
         requires shown { self.shown + 1 < 2 ^ 64 }
-        ensures rules { (ts : List Expression) → result.rules ≡ self.rules + cond (is_rule (item_in ts x.now)) 1 0 }
-        ensures entries { (ts : List Expression) → result.entries ≡ self.entries + cond (is_entry (item_in ts x.now)) 1 0 }
-        ensures shown { (ts : List Expression) → result.shown ≡ self.shown + shown_in (item_in ts x.now) }
+        ensures rules { (ts : List Expression) → result.rules ≡
+            self.rules + cond (is_rule (item_in ts x.now)) 1 0 }
+        ensures entries { (ts : List Expression) → result.entries ≡
+            self.entries + cond (is_entry (item_in ts x.now)) 1 0 }
+        ensures shown { (ts : List Expression) → result.shown ≡
+            self.shown + shown_in (item_in ts x.now) }
         ensures level { result.level ≡ max self.level level }
     {
         let level = self.level.max(level);
@@ -159,7 +169,9 @@ impl Counted {
         requires fits { i + 1 < 2 ^ 64 }
         requires few { IsAtMost i self }
         ensures few { IsAtMost (i + 1) result }
-        ensures counts { first_rejected_by reason_built empty_store zero (take (i + 1) items.now.items) ≡ None → counts_of self ≡ counts (take i items.now.items) → counts_of result ≡ counts (take (i + 1) items.now.items) }
+        ensures counts { first_rejected_by reason_built empty_store zero
+            (take (i + 1) items.now.items) ≡ None → counts_of self ≡ counts (take i items.now.items)
+            → counts_of result ≡ counts (take (i + 1) items.now.items) }
     {
         let x = items.item(i);
         self.with(x, item_level(items, i, x))

@@ -19,7 +19,8 @@ pub enum Entry<'a> {
 
 // The entry, where one is stated.
 fn entry_of(x: &Stated) -> Option<Entry<'_>>
-    ensures entry { (ts : List Expression) → option_map (entry_in ts) result ≡ assertion_of (item_in ts x.now) }
+    ensures entry { (ts : List Expression) → option_map (entry_in ts) result ≡
+        assertion_of (item_in ts x.now) }
     ensures below { (n : ℕ) → StatedBelow n x.now → IfSome result (λ e. EntryBelow n e) }
 {
     match x {
@@ -31,7 +32,8 @@ fn entry_of(x: &Stated) -> Option<Entry<'_>>
 
 // The entry of the metavariable's boundary, where one is stated.
 fn boundary_of(x: &Stated) -> Option<u64>
-    ensures { (ts : List Expression) → result ≡ option_map (λ d. d.1) (metavariable_of (item_in ts x.now)) }
+    ensures { (ts : List Expression) → result ≡ option_map (λ d. d.1)
+        (metavariable_of (item_in ts x.now)) }
 {
     match x {
         Stated::Met(_, p) => Some(*p),
@@ -48,7 +50,8 @@ pub struct RuleLine<'a> {
 
 // The rule, where one is stated.
 fn stated_rule(x: &Stated) -> Option<RuleLine<'_>>
-    ensures { (ts : List Expression) → option_map line_in result ≡ option_map line_of (rule_in (item_in ts x.now)) }
+    ensures { (ts : List Expression) → option_map line_in result ≡
+        option_map line_of (rule_in (item_in ts x.now)) }
 {
     match x {
         Stated::Rule(_, premises, conclusion) => Some(RuleLine {
@@ -62,7 +65,8 @@ fn stated_rule(x: &Stated) -> Option<RuleLine<'_>>
 /// The entry of a number before place `i`, or None where there is none.
 #[tactic(auto, using(crate::proofs::Standing::entry_within, crate::proofs::Standing::entry_absent, crate::proofs::Standing::entry_later, crate::proofs::Standing::entry_there))]
 pub fn entry_before(items: &StatedItems, i: u64, p: u64) -> Option<Entry<'_>>
-    ensures entry { option_map (entry_in items.now.trees) result ≡ entry_named (store_of (take i items.now.items)) p }
+    ensures entry { option_map (entry_in items.now.trees) result ≡
+        entry_named (store_of (take i items.now.items)) p }
     ensures below { IfSome result (λ e. EntryBelow (length items.now.trees) e) }
 {
     let place = items.entry_place(p)?;
@@ -100,7 +104,8 @@ pub fn has_rule_before(items: &StatedItems, i: u64, r: u64) -> bool
 /// The rule of a number before place `i`, or None where there is none.
 #[tactic(auto, using(crate::proofs::Standing::rule_within, crate::proofs::Standing::line_absent, crate::proofs::Standing::line_later, crate::proofs::Standing::line_there))]
 pub fn rule_before(items: &StatedItems, i: u64, r: u64) -> Option<RuleLine<'_>>
-    ensures { option_map line_in result ≡ option_map line_of (nth (rules_in (take i items.now.items)) r) }
+    ensures { option_map line_in result ≡ option_map line_of
+        (nth (rules_in (take i items.now.items)) r) }
 {
     let place = items.rule_place(r)?;
     if place < i {

@@ -61,7 +61,8 @@ impl<'a> Entry<'a> {
     /// Whether the entry is a type without domains.
     #[tactic(auto, using(crate::proofs::OfKind::boundary_no_type))]
     pub fn is_plain_type(self) -> bool
-        ensures { (ts : List Expression) → result ≡ is_plain_type (entry_in ts self.entry).statement }
+        ensures { (ts : List Expression) → result ≡
+            is_plain_type (entry_in ts self.entry).statement }
     {
         match self {
             Entry::Thesis(x, _) => states_type(x),
@@ -71,7 +72,8 @@ impl<'a> Entry<'a> {
 
     /// The parts of the entry's statement.
     pub fn parts(self) -> Parts<'a>
-        ensures is { (ts : List Expression) → statement_in ts result ≡ (entry_in ts self.entry).statement }
+        ensures is { (ts : List Expression) → statement_in ts result ≡
+            (entry_in ts self.entry).statement }
         ensures below { (n : ℕ) → EntryBelow n self.entry → PartsBelow n result }
     {
         match self {
@@ -83,7 +85,10 @@ impl<'a> Entry<'a> {
     /// The goal of the entry, where it is a boundary.
     #[tactic(auto, using(crate::proofs::GoalsTaken::no_thesis, crate::proofs::GoalsTaken::goal_taken))]
     pub fn goal(self) -> Option<Goal>
-        ensures is { (ts : List Expression) → is_thesis (entry_in ts self.entry).statement ≡ false → is_plain (entry_in ts self.entry).statement ≡ true → option_map (goal_in ts) result ≡ Some (claim_of_plain (entry_in ts self.entry).statement) }
+        ensures is { (ts : List Expression) → is_thesis (entry_in ts self.entry).statement ≡ false
+            → is_plain (entry_in ts self.entry).statement ≡ true
+            → option_map (goal_in ts) result ≡ Some (claim_of_plain
+            (entry_in ts self.entry).statement) }
         ensures below { (n : ℕ) → EntryBelow n self.entry → IfSome result (λ g. GoalBelow n g) }
     {
         match self {

@@ -18,9 +18,11 @@ use ft_base::Memory;
 use ft_judge::{Boundary, Goal};
 use ft_stated::StatedItems;
 
-// The boundary of the metavariable of a number.
-fn boundary_named(items: &StatedItems, i: u64, m: u64) -> Option<Entry<'_>>
-    ensures entry { (d : Declared) → Good (take i items.now.items) → nth (declared_by (take i items.now.items)).metavariables m ≡ Some d → option_map (λ e. (entry_in items.now.trees e).statement) result ≡ Some d.boundary }
+/// The boundary of the metavariable of a number.
+pub fn boundary_named(items: &StatedItems, i: u64, m: u64) -> Option<Entry<'_>>
+    ensures entry { (d : Declared) → Good (take i items.now.items)
+        → nth (declared_by (take i items.now.items)).metavariables m ≡ Some d
+        → option_map (λ e. (entry_in items.now.trees e).statement) result ≡ Some d.boundary }
     ensures below { IfSome result (λ e. EntryBelow (length items.now.trees) e) }
 {
     match metavariable_before(items, i, m) {
@@ -29,11 +31,20 @@ fn boundary_named(items: &StatedItems, i: u64, m: u64) -> Option<Entry<'_>>
     }
 }
 
-// Adds what has to be the same for a thesis to fit an instance of a boundary, or answers false where it fits none.
-fn push_entry(list: &mut Vec<Compared>, found: Entry<'_>, wanted: Entry<'_>) -> Result<bool, Memory>
-    ensures same { (ts : List Expression) (j : Expression → Expression) → is_thesis (entry_in ts found.entry).statement ≡ true → is_thesis (entry_in ts wanted.entry).statement ≡ false
-        → IfOk result (λ yes. (yes && all_same ts j list.new.items) ≡ (all_same ts j list.old.items && fits (entry_in ts found.entry).statement (map_statement (λ k. j) zero (entry_in ts wanted.entry).statement))) }
-    ensures below { (n : ℕ) → ComparedBelow n list.old.items → EntryBelow n found.entry → EntryBelow n wanted.entry → IfOk result (λ yes. ComparedBelow n list.new.items) }
+/// Adds what has to be the same for a thesis to fit an instance of a boundary, or answers false where it fits none.
+pub fn push_entry(
+    list: &mut Vec<Compared>,
+    found: Entry<'_>,
+    wanted: Entry<'_>,
+) -> Result<bool, Memory>
+    ensures same { (ts : List Expression) (j : Expression → Expression)
+        → is_thesis (entry_in ts found.entry).statement ≡ true
+        → is_thesis (entry_in ts wanted.entry).statement ≡ false
+        → IfOk result (λ yes. (yes && all_same ts j list.new.items) ≡
+        (all_same ts j list.old.items && fits (entry_in ts found.entry).statement
+        (map_statement (λ k. j) zero (entry_in ts wanted.entry).statement))) }
+    ensures below { (n : ℕ) → ComparedBelow n list.old.items → EntryBelow n found.entry
+        → EntryBelow n wanted.entry → IfOk result (λ yes. ComparedBelow n list.new.items) }
 {
     match found {
         Entry::Boundary(..) => Ok(false),
@@ -52,9 +63,15 @@ fn push_premise(
     m: u64,
     p: u64,
 ) -> Result<bool, Memory>
-    ensures same { (d : ℕ × Declared) (a : Assertion) (j : Expression → Expression) → Good (take i items.now.items) → metavariable_named (declared_by (take i items.now.items)) m ≡ Some d → entry_named (store_of (take i items.now.items)) p ≡ Some a → is_thesis a.statement ≡ true
-        → IfOk result (λ yes. (yes && all_same items.now.trees j list.new.items) ≡ (all_same items.now.trees j list.old.items && fits a.statement (map_statement (λ k. j) zero d.1.boundary))) }
-    ensures below { ComparedBelow (length items.now.trees) list.old.items → IfOk result (λ yes. ComparedBelow (length items.now.trees) list.new.items) }
+    ensures same { (d : ℕ × Declared) (a : Assertion) (j : Expression → Expression)
+        → Good (take i items.now.items) → metavariable_named (declared_by (take i items.now.items))
+        m ≡ Some d → entry_named (store_of (take i items.now.items)) p ≡ Some a
+        → is_thesis a.statement ≡ true → IfOk result
+        (λ yes. (yes && all_same items.now.trees j list.new.items) ≡
+        (all_same items.now.trees j list.old.items
+        && fits a.statement (map_statement (λ k. j) zero d.1.boundary))) }
+    ensures below { ComparedBelow (length items.now.trees) list.old.items
+        → IfOk result (λ yes. ComparedBelow (length items.now.trees) list.new.items) }
 {
     match entry_before(items, i, p) {
         None => Ok(false),
@@ -74,10 +91,16 @@ fn push_each(
     ps: &[u64],
 ) -> Result<bool, Memory>
     requires { length ms.now ≡ length ps.now }
-    ensures same { (ds : List (ℕ × Declared)) (given : List Assertion) (j : Expression → Expression) → Good (take i items.now.items) → each (metavariable_named (declared_by (take i items.now.items))) ms.now ≡ Some ds
-        → each (entry_named (store_of (take i items.now.items))) ps.now ≡ Some given → all_theses given ≡ true
-        → IfOk result (λ yes. (yes && all_same items.now.trees j list.new.items) ≡ (all_same items.now.trees j list.old.items && fit_all (map_statement (λ k. j) zero) (premises_of ds) (statements given))) }
-    ensures below { ComparedBelow (length items.now.trees) list.old.items → IfOk result (λ yes. ComparedBelow (length items.now.trees) list.new.items) }
+    ensures same { (ds : List (ℕ × Declared)) (given : List Assertion) (j : Expression → Expression)
+        → Good (take i items.now.items) → each (metavariable_named
+        (declared_by (take i items.now.items))) ms.now ≡ Some ds
+        → each (entry_named (store_of (take i items.now.items))) ps.now ≡ Some given
+        → all_theses given ≡ true → IfOk result (λ yes.
+        (yes && all_same items.now.trees j list.new.items) ≡
+        (all_same items.now.trees j list.old.items
+        && fit_all (map_statement (λ k. j) zero) (premises_of ds) (statements given))) }
+    ensures below { ComparedBelow (length items.now.trees) list.old.items
+        → IfOk result (λ yes. ComparedBelow (length items.now.trees) list.new.items) }
 {
     for k in 0..ms.len() {
         if !push_premise(list, items, i, ms[k], ps[k])? {
@@ -95,10 +118,16 @@ pub fn push_premises(
     ms: &[u64],
     ps: &[u64],
 ) -> Result<bool, Memory>
-    ensures same { (ds : List (ℕ × Declared)) (given : List Assertion) (j : Expression → Expression) → Good (take i items.now.items) → each (metavariable_named (declared_by (take i items.now.items))) ms.now ≡ Some ds
-        → each (entry_named (store_of (take i items.now.items))) ps.now ≡ Some given → all_theses given ≡ true
-        → IfOk result (λ yes. (yes && all_same items.now.trees j list.new.items) ≡ (all_same items.now.trees j list.old.items && fit_all (map_statement (λ k. j) zero) (premises_of ds) (statements given))) }
-    ensures below { ComparedBelow (length items.now.trees) list.old.items → IfOk result (λ yes. ComparedBelow (length items.now.trees) list.new.items) }
+    ensures same { (ds : List (ℕ × Declared)) (given : List Assertion) (j : Expression → Expression)
+        → Good (take i items.now.items) → each (metavariable_named
+        (declared_by (take i items.now.items))) ms.now ≡ Some ds
+        → each (entry_named (store_of (take i items.now.items))) ps.now ≡ Some given
+        → all_theses given ≡ true → IfOk result (λ yes.
+        (yes && all_same items.now.trees j list.new.items) ≡
+        (all_same items.now.trees j list.old.items
+        && fit_all (map_statement (λ k. j) zero) (premises_of ds) (statements given))) }
+    ensures below { ComparedBelow (length items.now.trees) list.old.items
+        → IfOk result (λ yes. ComparedBelow (length items.now.trees) list.new.items) }
 {
     if ms.len() != ps.len() {
         return Ok(false);
@@ -108,8 +137,12 @@ pub fn push_premises(
 
 // Adds what has to be the same for a boundary to be an instance of the plain goal, or answers false where it is none.
 fn push_plain(list: &mut Vec<Compared>, found: &Boundary, wanted: &Goal) -> Result<bool, Memory>
-    ensures same { (ts : List Expression) (j : Expression → Expression) → IfOk result (λ yes. (yes && all_same ts j list.new.items) ≡ (all_same ts j list.old.items && equal_statements (boundary_in ts found.now) (plain (map_claim j (goal_in ts wanted.now))))) }
-    ensures below { (n : ℕ) → ComparedBelow n list.old.items → BoundaryBelow n found.now → GoalBelow n wanted.now → IfOk result (λ yes. ComparedBelow n list.new.items) }
+    ensures same { (ts : List Expression) (j : Expression → Expression)
+        → IfOk result (λ yes. (yes && all_same ts j list.new.items) ≡
+        (all_same ts j list.old.items && equal_statements (boundary_in ts found.now)
+        (plain (map_claim j (goal_in ts wanted.now))))) }
+    ensures below { (n : ℕ) → ComparedBelow n list.old.items → BoundaryBelow n found.now
+        → GoalBelow n wanted.now → IfOk result (λ yes. ComparedBelow n list.new.items) }
 {
     if is_empty(&found.domains) {
         push_goal(list, &found.goal, wanted)
@@ -124,9 +157,13 @@ pub fn push_boundary(
     found: Entry<'_>,
     wanted: &Goal,
 ) -> Result<bool, Memory>
-    ensures same { (ts : List Expression) (j : Expression → Expression) → is_thesis (entry_in ts found.entry).statement ≡ false
-        → IfOk result (λ yes. (yes && all_same ts j list.new.items) ≡ (all_same ts j list.old.items && equal_statements (entry_in ts found.entry).statement (plain (map_claim j (goal_in ts wanted.now))))) }
-    ensures below { (n : ℕ) → ComparedBelow n list.old.items → EntryBelow n found.entry → GoalBelow n wanted.now → IfOk result (λ yes. ComparedBelow n list.new.items) }
+    ensures same { (ts : List Expression) (j : Expression → Expression)
+        → is_thesis (entry_in ts found.entry).statement ≡ false
+        → IfOk result (λ yes. (yes && all_same ts j list.new.items) ≡
+        (all_same ts j list.old.items && equal_statements (entry_in ts found.entry).statement
+        (plain (map_claim j (goal_in ts wanted.now))))) }
+    ensures below { (n : ℕ) → ComparedBelow n list.old.items → EntryBelow n found.entry
+        → GoalBelow n wanted.now → IfOk result (λ yes. ComparedBelow n list.new.items) }
 {
     match found {
         Entry::Thesis(..) => Ok(false),

@@ -29,9 +29,9 @@ pub struct Put {
     pub arguments: Vec<Arg>,
 }
 
-// The argument of another table.
+/// The argument of another table.
 #[tactic(auto, using(ft_syntax::specs::Laws::extends_same))]
-fn copy(terms: &mut Terms, other: &Terms, head: Arg) -> Result<Arg, Memory>
+pub fn copy(terms: &mut Terms, other: &Terms, head: Arg) -> Result<Arg, Memory>
     requires { BodyBelow (length other.now) head.body }
     ensures is { IfOk result (λ x. argument_in terms.new x ≡ argument_in other.now head) }
     ensures below { IfOk result (λ x. BodyBelow (length terms.new) x.body) }
@@ -52,7 +52,9 @@ fn copy(terms: &mut Terms, other: &Terms, head: Arg) -> Result<Arg, Memory>
 // The head of an entry that is a thesis.
 #[tactic(auto, using(ft_syntax::specs::Laws::extends_same, crate::proofs::HeadsPut::head_taken, crate::proofs::HeadsPut::head_below, crate::proofs::HeadsPut::no_entry, crate::proofs::HeadsPut::no_thesis))]
 fn head_at(terms: &mut Terms, items: &StatedItems, i: u64, p: u64) -> Result<Arg, Memory>
-    ensures head { (a : Assertion) → entry_named (store_of (take i items.now.items)) p ≡ Some a → is_thesis a.statement ≡ true → IfOk result (λ x. argument_in terms.new x ≡ head_argument a.statement) }
+    ensures head { (a : Assertion) → entry_named (store_of (take i items.now.items)) p ≡ Some a
+        → is_thesis a.statement ≡ true → IfOk result (λ x. argument_in terms.new x ≡
+        head_argument a.statement) }
     ensures below { IfOk result (λ x. BodyBelow (length terms.new) x.body) }
     ensures goes_on { Extends terms.old terms.new }
 {
@@ -78,7 +80,10 @@ fn heads_in(
     i: u64,
     ps: &[u64],
 ) -> Result<Vec<Arg>, Memory>
-    ensures heads { (given : List Assertion) → each (entry_named (store_of (take i items.now.items))) ps.now ≡ Some given → all_theses given ≡ true → IfOk result (λ xs. arguments_in terms.new xs.items ≡ heads_of (statements given)) }
+    ensures heads { (given : List Assertion) → each
+        (entry_named (store_of (take i items.now.items))) ps.now ≡ Some given
+        → all_theses given ≡ true → IfOk result (λ xs. arguments_in terms.new xs.items ≡
+        heads_of (statements given)) }
     ensures below { IfOk result (λ xs. ArgumentsBelow (length terms.new) xs.items) }
 {
     let mut list = Vec::new(alloc);
@@ -89,9 +94,9 @@ fn heads_in(
     Ok(list)
 }
 
-// Each metavariable with the argument in its place.
+/// Each metavariable with the argument in its place.
 #[tactic(auto, using(crate::proofs::HeadsPut::pairing_more, crate::proofs::HeadsPut::pairing_end))]
-fn paired(alloc: Global, ms: &[u64], arguments: &[Arg]) -> Result<Pairs, Memory>
+pub fn paired(alloc: Global, ms: &[u64], arguments: &[Arg]) -> Result<Pairs, Memory>
     ensures { IfOk result (λ x. x ≡ pairs_of ms.now arguments.now) }
 {
     let mut pairs = Pairs::new(alloc);
@@ -111,9 +116,15 @@ pub fn put_heads(
     ms: &[u64],
     ps: &[u64],
 ) -> Result<Put, Memory>
-    ensures heads { (given : List Assertion) → each (entry_named (store_of (take i items.now.items))) ps.now ≡ Some given → all_theses given ≡ true → IfOk result (λ x. arguments_in x.terms x.arguments.items ≡ heads_of (statements given)) }
-    ensures instance { (given : List Assertion) (qs : List (ℕ × Statement)) → each (entry_named (store_of (take i items.now.items))) ps.now ≡ Some given → all_theses given ≡ true → map (λ (q : ℕ × Statement). q.0) qs ≡ ms.now
-        → IfOk result (λ x. instance_in x.terms x.instance.pairs ≡ instance_of qs (heads_of (statements given))) }
+    ensures heads { (given : List Assertion) → each
+        (entry_named (store_of (take i items.now.items))) ps.now ≡ Some given
+        → all_theses given ≡ true → IfOk result (λ x. arguments_in x.terms x.arguments.items ≡
+        heads_of (statements given)) }
+    ensures instance { (given : List Assertion) (qs : List (ℕ × Statement))
+        → each (entry_named (store_of (take i items.now.items))) ps.now ≡ Some given
+        → all_theses given ≡ true → map (λ (q : ℕ × Statement). q.0) qs ≡ ms.now
+        → IfOk result (λ x. instance_in x.terms x.instance.pairs ≡
+        instance_of qs (heads_of (statements given))) }
     ensures below { IfOk result (λ x. IsPutIn x) }
 {
     let mut terms = Terms::new(alloc);
@@ -136,7 +147,8 @@ fn is_instance(
 ) -> Result<bool, Memory>
     requires compared { (p.found < length terms.now) × (p.wanted < length terms.now) }
     requires pairs { PairsBelow (length put.old) instance.now.pairs }
-    ensures is { IfOk result (λ yes. yes ≡ equal_expressions (tree terms.now p.found) (instantiate (instance_in put.old instance.now.pairs) (tree terms.now p.wanted))) }
+    ensures is { IfOk result (λ yes. yes ≡ equal_expressions (tree terms.now p.found)
+        (instantiate (instance_in put.old instance.now.pairs) (tree terms.now p.wanted))) }
     ensures goes_on { Extends put.old put.new }
 {
     // what is found is small, so that an instance that is not small is another
@@ -162,7 +174,8 @@ fn all_instances(
 ) -> Result<bool, Memory>
     requires compared { ComparedBelow (length terms.now) list.now }
     requires pairs { PairsBelow (length put.old) instance.now.pairs }
-    ensures are { IfOk result (λ yes. yes ≡ all_same terms.now (instantiate (instance_in put.old instance.now.pairs)) list.now) }
+    ensures are { IfOk result (λ yes. yes ≡ all_same terms.now
+        (instantiate (instance_in put.old instance.now.pairs)) list.now) }
     ensures goes_on { Extends put.old put.new }
 {
     for k in 0..list.len() {
@@ -184,7 +197,8 @@ fn is_symbol(
 ) -> Result<bool, Memory>
     requires found { found < length terms.now }
     requires arguments { ArgumentsBelow (length put.old) arguments.now }
-    ensures is { IfOk result (λ yes. yes ≡ equal_expressions (tree terms.now found) (symbol r (arguments_in put.old arguments.now))) }
+    ensures is { IfOk result (λ yes. yes ≡ equal_expressions (tree terms.now found)
+        (symbol r (arguments_in put.old arguments.now))) }
     ensures goes_on { Extends put.old put.new }
 {
     // what is found is small, so that an application that is not small is another
@@ -205,10 +219,13 @@ impl Put {
     pub fn are_instances(&mut self, terms: &Terms, list: &[Compared]) -> Result<bool, Memory>
         requires compared { ComparedBelow (length terms.now) list.now }
         requires below { IsPutIn self.old }
-        ensures are { IfOk result (λ yes. yes ≡ all_same terms.now (instantiate (instance_in self.old.terms self.old.instance.pairs)) list.now) }
+        ensures are { IfOk result (λ yes. yes ≡ all_same terms.now
+            (instantiate (instance_in self.old.terms self.old.instance.pairs)) list.now) }
         ensures below { IsPutIn self.new }
-        ensures instance { instance_in self.new.terms self.new.instance.pairs ≡ instance_in self.old.terms self.old.instance.pairs }
-        ensures arguments { arguments_in self.new.terms self.new.arguments.items ≡ arguments_in self.old.terms self.old.arguments.items }
+        ensures instance { instance_in self.new.terms self.new.instance.pairs ≡
+            instance_in self.old.terms self.old.instance.pairs }
+        ensures arguments { arguments_in self.new.terms self.new.arguments.items ≡
+            arguments_in self.old.terms self.old.arguments.items }
     {
         all_instances(&mut self.terms, &self.instance, terms, list)
     }
@@ -218,11 +235,31 @@ impl Put {
     pub fn is_applied(&mut self, terms: &Terms, r: u64, found: E) -> Result<bool, Memory>
         requires found { found < length terms.now }
         requires below { IsPutIn self.old }
-        ensures is { IfOk result (λ yes. yes ≡ equal_expressions (tree terms.now found) (symbol r (arguments_in self.old.terms self.old.arguments.items))) }
+        ensures is { IfOk result (λ yes. yes ≡ equal_expressions (tree terms.now found)
+            (symbol r (arguments_in self.old.terms self.old.arguments.items))) }
         ensures below { IsPutIn self.new }
-        ensures instance { instance_in self.new.terms self.new.instance.pairs ≡ instance_in self.old.terms self.old.instance.pairs }
-        ensures arguments { arguments_in self.new.terms self.new.arguments.items ≡ arguments_in self.old.terms self.old.arguments.items }
+        ensures instance { instance_in self.new.terms self.new.instance.pairs ≡
+            instance_in self.old.terms self.old.instance.pairs }
+        ensures arguments { arguments_in self.new.terms self.new.arguments.items ≡
+            arguments_in self.old.terms self.old.arguments.items }
     {
         is_symbol(&mut self.terms, &self.arguments, terms, r, found)
+    }
+
+    /// Whether the expression that is found is the instance of the one that is wanted.
+    #[tactic(auto, using(ft_syntax::specs::Laws::pairs_below_extends, ft_syntax::specs::Laws::instance_extends, ft_syntax::specs::Laws::arguments_below_extends, crate::proofs::HeadsPut::arguments_stay))]
+    pub fn has_instance(&mut self, terms: &Terms, p: Compared) -> Result<bool, Memory>
+        requires compared { (p.found < length terms.now) × (p.wanted < length terms.now) }
+        requires below { IsPutIn self.old }
+        ensures is { IfOk result (λ yes. yes ≡ equal_expressions (tree terms.now p.found)
+            (instantiate (instance_in self.old.terms self.old.instance.pairs)
+            (tree terms.now p.wanted))) }
+        ensures below { IsPutIn self.new }
+        ensures instance { instance_in self.new.terms self.new.instance.pairs
+            ≡ instance_in self.old.terms self.old.instance.pairs }
+        ensures arguments { arguments_in self.new.terms self.new.arguments.items
+            ≡ arguments_in self.old.terms self.old.arguments.items }
+    {
+        is_instance(&mut self.terms, &self.instance, terms, p)
     }
 }

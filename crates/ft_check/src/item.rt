@@ -14,13 +14,18 @@ ghost use Rattle.ft_check.specs.Rejects.{reason_of};
 
 use crate::binding::{By, check_abs, check_subst, check_var};
 use crate::boundaries::check_btype;
+use crate::congruences::check_cong;
+use crate::conversions::{Way, check_conv};
 use crate::entry::Entry;
+use crate::metas::{check_generic, check_meta};
+use crate::next_boundary::check_inst;
 use crate::parted::{check_from_one, check_from_three, check_from_two};
 use crate::reject::Reject;
 use crate::rules_at::{check_applied, check_applied_with};
 use crate::step_kinds::kinds;
 use crate::without_step::check_without_step;
 use ft_base::Memory;
+use ft_placing::At;
 use ft_stated::{Stated, StatedItems, StatedStep};
 use ft_steps::{FromOne, FromTwo};
 use std::alloc::Global;
@@ -34,11 +39,18 @@ fn check_result(
     step: &StatedStep,
 ) -> Result<Option<Reject>, Memory>
     requires { EntryBelow (length items.now.trees) found }
-    ensures { (s : Resolved) → Good (take i items.now.items) → resolve (store_of (take i items.now.items)) (stated_step step.now) ≡ Some s → kinds_right (is_thesis (entry_in items.now.trees found.entry).statement) s ≡ true
-        → IfOk result (λ r. option_map reason_of r ≡ reason_of_result (conclusion_built (declared_by (take i items.now.items)) s) (result_set s) (with_step (entry_in items.now.trees found.entry) (stated_step step.now))) }
+    ensures { (s : Resolved) → Good (take i items.now.items)
+        → resolve (store_of (take i items.now.items)) (stated_step step.now) ≡ Some s
+        → kinds_right (is_thesis (entry_in items.now.trees found.entry).statement) s ≡ true
+        → IfOk result (λ r. option_map reason_of r ≡
+        reason_of_result (conclusion_built (declared_by (take i items.now.items)) s) (result_set s)
+        (with_step (entry_in items.now.trees found.entry) (stated_step step.now))) }
 {
     match step {
         StatedStep::Var(v) => check_var(alloc, items, i, found, *v),
+        StatedStep::Generic(m) => check_generic(alloc, items, i, found, *m),
+        StatedStep::Meta(m, ps) => check_meta(alloc, items, i, found, At::Terms, *m, ps),
+        StatedStep::Metacong(m, es) => check_meta(alloc, items, i, found, At::EqualTerms, *m, es),
         StatedStep::Abs(v, p) => check_abs(alloc, items, i, found, *v, *p),
         StatedStep::Subst(p, q) => check_subst(alloc, items, i, found, By::Term, *p, *q),
         StatedStep::Substeq(p, q) => check_subst(alloc, items, i, found, By::Equation, *p, *q),
@@ -59,7 +71,16 @@ fn check_result(
         StatedStep::Beqtm(p, s, t) => check_from_three(items, i, found, *p, *s, *t),
         StatedStep::Rule(r, ps) => check_applied(alloc, items, i, found, *r, ps),
         StatedStep::Rulewith(r, b, ps) => { check_applied_with(alloc, items, i, found, *r, *b, ps) }
-        _ => Ok(Some(Reject::Premise)),
+        StatedStep::Inst(r, ps) => check_inst(alloc, items, i, found, *r, ps),
+        StatedStep::Cong(r, ps, es) => check_cong(alloc, items, i, found, *r, ps, es),
+        StatedStep::Convprem(r, ps, es, q) => {
+            check_conv(alloc, items, i, found, Way::Forth, *r, ps, es, *q)
+        }
+        StatedStep::Convback(r, ps, es, q) => {
+            check_conv(alloc, items, i, found, Way::Back, *r, ps, es, *q)
+        }
+        StatedStep::Arg(_, _) => Ok(Some(Reject::Premise)),
+        StatedStep::Natural(_) => Ok(Some(Reject::Premise)),
     }
 }
 
@@ -72,8 +93,10 @@ fn check_entry(
     step: &StatedStep,
 ) -> Result<Option<Reject>, Memory>
     requires { EntryBelow (length items.now.trees) found }
-    ensures { Good (take i items.now.items)
-        → IfOk result (λ r. option_map reason_of r ≡ reason_by conclusion_built (declared_by (take i items.now.items)) (resolve (store_of (take i items.now.items)) (stated_step step.now)) (with_step (entry_in items.now.trees found.entry) (stated_step step.now))) }
+    ensures { Good (take i items.now.items) → IfOk result (λ r. option_map reason_of r ≡
+        reason_by conclusion_built (declared_by (take i items.now.items))
+        (resolve (store_of (take i items.now.items)) (stated_step step.now))
+        (with_step (entry_in items.now.trees found.entry) (stated_step step.now))) }
 {
     match kinds(items, i, step, found.is_thesis()) {
         None => Ok(Some(Reject::Reference)),
@@ -86,7 +109,9 @@ fn check_entry(
 /// it are no good list, nothing is said of the answer.
 pub fn check_item(alloc: Global, items: &StatedItems, i: u64) -> Result<Option<Reject>, Memory>
     requires { i < length items.now.items }
-    ensures { (x : Item) → nth items.now.items i ≡ Some x → Good (take i items.now.items) → IfOk result (λ r. option_map reason_of r ≡ reason_built (store_of (take i items.now.items)) x) }
+    ensures { (x : Item) → nth items.now.items i ≡ Some x → Good (take i items.now.items)
+        → IfOk result (λ r. option_map reason_of r ≡
+        reason_built (store_of (take i items.now.items)) x) }
 {
     match items.item(i) {
         Stated::Thesis(thesis, set, step) => {

@@ -1,11 +1,16 @@
 //! The check of the items of a file, each after those before it.
 #![tactic(auto)]
 
+mod after;
 mod applied;
+mod arguing;
 mod binding;
 mod boundaries;
 mod compare;
 mod concluding;
+mod congruences;
+mod conversions;
+mod copies;
 mod counts;
 mod entry;
 mod entry_contents;
@@ -14,15 +19,20 @@ mod instances;
 mod item;
 mod laws;
 mod list;
+mod metas;
+mod metavariable_at;
 mod metavariables;
 mod named;
+mod next_boundary;
 mod parted;
 mod reject;
 mod result;
+mod rights;
 mod rules;
 mod rules_at;
 mod sets;
 mod shown;
+mod sides;
 mod step_kinds;
 mod typed;
 mod variables;

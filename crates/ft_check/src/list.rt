@@ -42,8 +42,10 @@ fn first_rejected(alloc: Global, items: &StatedItems) -> Result<Verdict, Memory>
 #[tactic(auto, using(crate::proofs::Listed::as_defined, crate::proofs::Listed::all_derivable))]
 pub fn check_items(alloc: Global, items: &StatedItems) -> Result<Verdict, Memory>
     ensures verdict { IfOk result (λ v. verdict_of v ≡ verdict_built items.now.items) }
-    ensures built { AllBuilt items.now.items → IfOk result (λ v. verdict_of v ≡ verdict_on items.now.items) }
-    ensures derivable { IfOk result (λ v. (c : Counts) → verdict_of v ≡ Accepted c → EachEntry (λ W e. Derivable W e.statement e.set) items.now.items) }
+    ensures built { AllBuilt items.now.items → IfOk result (λ v. verdict_of v ≡
+        verdict_on items.now.items) }
+    ensures derivable { IfOk result (λ v. (c : Counts) → verdict_of v ≡ Accepted c
+        → EachEntry (λ W e. Derivable W e.statement e.set) items.now.items) }
 {
     first_rejected(alloc, items)
 }

@@ -14,7 +14,8 @@ use ft_stated::StatedItems;
 
 // The reason against an entry as the boundary of a metavariable.
 fn against_boundary(found: Entry<'_>) -> Option<Reject>
-    ensures { (ts : List Expression) → option_map reason_of result ≡ reason_of_metavariable (Some (entry_in ts found.entry)) }
+    ensures { (ts : List Expression) → option_map reason_of result ≡
+        reason_of_metavariable (Some (entry_in ts found.entry)) }
 {
     if found.is_thesis() {
         Some(Reject::Kind)

@@ -91,7 +91,8 @@ pub fn is_entry(items: &StatedItems, i: u64, p: u64) -> Option<bool>
 
 /// True, where the variable is there.
 pub fn is_variable(items: &StatedItems, i: u64, v: u64) -> Option<bool>
-    ensures { Good (take i items.now.items) → result ≡ variable_there (declared_by (take i items.now.items)) v }
+    ensures { Good (take i items.now.items) → result ≡
+        variable_there (declared_by (take i items.now.items)) v }
 {
     if lacks_variable(items, i, v) {
         None
@@ -102,7 +103,8 @@ pub fn is_variable(items: &StatedItems, i: u64, v: u64) -> Option<bool>
 
 /// True, where the metavariable is there.
 pub fn is_metavariable(items: &StatedItems, i: u64, m: u64) -> Option<bool>
-    ensures { Good (take i items.now.items) → result ≡ metavariable_there (declared_by (take i items.now.items)) m }
+    ensures { Good (take i items.now.items) → result ≡
+        metavariable_there (declared_by (take i items.now.items)) m }
 {
     match metavariable_before(items, i, m) {
         None => None,
@@ -112,7 +114,8 @@ pub fn is_metavariable(items: &StatedItems, i: u64, m: u64) -> Option<bool>
 
 /// True, where the rule is there.
 pub fn is_rule(items: &StatedItems, i: u64, r: u64) -> Option<bool>
-    ensures { Good (take i items.now.items) → result ≡ rule_there (declared_by (take i items.now.items)) r }
+    ensures { Good (take i items.now.items) → result ≡
+        rule_there (declared_by (take i items.now.items)) r }
 {
     if has_rule_before(items, i, r) {
         Some(true)

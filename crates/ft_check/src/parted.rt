@@ -25,7 +25,9 @@ use ft_syntax::Terms;
 fn against(terms: &Terms, concluded: &Parts<'_>, set: &Assume, found: Entry<'_>) -> Option<Reject>
     requires concluded { PartsBelow (length terms.now) concluded.now }
     requires found { EntryBelow (length terms.now) found }
-    ensures { (t : StatedNumbers) → option_map reason_of result ≡ reason_of_result (Some (statement_in terms.now concluded.now)) set.now (with_step (entry_in terms.now found.entry) t) }
+    ensures { (t : StatedNumbers) → option_map reason_of result ≡
+        reason_of_result (Some (statement_in terms.now concluded.now)) set.now
+        (with_step (entry_in terms.now found.entry) t) }
 {
     let stated = found.parts();
     let is_concluded = is_same(terms, concluded, &stated);
@@ -41,7 +43,10 @@ pub fn check_from_one(
     p: u64,
 ) -> Option<Reject>
     requires { EntryBelow (length items.now.trees) found }
-    ensures { (a : Assertion) (t : StatedNumbers) → entry_named (store_of (take i items.now.items)) p ≡ Some a → option_map reason_of result ≡ reason_of_result (one_concluded row a.statement) a.set (with_step (entry_in items.now.trees found.entry) t) }
+    ensures { (a : Assertion) (t : StatedNumbers)
+        → entry_named (store_of (take i items.now.items)) p ≡ Some a
+        → option_map reason_of result ≡ reason_of_result (one_concluded row a.statement) a.set
+        (with_step (entry_in items.now.trees found.entry) t) }
 {
     match entry_before(items, i, p) {
         None => Some(Reject::Reference),
@@ -62,8 +67,12 @@ pub fn check_from_two(
     q: u64,
 ) -> Result<Option<Reject>, Memory>
     requires { EntryBelow (length items.now.trees) found }
-    ensures { (a b : Assertion) (t : StatedNumbers) → entry_named (store_of (take i items.now.items)) p ≡ Some a → entry_named (store_of (take i items.now.items)) q ≡ Some b
-        → IfOk result (λ x. option_map reason_of x ≡ reason_of_result (two_concluded row a.statement b.statement) (union a.set b.set) (with_step (entry_in items.now.trees found.entry) t)) }
+    ensures { (a b : Assertion) (t : StatedNumbers)
+        → entry_named (store_of (take i items.now.items)) p ≡ Some a
+        → entry_named (store_of (take i items.now.items)) q ≡ Some b
+        → IfOk result (λ x. option_map reason_of x ≡
+        reason_of_result (two_concluded row a.statement b.statement) (union a.set b.set)
+        (with_step (entry_in items.now.trees found.entry) t)) }
 {
     let Some(first) = entry_before(items, i, p) else {
         return Ok(Some(Reject::Reference));
@@ -88,8 +97,13 @@ pub fn check_from_three(
     t: u64,
 ) -> Result<Option<Reject>, Memory>
     requires { EntryBelow (length items.now.trees) found }
-    ensures { (a b c : Assertion) (n : StatedNumbers) → entry_named (store_of (take i items.now.items)) p ≡ Some a → entry_named (store_of (take i items.now.items)) s ≡ Some b → entry_named (store_of (take i items.now.items)) t ≡ Some c
-        → IfOk result (λ x. option_map reason_of x ≡ reason_of_result (term_equation_boundary a.statement b.statement c.statement) (union a.set (union b.set c.set)) (with_step (entry_in items.now.trees found.entry) n)) }
+    ensures { (a b c : Assertion) (n : StatedNumbers)
+        → entry_named (store_of (take i items.now.items)) p ≡ Some a
+        → entry_named (store_of (take i items.now.items)) s ≡ Some b
+        → entry_named (store_of (take i items.now.items)) t ≡ Some c
+        → IfOk result (λ x. option_map reason_of x ≡
+        reason_of_result (term_equation_boundary a.statement b.statement c.statement)
+        (union a.set (union b.set c.set)) (with_step (entry_in items.now.trees found.entry) n)) }
 {
     let Some(first) = entry_before(items, i, p) else {
         return Ok(Some(Reject::Reference));

@@ -22,7 +22,8 @@ use ft_stated::{Numbers, StatedItems};
 
 // Whether no rule before place i has the name.
 fn is_new(items: &StatedItems, i: u64, name: &Name) -> bool
-    ensures { Good (take i items.now.items) → result ≡ is_new_among (declared_by (take i items.now.items)).names name.now }
+    ensures { Good (take i items.now.items) → result ≡
+        is_new_among (declared_by (take i items.now.items)).names name.now }
 {
     match items.name_place(name) {
         Some(place) => i <= place,
@@ -32,7 +33,8 @@ fn is_new(items: &StatedItems, i: u64, name: &Name) -> bool
 
 // Whether each number is that of a metavariable before place i.
 fn are_metavariables(items: &StatedItems, i: u64, ms: &[u64]) -> bool
-    ensures { result ≡ list_all (λ m. is_some (nth (metavariables_in (take i items.now.items)) m)) ms.now }
+    ensures { result ≡ list_all (λ m. is_some (nth (metavariables_in (take i items.now.items)) m))
+        ms.now }
 {
     for k in 0..ms.len() {
         let m = ms[k];
@@ -45,7 +47,8 @@ fn are_metavariables(items: &StatedItems, i: u64, ms: &[u64]) -> bool
 
 // What the boundary of a metavariable rests on.
 fn boundary_rests_on(items: &StatedItems, i: u64, m: u64) -> Option<&Assume>
-    ensures { unwrap_or (option_map (λ S. S.now) result) [] ≡ boundary_set (take i items.now.items) m }
+    ensures { unwrap_or (option_map (λ S. S.now) result) [] ≡
+        boundary_set (take i items.now.items) m }
 {
     let p = metavariable_before(items, i, m)?;
     let entry = entry_before(items, i, p)?;
@@ -77,21 +80,27 @@ fn rest_on_earlier(items: &StatedItems, i: u64, ms: &[u64]) -> bool
 
 // Whether the metavariables differ and the entry is a plain boundary.
 fn is_of_kind(ms: &[u64], found: Entry<'_>) -> bool
-    ensures { (ts : List Expression) → result ≡ (all_differ (map met ms.now) && not (is_thesis (entry_in ts found.entry).statement) && is_plain (entry_in ts found.entry).statement) }
+    ensures { (ts : List Expression) → result ≡ (all_differ (map met ms.now)
+        && not (is_thesis (entry_in ts found.entry).statement)
+        && is_plain (entry_in ts found.entry).statement) }
 {
     differ(ms) && !found.is_thesis() && found.is_plain()
 }
 
 // Whether the rule rests on its metavariables alone.
 fn is_tight(items: &StatedItems, i: u64, ms: &[u64], found: Entry<'_>) -> bool
-    ensures { (ts : List Expression) → result ≡ (all_rest_on_earlier (boundary_set (take i items.now.items)) [] ms.now && within (entry_in ts found.entry).set (map met ms.now)) }
+    ensures { (ts : List Expression) → result ≡ (all_rest_on_earlier
+        (boundary_set (take i items.now.items)) [] ms.now
+        && within (entry_in ts found.entry).set (map met ms.now)) }
 {
     rest_on_earlier(items, i, ms) && is_within(found.set(), ms)
 }
 
 // The reason against an entry as the conclusion's boundary of a rule with these metavariables.
 fn against_conclusion(items: &StatedItems, i: u64, ms: &[u64], found: Entry<'_>) -> Option<Reject>
-    ensures { (ts : List Expression) (ds : List (ℕ × Declared)) → Good (take i items.now.items) → each (metavariable_named (declared_by (take i items.now.items))) ms.now ≡ Some ds → option_map reason_of result ≡ reason_of_rule (Some ds) (Some (entry_in ts found.entry)) }
+    ensures { (ts : List Expression) (ds : List (ℕ × Declared)) → Good (take i items.now.items)
+        → each (metavariable_named (declared_by (take i items.now.items))) ms.now ≡ Some ds
+        → option_map reason_of result ≡ reason_of_rule (Some ds) (Some (entry_in ts found.entry)) }
 {
     if !is_of_kind(ms, found) {
         Some(Reject::Kind)

@@ -24,9 +24,10 @@ use ft_base::Memory;
 use ft_stated::{Numbers, StatedItems};
 use std::alloc::Global;
 
-// The sets of these entries, together.
-fn union_of(alloc: Global, items: &StatedItems, i: u64, ps: &[u64]) -> Result<Assume, Memory>
-    ensures { (given : List Assertion) → each (entry_named (store_of (take i items.now.items))) ps.now ≡ Some given → IfOk result (λ S. S ≡ unions (sets given)) }
+/// The sets of these entries, together.
+pub fn union_of(alloc: Global, items: &StatedItems, i: u64, ps: &[u64]) -> Result<Assume, Memory>
+    ensures { (given : List Assertion) → each (entry_named (store_of (take i items.now.items)))
+        ps.now ≡ Some given → IfOk result (λ S. S ≡ unions (sets given)) }
 {
     let mut set = Assume::new(alloc);
     let mut k = ps.len();
@@ -51,9 +52,13 @@ fn check_at(
 ) -> Result<Option<Reject>, Memory>
     requires found { EntryBelow (length items.now.trees) found }
     requires goal { GoalBelow (length items.now.trees) rule.now.goal }
-    ensures { (R : ℕ × Rule) (given : List Assertion) (t : StatedNumbers) → Good (take i items.now.items) → IsRule items.now.trees (declared_by (take i items.now.items)) rule.now R
-        → each (entry_named (store_of (take i items.now.items))) ps.now ≡ Some given → all_theses given ≡ true
-        → IfOk result (λ x. option_map reason_of x ≡ reason_of_result (rule_instance R.0 R.1 (statements given)) (unions (sets given)) (with_step (entry_in items.now.trees found.entry) t)) }
+    ensures { (R : ℕ × Rule) (given : List Assertion) (t : StatedNumbers)
+        → Good (take i items.now.items) → IsRule items.now.trees
+        (declared_by (take i items.now.items)) rule.now R
+        → each (entry_named (store_of (take i items.now.items))) ps.now ≡ Some given
+        → all_theses given ≡ true → IfOk result (λ x. option_map reason_of x ≡
+        reason_of_result (rule_instance R.0 R.1 (statements given)) (unions (sets given))
+        (with_step (entry_in items.now.trees found.entry) t)) }
 {
     let mut list = Vec::new(alloc);
     if !push_premises(&mut list, items, i, rule.metavariables, ps)? {
@@ -74,9 +79,12 @@ pub fn check_applied(
     ps: &Numbers,
 ) -> Result<Option<Reject>, Memory>
     requires { EntryBelow (length items.now.trees) found }
-    ensures { (R : ℕ × Rule) (given : List Assertion) (t : StatedNumbers) → Good (take i items.now.items) → rule_named (declared_by (take i items.now.items)) r ≡ Some R
-        → each (entry_named (store_of (take i items.now.items))) ps.now ≡ Some given → all_theses given ≡ true
-        → IfOk result (λ x. option_map reason_of x ≡ reason_of_result (rule_instance R.0 R.1 (statements given)) (unions (sets given)) (with_step (entry_in items.now.trees found.entry) t)) }
+    ensures { (R : ℕ × Rule) (given : List Assertion) (t : StatedNumbers)
+        → Good (take i items.now.items) → rule_named (declared_by (take i items.now.items)) r ≡
+        Some R → each (entry_named (store_of (take i items.now.items))) ps.now ≡ Some given
+        → all_theses given ≡ true → IfOk result (λ x. option_map reason_of x ≡
+        reason_of_result (rule_instance R.0 R.1 (statements given)) (unions (sets given))
+        (with_step (entry_in items.now.trees found.entry) t)) }
 {
     match rule_at_hand(items, i, r) {
         None => Ok(Some(Reject::Premise)),
@@ -97,9 +105,16 @@ fn check_at_with(
     requires found { EntryBelow (length items.now.trees) found }
     requires goal { GoalBelow (length items.now.trees) rule.now.goal }
     requires bound { EntryBelow (length items.now.trees) bound }
-    ensures { (R : ℕ × Rule) (given : List Assertion) (t : StatedNumbers) → Good (take i items.now.items) → IsRule items.now.trees (declared_by (take i items.now.items)) rule.now R
-        → is_thesis (entry_in items.now.trees bound.entry).statement ≡ false → each (entry_named (store_of (take i items.now.items))) ps.now ≡ Some given → all_theses given ≡ true
-        → IfOk result (λ x. option_map reason_of x ≡ reason_of_result (rule_instance_with R.0 R.1 (entry_in items.now.trees bound.entry).statement (statements given)) (union (entry_in items.now.trees bound.entry).set (unions (sets given))) (with_step (entry_in items.now.trees found.entry) t)) }
+    ensures { (R : ℕ × Rule) (given : List Assertion) (t : StatedNumbers)
+        → Good (take i items.now.items) → IsRule items.now.trees
+        (declared_by (take i items.now.items)) rule.now R
+        → is_thesis (entry_in items.now.trees bound.entry).statement ≡ false
+        → each (entry_named (store_of (take i items.now.items))) ps.now ≡ Some given
+        → all_theses given ≡ true → IfOk result (λ x. option_map reason_of x ≡
+        reason_of_result (rule_instance_with R.0 R.1
+        (entry_in items.now.trees bound.entry).statement (statements given))
+        (union (entry_in items.now.trees bound.entry).set (unions (sets given)))
+        (with_step (entry_in items.now.trees found.entry) t)) }
 {
     let mut list = Vec::new(alloc);
     if !push_premises(&mut list, items, i, rule.metavariables, ps)? {
@@ -125,10 +140,14 @@ pub fn check_applied_with(
     ps: &Numbers,
 ) -> Result<Option<Reject>, Memory>
     requires { EntryBelow (length items.now.trees) found }
-    ensures { (R : ℕ × Rule) (a : Assertion) (given : List Assertion) (t : StatedNumbers) → Good (take i items.now.items) → rule_named (declared_by (take i items.now.items)) r ≡ Some R
-        → entry_named (store_of (take i items.now.items)) b ≡ Some a → is_thesis a.statement ≡ false
-        → each (entry_named (store_of (take i items.now.items))) ps.now ≡ Some given → all_theses given ≡ true
-        → IfOk result (λ x. option_map reason_of x ≡ reason_of_result (rule_instance_with R.0 R.1 a.statement (statements given)) (union a.set (unions (sets given))) (with_step (entry_in items.now.trees found.entry) t)) }
+    ensures { (R : ℕ × Rule) (a : Assertion) (given : List Assertion) (t : StatedNumbers)
+        → Good (take i items.now.items) → rule_named (declared_by (take i items.now.items)) r ≡
+        Some R → entry_named (store_of (take i items.now.items)) b ≡ Some a
+        → is_thesis a.statement ≡ false → each (entry_named (store_of (take i items.now.items)))
+        ps.now ≡ Some given → all_theses given ≡ true
+        → IfOk result (λ x. option_map reason_of x ≡
+        reason_of_result (rule_instance_with R.0 R.1 a.statement (statements given))
+        (union a.set (unions (sets given))) (with_step (entry_in items.now.trees found.entry) t)) }
 {
     let Some(bound) = entry_before(items, i, b) else {
         return Ok(Some(Reject::Premise));

@@ -26,7 +26,8 @@ fn is_one_of(a: Atom, ms: &[u64]) -> bool
 }
 
 fn are_among(atoms: &[Atom], ms: &[u64]) -> bool
-    ensures { result ≡ list_all (λ a. list_any (λ n. same_atom (atom_of a) (met n)) ms.now) atoms.now }
+    ensures { result ≡ list_all (λ a. list_any (λ n. same_atom (atom_of a) (met n)) ms.now)
+        atoms.now }
 {
     atoms.iter().all(|a| is_one_of(*a, ms))
 }

@@ -19,20 +19,25 @@ fn one_thesis(items: &StatedItems, i: u64, p: u64, right: bool) -> Option<bool>
 }
 
 fn two_theses(items: &StatedItems, i: u64, p: u64, q: u64, right: bool) -> Option<bool>
-    ensures { result ≡ with_test (both_tests (thesis_named (store_of (take i items.now.items)) p) (thesis_named (store_of (take i items.now.items)) q)) right }
+    ensures { result ≡ with_test (both_tests (thesis_named (store_of (take i items.now.items)) p)
+        (thesis_named (store_of (take i items.now.items)) q)) right }
 {
     also(both(is_thesis(items, i, p), is_thesis(items, i, q)), right)
 }
 
 fn three_theses(items: &StatedItems, i: u64, p: u64, q: u64, r: u64, right: bool) -> Option<bool>
-    ensures { result ≡ with_test (both_tests (thesis_named (store_of (take i items.now.items)) p) (both_tests (thesis_named (store_of (take i items.now.items)) q) (thesis_named (store_of (take i items.now.items)) r))) right }
+    ensures { result ≡ with_test (both_tests (thesis_named (store_of (take i items.now.items)) p)
+        (both_tests (thesis_named (store_of (take i items.now.items)) q)
+        (thesis_named (store_of (take i items.now.items)) r))) right }
 {
     let later = both(is_thesis(items, i, q), is_thesis(items, i, r));
     also(both(is_thesis(items, i, p), later), right)
 }
 
 fn metavariable_at(items: &StatedItems, i: u64, m: u64, ps: &Numbers, right: bool) -> Option<bool>
-    ensures { Good (take i items.now.items) → result ≡ with_test (both_tests (metavariable_there (declared_by (take i items.now.items)) m) (theses_named (store_of (take i items.now.items)) ps.now)) right }
+    ensures { Good (take i items.now.items) → result ≡
+        with_test (both_tests (metavariable_there (declared_by (take i items.now.items)) m)
+        (theses_named (store_of (take i items.now.items)) ps.now)) right }
 {
     also(
         both(is_metavariable(items, i, m), are_theses(items, i, ps)),
@@ -41,13 +46,18 @@ fn metavariable_at(items: &StatedItems, i: u64, m: u64, ps: &Numbers, right: boo
 }
 
 fn rule_at(items: &StatedItems, i: u64, r: u64, ps: &Numbers, right: bool) -> Option<bool>
-    ensures { Good (take i items.now.items) → result ≡ with_test (both_tests (rule_there (declared_by (take i items.now.items)) r) (theses_named (store_of (take i items.now.items)) ps.now)) right }
+    ensures { Good (take i items.now.items) → result ≡
+        with_test (both_tests (rule_there (declared_by (take i items.now.items)) r)
+        (theses_named (store_of (take i items.now.items)) ps.now)) right }
 {
     also(both(is_rule(items, i, r), are_theses(items, i, ps)), right)
 }
 
 fn rule_with(items: &StatedItems, i: u64, r: u64, b: u64, ps: &Numbers, right: bool) -> Option<bool>
-    ensures { Good (take i items.now.items) → result ≡ with_test (both_tests (rule_there (declared_by (take i items.now.items)) r) (both_tests (boundary_named (store_of (take i items.now.items)) b) (theses_named (store_of (take i items.now.items)) ps.now))) right }
+    ensures { Good (take i items.now.items) → result ≡
+        with_test (both_tests (rule_there (declared_by (take i items.now.items)) r)
+        (both_tests (boundary_named (store_of (take i items.now.items)) b)
+        (theses_named (store_of (take i items.now.items)) ps.now))) right }
 {
     let later = both(is_boundary(items, i, b), are_theses(items, i, ps));
     also(both(is_rule(items, i, r), later), right)
@@ -61,7 +71,10 @@ fn rule_twice(
     es: &Numbers,
     right: bool,
 ) -> Option<bool>
-    ensures { Good (take i items.now.items) → result ≡ with_test (both_tests (rule_there (declared_by (take i items.now.items)) r) (both_tests (theses_named (store_of (take i items.now.items)) ps.now) (theses_named (store_of (take i items.now.items)) es.now))) right }
+    ensures { Good (take i items.now.items) → result ≡
+        with_test (both_tests (rule_there (declared_by (take i items.now.items)) r)
+        (both_tests (theses_named (store_of (take i items.now.items)) ps.now)
+        (theses_named (store_of (take i items.now.items)) es.now))) right }
 {
     let later = both(are_theses(items, i, ps), are_theses(items, i, es));
     also(both(is_rule(items, i, r), later), right)
@@ -76,7 +89,11 @@ fn rule_moved(
     q: u64,
     right: bool,
 ) -> Option<bool>
-    ensures { Good (take i items.now.items) → result ≡ with_test (both_tests (rule_there (declared_by (take i items.now.items)) r) (both_tests (theses_named (store_of (take i items.now.items)) ps.now) (both_tests (theses_named (store_of (take i items.now.items)) es.now) (thesis_named (store_of (take i items.now.items)) q)))) right }
+    ensures { Good (take i items.now.items) → result ≡
+        with_test (both_tests (rule_there (declared_by (take i items.now.items)) r)
+        (both_tests (theses_named (store_of (take i items.now.items)) ps.now)
+        (both_tests (theses_named (store_of (take i items.now.items)) es.now)
+        (thesis_named (store_of (take i items.now.items)) q)))) right }
 {
     let last = both(are_theses(items, i, es), is_thesis(items, i, q));
     let later = both(are_theses(items, i, ps), last);
@@ -84,13 +101,16 @@ fn rule_moved(
 }
 
 fn substituted(items: &StatedItems, i: u64, p: u64, t: u64, thesis: bool) -> Option<bool>
-    ensures { result ≡ both_tests (kind_named thesis (store_of (take i items.now.items)) p) (thesis_named (store_of (take i items.now.items)) t) }
+    ensures { result ≡ both_tests (kind_named thesis (store_of (take i items.now.items)) p)
+        (thesis_named (store_of (take i items.now.items)) t) }
 {
     both(is_of_kind(items, i, p, thesis), is_thesis(items, i, t))
 }
 
 fn abstracted(items: &StatedItems, i: u64, v: u64, p: u64, thesis: bool) -> Option<bool>
-    ensures { Good (take i items.now.items) → result ≡ both_tests (variable_there (declared_by (take i items.now.items)) v) (kind_named thesis (store_of (take i items.now.items)) p) }
+    ensures { Good (take i items.now.items) → result ≡
+        both_tests (variable_there (declared_by (take i items.now.items)) v)
+        (kind_named thesis (store_of (take i items.now.items)) p) }
 {
     both(is_variable(items, i, v), is_of_kind(items, i, p, thesis))
 }
@@ -98,7 +118,9 @@ fn abstracted(items: &StatedItems, i: u64, v: u64, p: u64, thesis: bool) -> Opti
 /// Whether a step after the items before place `i` has theses and boundaries where its row has them, and concludes a thesis
 /// where `thesis` is true and else a boundary; None where a number names nothing.
 pub fn kinds(items: &StatedItems, i: u64, step: &StatedStep, thesis: bool) -> Option<bool>
-    ensures { Good (take i items.now.items) → result ≡ option_map (kinds_right thesis) (resolve (store_of (take i items.now.items)) (stated_step step.now)) }
+    ensures { Good (take i items.now.items) → result ≡
+        option_map (kinds_right thesis) (resolve (store_of (take i items.now.items))
+        (stated_step step.now)) }
 {
     match step {
         StatedStep::Var(v) => also(is_variable(items, i, *v), thesis),

@@ -19,7 +19,8 @@ use ft_syntax::E;
 
 // The entry of the variable's type, where a variable is stated.
 fn type_entry(x: &Stated) -> Option<u64>
-    ensures { (ts : List Expression) → result ≡ option_map (λ y. y.2) (variable_of (item_in ts x.now)) }
+    ensures { (ts : List Expression) → result ≡ option_map (λ y. y.2)
+        (variable_of (item_in ts x.now)) }
 {
     match x {
         Stated::Var(_, _, p) => Some(*p),
@@ -49,8 +50,11 @@ pub struct Typed<'a> {
 
 /// The type of the variable of a number before place `i`, with its set; None where there is no variable.
 pub fn typed_before(items: &StatedItems, i: u64, v: u64) -> Option<Typed<'_>>
-    ensures is { (d : Annotation) → Good (take i items.now.items) → look_up (declared_by (take i items.now.items)).variables v ≡ Some d → IsSomeAnd result (λ x. IsTyped items.now.trees x d) }
-    ensures none { Good (take i items.now.items) → look_up (declared_by (take i items.now.items)).variables v ≡ None → result ≡ None }
+    ensures is { (d : Annotation) → Good (take i items.now.items)
+        → look_up (declared_by (take i items.now.items)).variables v ≡ Some d
+        → IsSomeAnd result (λ x. IsTyped items.now.trees x d) }
+    ensures none { Good (take i items.now.items)
+        → look_up (declared_by (take i items.now.items)).variables v ≡ None → result ≡ None }
     ensures below { IfSome result (λ x. x.ty < length items.now.trees) }
 {
     let p = type_before(items, i, v)?;
@@ -65,7 +69,8 @@ pub fn typed_before(items: &StatedItems, i: u64, v: u64) -> Option<Typed<'_>>
 
 // Whether the type of the variable `w` rests on the variable `v`.
 fn type_rests_on(items: &StatedItems, i: u64, v: u64, w: u64) -> bool
-    ensures { Good (take i items.now.items) → result ≡ rests_on v (look_up (declared_by (take i items.now.items)).variables w) }
+    ensures { Good (take i items.now.items) → result ≡
+        rests_on v (look_up (declared_by (take i items.now.items)).variables w) }
 {
     match typed_before(items, i, w) {
         None => false,
@@ -76,7 +81,8 @@ fn type_rests_on(items: &StatedItems, i: u64, v: u64, w: u64) -> bool
 // Whether the atom is a variable other than `v` whose type rests on `v`.
 #[tactic(auto, using(crate::proofs::Bindings::same_variable, crate::proofs::Bindings::other_variable, crate::proofs::Bindings::no_variable))]
 fn is_dependent(items: &StatedItems, i: u64, v: u64, a: Atom) -> bool
-    ensures { Good (take i items.now.items) → result ≡ depends_in (declared_by (take i items.now.items)).variables v (atom_of a ∷ []) }
+    ensures { Good (take i items.now.items) → result ≡
+        depends_in (declared_by (take i items.now.items)).variables v (atom_of a ∷ []) }
 {
     match a {
         Atom::Met(_) => false,
@@ -93,7 +99,8 @@ fn is_dependent(items: &StatedItems, i: u64, v: u64, a: Atom) -> bool
 /// Whether a variable of the set, other than `v`, has a type that rests on `v`.
 #[tactic(auto, using(crate::proofs::Bindings::depends_next, crate::proofs::Bindings::depends_found, crate::proofs::Bindings::depends_end))]
 pub fn depends(items: &StatedItems, i: u64, v: u64, set: &Assume) -> bool
-    ensures { Good (take i items.now.items) → result ≡ depends_in (declared_by (take i items.now.items)).variables v set.now }
+    ensures { Good (take i items.now.items) → result ≡
+        depends_in (declared_by (take i items.now.items)).variables v set.now }
 {
     let atoms = set.atoms();
     for k in 0..atoms.len() {

@@ -14,7 +14,8 @@ use ft_stated::StatedItems;
 
 // Whether each variable before place i has a smaller number.
 fn is_next(items: &StatedItems, i: u64, v: u64) -> bool
-    ensures { Good (take i items.now.items) → result ≡ is_greatest (declared_by (take i items.now.items)).variables v }
+    ensures { Good (take i items.now.items) → result ≡
+        is_greatest (declared_by (take i items.now.items)).variables v }
 {
     match items.greatest_before(i) {
         Some(greatest) => greatest < v,
@@ -34,7 +35,8 @@ pub fn lacks_variable(items: &StatedItems, i: u64, v: u64) -> bool
 
 // The reason against an entry as the type of a variable.
 fn against_type(found: Entry<'_>) -> Option<Reject>
-    ensures { (ts : List Expression) → option_map reason_of result ≡ reason_of_variable (Some (entry_in ts found.entry)) }
+    ensures { (ts : List Expression) → option_map reason_of result ≡
+        reason_of_variable (Some (entry_in ts found.entry)) }
 {
     if !found.is_thesis() {
         Some(Reject::Kind)

@@ -19,7 +19,8 @@ use ft_stated::{Stated, StatedItems};
 pub fn check_without_step(items: &StatedItems, i: u64) -> Option<Reject>
     requires place { i < length items.now.items }
     requires kind { (x : Item) → nth items.now.items i ≡ Some x → is_entry x ≡ false }
-    ensures { (x : Item) → nth items.now.items i ≡ Some x → IsReason (take i items.now.items) x result }
+    ensures { (x : Item) → nth items.now.items i ≡ Some x
+        → IsReason (take i items.now.items) x result }
 {
     match items.item(i) {
         Stated::Var(number, _, p) => check_variable(items, i, *number, *p),

@@ -3,7 +3,7 @@
 use Rattle.std.specs.Prelude.{ℕ, zero, suc, ◌≡◌, ◌≢◌, ◌⊎◌, ◌&&◌, Bool, true, false, cond, Option, Some, None, List, [], ◌∷◌, ◌++◌, length}
 use Rattle.ft_theory.specs.Statements.{Statement}
 use Rattle.ft_items.specs.Equal.{is_thesis}
-use Rattle.ft_items.specs.Item.{Justification, by_var, by_abs, by_subst, by_substeq, by_refl, by_sym, by_trans, by_conv, by_conveq, by_left, by_right, by_typeof, by_domain, by_boundary, by_widen, by_btype, by_bterm, by_beqty, by_beqtm, by_rule, by_rulewith, Entry, Item, variable, metavariable, rule, entry, shown}
+use Rattle.ft_items.specs.Item.{Justification, by_var, by_abs, by_subst, by_substeq, by_refl, by_sym, by_trans, by_conv, by_conveq, by_left, by_right, by_typeof, by_domain, by_boundary, by_widen, by_btype, by_bterm, by_beqty, by_beqtm, by_rule, by_rulewith, by_inst, by_cong, by_convprem, by_convback, by_generic, by_meta, by_metacong, Entry, Item, variable, metavariable, rule, entry, shown}
 use Rattle.ft_items.specs.Store.{Store, Resolved, resolve, empty_store, add, Declarations}
 use Rattle.ft_items.specs.Rows.{conclusion, result_set, concludes_thesis}
 use Rattle.ft_items.specs.Good.{Reject, Reference, Kind, Premise, unless, of_kind, same_truth, reason_of_result, reason_in, found_at, Counts, counts, Verdict, Accepted, Rejected, verdict_by, verdict}
@@ -31,6 +31,13 @@ is_built (by_beqty p q) = true
 is_built (by_beqtm p s t) = true
 is_built (by_rule r ps) = true
 is_built (by_rulewith r b ps) = true
+is_built (by_inst r ps) = true
+is_built (by_cong r ps es) = true
+is_built (by_convprem r ps es q) = true
+is_built (by_convback r ps es q) = true
+is_built (by_generic m) = true
+is_built (by_meta m ps) = true
+is_built (by_metacong m es) = true
 is_built s = false
 
 -- the conclusion of a step that is built; none for the others

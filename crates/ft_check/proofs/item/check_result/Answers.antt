@@ -1,10 +1,13 @@
 use Rattle.std.proofs.Common.{take, ap}
 use Rattle.ft_items.specs.Equal.{is_thesis}
-use Rattle.ft_items.specs.Item.{by_var, by_abs, by_subst, by_substeq, by_refl, by_sym, by_left, by_right, by_typeof, by_domain, by_boundary, by_bterm, by_trans, by_conv, by_conveq, by_widen, by_beqty, by_beqtm}
-use Rattle.ft_items.specs.Store.{store_of, entry_named, variable_named, resolve, declared_by}
+use Rattle.ft_items.specs.Item.{by_generic, by_meta, by_metacong, by_var, by_abs, by_subst, by_substeq, by_refl, by_sym, by_left, by_right, by_typeof, by_domain, by_boundary, by_bterm, by_trans, by_conv, by_conveq, by_widen, by_beqty, by_beqtm}
+use Rattle.ft_items.specs.Store.{store_of, each, entry_named, metavariable_named, variable_named, resolve, declared_by}
 use Rattle.ft_stated.specs.Steps.{stated_step}
+use Rattle.ft_verdicts.specs.Built.{is_built}
 use Rattle.ft_check.specs.Entries.{entry_in}
 use Rattle.ft_check.proofs.Entering.{btype_result, one_checked, one_result, two_result, three_result, unbuilt_result, rule_result, rulewith_result}
+use Rattle.ft_check.specs.declared.conversions.Way.TheVariants.{Forth, Back}
+use Rattle.ft_check.proofs.StepsAtRules.{inst_result, cong_result, conv_result}
 use Rattle.ft_check.proofs.item.check_result.Goals as goal
 
 pub returns-in-Var : goal.returns-in-Var
@@ -90,6 +93,36 @@ pub returns-in-Rulewith : goal.returns-in-Rulewith
 returns-in-Rulewith c = λ s g q k. rulewith_result (store_of (take c.args.i c.args.items.now.items)) c.args.step.now c.in-Rulewith.r c.in-Rulewith.b c.in-Rulewith.ps (entry_in c.args.items.now.trees c.args.found) c.check_applied_with.result (is_thesis (entry_in c.args.items.now.trees c.args.found).statement) s c.in-Rulewith.is q k
     (λ R b given f m n e a. c.check_applied_with.ensures R b given (stated_step c.args.step.now) g f m n e a)
 
-pub returns-in_default : goal.returns-in_default
-returns-in_default c = λ s g q k. unbuilt_result (store_of (take c.args.i c.args.items.now.items)) c.args.step.now (entry_in c.args.items.now.trees c.args.found) s q
-    c.in_default.not-Var c.in_default.not-Abs c.in_default.not-Subst c.in_default.not-Substeq c.in_default.not-Refl c.in_default.not-Sym c.in_default.not-Trans c.in_default.not-Conv c.in_default.not-Conveq c.in_default.not-Left c.in_default.not-Right c.in_default.not-Typeof c.in_default.not-Domain c.in_default.not-Boundary c.in_default.not-Widen c.in_default.not-Btype c.in_default.not-Bterm c.in_default.not-Beqty c.in_default.not-Beqtm c.in_default.not-Rule c.in_default.not-Rulewith
+pub returns-in-Inst : goal.returns-in-Inst
+returns-in-Inst c = λ s g q k. inst_result (take c.args.i c.args.items.now.items) c.args.step.now c.in-Inst.r c.in-Inst.ps (entry_in c.args.items.now.trees c.args.found) c.check_inst.result s c.in-Inst.is q k
+    (λ R xs f h o. c.check_inst.ensures R xs (stated_step c.args.step.now) g f h o)
+
+pub returns-in-Cong : goal.returns-in-Cong
+returns-in-Cong c = λ s g q k. cong_result (take c.args.i c.args.items.now.items) c.args.step.now c.in-Cong.r c.in-Cong.ps c.in-Cong.es (entry_in c.args.items.now.trees c.args.found) c.check_cong.result _ s c.in-Cong.is q k
+    (λ R xs ys f h o. c.check_cong.ensures R xs ys (stated_step c.args.step.now) g f h o)
+
+pub returns-in-Convprem : goal.returns-in-Convprem
+returns-in-Convprem c = λ s g q k. conv_result Forth (take c.args.i c.args.items.now.items) c.args.step.now c.in-Convprem.r c.in-Convprem.q c.in-Convprem.ps c.in-Convprem.es (entry_in c.args.items.now.trees c.args.found) c.check_conv.result s (ap (λ t. resolve (store_of (take c.args.i c.args.items.now.items)) (stated_step t)) c.in-Convprem.is) q k
+    (λ R xs ys d f h o e m n. c.check_conv.ensures R xs ys d (stated_step c.args.step.now) g f h o e m n)
+
+pub returns-in-Convback : goal.returns-in-Convback
+returns-in-Convback c = λ s g q k. conv_result Back (take c.args.i c.args.items.now.items) c.args.step.now c.in-Convback.r c.in-Convback.q c.in-Convback.ps c.in-Convback.es (entry_in c.args.items.now.trees c.args.found) c.check_conv-in-Convback.result s (ap (λ t. resolve (store_of (take c.args.i c.args.items.now.items)) (stated_step t)) c.in-Convback.is) q k
+    (λ R xs ys d f h o e m n. c.check_conv-in-Convback.ensures R xs ys d (stated_step c.args.step.now) g f h o e m n)
+
+pub returns-in-Generic : goal.returns-in-Generic
+returns-in-Generic c = λ s g q k. one_checked (store_of (take c.args.i c.args.items.now.items)) c.args.step.now by_generic (metavariable_named (declared_by (take c.args.i c.args.items.now.items)) c.in-Generic.m) (entry_in c.args.items.now.trees c.args.found) c.check_generic.result s (ap (λ t. resolve (store_of (take c.args.i c.args.items.now.items)) (stated_step t)) c.in-Generic.is) q
+    (λ d f. c.check_generic.ensures d (stated_step c.args.step.now) g f)
+
+pub returns-in-Meta : goal.returns-in-Meta
+returns-in-Meta c = λ s g q k. two_result (store_of (take c.args.i c.args.items.now.items)) c.args.step.now by_meta (metavariable_named (declared_by (take c.args.i c.args.items.now.items)) c.in-Meta.m) (each (entry_named (store_of (take c.args.i c.args.items.now.items))) c.in-Meta.ps) (entry_in c.args.items.now.trees c.args.found) c.check_meta.result s (ap (λ t. resolve (store_of (take c.args.i c.args.items.now.items)) (stated_step t)) c.in-Meta.is) q
+    (λ d given f h. c.check_meta.ensures d given (stated_step c.args.step.now) g f h)
+
+pub returns-in-Metacong : goal.returns-in-Metacong
+returns-in-Metacong c = λ s g q k. two_result (store_of (take c.args.i c.args.items.now.items)) c.args.step.now by_metacong (metavariable_named (declared_by (take c.args.i c.args.items.now.items)) c.in-Metacong.m) (each (entry_named (store_of (take c.args.i c.args.items.now.items))) c.in-Metacong.es) (entry_in c.args.items.now.trees c.args.found) c.check_meta-in-Metacong.result s (ap (λ t. resolve (store_of (take c.args.i c.args.items.now.items)) (stated_step t)) c.in-Metacong.is) q
+    (λ d given f h. c.check_meta-in-Metacong.ensures d given (stated_step c.args.step.now) g f h)
+
+pub returns-in-Arg : goal.returns-in-Arg
+returns-in-Arg c = λ s g q k. unbuilt_result (store_of (take c.args.i c.args.items.now.items)) c.args.step.now (entry_in c.args.items.now.trees c.args.found) s q (ap (λ t. is_built (stated_step t)) c.in-Arg.is)
+
+pub returns-in-Natural : goal.returns-in-Natural
+returns-in-Natural c = λ s g q k. unbuilt_result (store_of (take c.args.i c.args.items.now.items)) c.args.step.now (entry_in c.args.items.now.trees c.args.found) s q (ap (λ t. is_built (stated_step t)) c.in-Natural.is)

@@ -1,0 +1,4 @@
+pub mod Opening
+pub mod Sides
+pub mod Applied
+pub mod Laws

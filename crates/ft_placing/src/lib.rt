@@ -1,0 +1,14 @@
+//! Metavariables at terms: the terms are put for the variables of the boundary's domains.
+#![tactic(auto)]
+
+mod expressions;
+mod generic;
+mod opening;
+mod placing;
+mod sides;
+
+pub use expressions::{bodies_of, is_bound, is_generic, is_same_expression};
+pub use generic::is_generic_thesis;
+pub use opening::{is_applied, is_opened};
+pub use placing::is_placed;
+pub use sides::{At, Sides, sides_of};

@@ -6,9 +6,9 @@ use std::test::Fail;
 
 // A file whose 52 items are allowed. Its ten rules are `Nat`, `O`, `S`, `one : O == S(O)`, `F` of a
 // natural number, `two : F(O) == F(S(O))`, `p : F(O)`, `Q` with a type over a variable and an
-// equation among its premises, `T` of a number `n` and an `F(n)`, and `U(n) : F(n)`. The metavariables
-// are `n : Nat`, `G type` over a variable, `e : O == S(O)` and `z : F(n)`. The variables 4 and 5 are
-// here `x : Nat` and `y : F(x)`. The entries, each by its number:
+// equation among its premises, `T` of a number `n` and an `F(n)`, and `U(n) : F(n)`. The
+// metavariables are `n : Nat`, `G type` over a variable, `e : O == S(O)` and `z : F(n)`. The variables
+// 4 and 5 are here `x : Nat` and `y : F(x)`. The entries, each by its number:
 //
 //  0: `_ type`             1: `Nat type`           2: `_ : Nat`            3: `O : Nat`
 //  4: `x : Nat`            5: `S(O) : Nat`         6: the goal of 7        7: `O == S(O) : Nat`

@@ -88,7 +88,7 @@ fn each_part_has_its_verdict(rt: HostRuntime) -> Result<(), Fail> {
 }
 
 // Boundaries, and a thesis over more assumptions.
-const BOUNDARIES: [(&str, &str); 23] = [
+const BOUNDARIES: [(&str, &str); 24] = [
     // A thesis over the assumptions of another.
     ("J t s1() s0() [v4] widen 3 4", "level 1"),
     ("J t v4 s0() [v4] widen 4 3", "level 1"),
@@ -99,6 +99,7 @@ const BOUNDARIES: [(&str, &str); 23] = [
     ("B t s0() [v4] widen 3 4", "kind"),
     ("J t v4 s0() [v4] widen 3 4", "conclusion"),
     ("J t s1() s0() [] widen 3 4", "set"),
+    ("J t s1() s0() [v5] widen 3 4", "set"),
     // The boundary of a type.
     ("B T [] btype", "level 1"),
     ("J T s0() [] btype", "kind"),

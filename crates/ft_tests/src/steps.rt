@@ -7,8 +7,8 @@ use std::test::Fail;
 // A file whose 52 items are allowed. Its ten rules are `Nat`, `O`, `S`, `one : O == S(O)`, `F` of a
 // natural number, `two : F(O) == F(S(O))`, `p : F(O)`, `Q` with a type over a variable and an
 // equation among its premises, `T` of a number `n` and an `F(n)`, and `U(n) : F(n)`. The
-// metavariables are `n : Nat`, `G type` over a variable, `e : O == S(O)` and `z : F(n)`. The variables
-// 4 and 5 are here `x : Nat` and `y : F(x)`. The entries, each by its number:
+// metavariables are `n : Nat`, `G type` over a variable, `e : O == S(O)` and `z : F(n)`. The
+// variables 4 and 5 are here `x : Nat` and `y : F(x)`. The entries, each by its number:
 //
 //  0: `_ type`             1: `Nat type`           2: `_ : Nat`            3: `O : Nat`
 //  4: `x : Nat`            5: `S(O) : Nat`         6: the goal of 7        7: `O == S(O) : Nat`
@@ -93,7 +93,7 @@ pub fn answers(alloc: Global, line: &str, answer: &str) -> Result<bool, Fail> {
 }
 
 // Variables and metavariables.
-const VARIABLES: [(&str, &str); 32] = [
+const VARIABLES: [(&str, &str); 34] = [
     // A variable.
     ("J t v5 s4(0.v4) [v4,v5] var 5", "level 1"),
     ("J t v5 s4(0.v4) [v4,v5] var 3", "reference"),
@@ -102,6 +102,7 @@ const VARIABLES: [(&str, &str); 32] = [
     ("J t v5 s0() [v4,v5] var 5", "conclusion"),
     ("J t v5 s4(0.v4) [v5] var 5", "set"),
     ("J t v5 s4(0.v4) [v4] var 5", "set"),
+    ("J t v4 s0() [v5] var 4", "set"),
     // A metavariable at the variables of its own domains.
     ("J {s0()}T m1(b0) [m1] generic 1", "level 1"),
     ("J e s1() s2(0.s1()) s0() [m2] generic 2", "level 1"),
@@ -128,6 +129,7 @@ const VARIABLES: [(&str, &str); 32] = [
     ("J T m1(s2(0.s1())) [m1] meta 1 3", "conclusion"),
     ("J T m1(s1()) [] meta 1 3", "set"),
     ("J T m1(v4) [m1] meta 1 4", "set"),
+    ("J T m1(v4) [m0,v4] meta 1 4", "set"),
     ("J t m3() s4(0.m0()) [m3] meta 3", "set"),
 ];
 
@@ -361,6 +363,29 @@ const CONVERTED: [(&str, &str); 30] = [
 #[test]
 fn each_conversion_has_its_verdict(rt: HostRuntime) -> Result<(), Fail> {
     for (line, answer) in CONVERTED {
+        assert!(rt; answers(rt.alloc(), line, answer)?, "{line}");
+    }
+    Ok(())
+}
+
+// Lines with several reasons against them, of which the first is told.
+const SEVERAL: [(&str, &str); 8] = [
+    ("B t s0() [v4] conv 10 36", "reference"),
+    ("J T s4(0.s1()) [] rulewith 4 1 36", "reference"),
+    (
+        "J E s4(0.s1()) s4(0.s2(0.s1())) [] cong 10 2 / 6",
+        "reference",
+    ),
+    ("B e s1() s2(0.s1()) s0() [v4] trans 3 7", "kind"),
+    ("J T s4(0.s1()) [] rule 4 2 3", "kind"),
+    ("J t s2(0.s1()) s4(0.s1()) [v5] conv 14 11", "premise"),
+    ("J {s0()}t v5 s4(0.b0) [] abs 4 22", "premise"),
+    ("J t v4 s0() [] widen 3 4", "conclusion"),
+];
+
+#[test]
+fn the_first_of_several_reasons_is_told(rt: HostRuntime) -> Result<(), Fail> {
+    for (line, answer) in SEVERAL {
         assert!(rt; answers(rt.alloc(), line, answer)?, "{line}");
     }
     Ok(())

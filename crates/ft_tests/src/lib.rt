@@ -11,6 +11,12 @@ mod lines;
 #[cfg(test)]
 mod long;
 #[cfg(test)]
+mod rules;
+#[cfg(test)]
+mod sides;
+#[cfg(test)]
 mod sources;
+#[cfg(test)]
+mod steps;
 #[cfg(test)]
 mod streams;

@@ -20,6 +20,7 @@ use ft_nucleus::{
     boundary_eq_type, boundary_term, boundary_type, new_meta, new_var, side_of_boundary,
     substitute_boundary, variable as variable_at,
 };
+use ft_parts::argument;
 use ft_print::{refusal_text, sequent_text};
 use ft_rules::{Draft, drafts_stay};
 use std::alloc::Global;
@@ -75,6 +76,8 @@ pub enum Call {
     Congruence(u64, &'static [u64], &'static [u64]),
     /// An argument of a rule, moved from the theses to the right sides of the equations, or back.
     Move(u64, &'static [u64], &'static [u64], u64, bool),
+    /// An argument of an application, from 1.
+    Argument(u64, u64),
     /// A call on one thesis.
     Of(One, u64),
     /// A call on two theses.
@@ -165,7 +168,7 @@ pub fn judged(alloc: Global, k: &mut Kernel, call: Call) -> Result<J, Stop>
     }
 }
 
-/// A call on a variable, or a part of a boundary.
+/// A call on a variable, a part of a boundary, or an argument.
 #[tactic(auto, using(crate::proofs::Below::answers_below, crate::proofs::Growing::answers_grow))]
 pub fn part(alloc: Global, k: &mut Kernel, call: Call) -> Result<J, Stop>
     ensures grows { Grows k.old k.new }
@@ -187,6 +190,11 @@ pub fn part(alloc: Global, k: &mut Kernel, call: Call) -> Result<J, Stop>
         Call::Part(which, b) => {
             let goal = boundary(k, b).ok_or(Stop::Script)?;
             let made = side_of_boundary(alloc, k, goal, which);
+            thesis_or(k, made)
+        }
+        Call::Argument(j, i) => {
+            let first = thesis(k, j).ok_or(Stop::Script)?;
+            let made = argument(alloc, k, first, i);
             thesis_or(k, made)
         }
         _ => Err(Stop::Script),

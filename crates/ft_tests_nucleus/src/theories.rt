@@ -139,7 +139,7 @@ const NO_STRUCTURE: [(Call, &str); 38] = [
 ];
 
 // Answers of the calls on rules; a rule G of a number and a member of its F.
-const RULES: [(Call, &str); 26] = [
+const RULES: [(Call, &str); 28] = [
     (ApplyWith(7, 3, &[8]), "|- S(S(O)) : Nat"),
     (Next(7, &[]), ""),
     (Part(Which::Ty, 25), "|- Nat type"),
@@ -147,6 +147,8 @@ const RULES: [(Call, &str); 26] = [
     (Part(Which::Left, 27), "|- O : Nat"),
     (Congruence(7, &[5], &[23]), "|- S(O) == S(S(O)) : Nat"),
     (Congruence(14, &[5], &[23]), "|- F(O) == F(S(O))"),
+    (Argument(8, 1), "|- O : Nat"),
+    (Argument(15, 1), "x#0 : Nat |- x#0 : Nat"),
     (Of(One::Natural, 8), "|- Nat == Nat"),
     (
         Of(One::Natural, 18),
@@ -154,31 +156,31 @@ const RULES: [(Call, &str); 26] = [
     ),
     (Begin("G"), ""),
     (Premise("n", 3), ""),
-    (Generic(33), "n?2 := _ : Nat |- n?2 : Nat"),
-    (Apply(14, &[34]), "n?2 := _ : Nat |- F(n?2) type"),
-    (Term(35), ""),
-    (Premise("a", 36), ""),
+    (Generic(35), "n?2 := _ : Nat |- n?2 : Nat"),
+    (Apply(14, &[36]), "n?2 := _ : Nat |- F(n?2) type"),
+    (Term(37), ""),
+    (Premise("a", 38), ""),
     (
-        Generic(37),
+        Generic(39),
         "n?2 := _ : Nat, a?3 := _ : F(n?2) |- a?3 : F(n?2)",
     ),
     (Finish(0), ""),
     (NewVar("z", 16), ""),
-    (Variable(40), "z#0 : F(O) |- z#0 : F(O)"),
-    (Apply(39, &[5, 41]), "z#0 : F(O) |- G(O, z#0) type"),
+    (Variable(42), "z#0 : F(O) |- z#0 : F(O)"),
+    (Apply(41, &[5, 43]), "z#0 : F(O) |- G(O, z#0) type"),
     (
-        Move(39, &[5], &[23], 41, false),
+        Move(41, &[5], &[23], 43, false),
         "z#0 : F(O) |- z#0 : F(S(O))",
     ),
-    (Apply(39, &[8, 43]), "z#0 : F(O) |- G(S(O), z#0) type"),
-    (Move(39, &[5], &[23], 43, true), "z#0 : F(O) |- z#0 : F(O)"),
-    (Next(39, &[8]), ""),
-    (Part(Which::Ty, 46), "|- F(S(O)) type"),
-    (Of(One::Refl, 41), "z#0 : F(O) |- z#0 == z#0 : F(O)"),
+    (Apply(41, &[8, 45]), "z#0 : F(O) |- G(S(O), z#0) type"),
+    (Move(41, &[5], &[23], 45, true), "z#0 : F(O) |- z#0 : F(O)"),
+    (Next(41, &[8]), ""),
+    (Part(Which::Ty, 48), "|- F(S(O)) type"),
+    (Of(One::Refl, 43), "z#0 : F(O) |- z#0 == z#0 : F(O)"),
 ];
 
 // Refusals of rules and of their calls.
-const NO_RULES: [(Call, &str); 37] = [
+const NO_RULES: [(Call, &str); 41] = [
     (Apply(7, &[]), "ArgumentCount: 0 given, 1 wanted"),
     (Apply(7, &[5, 5]), "ArgumentCount: 2 given, 1 wanted"),
     (Apply(7, &[2]), "WrongForm"),
@@ -211,6 +213,10 @@ const NO_RULES: [(Call, &str); 37] = [
     ),
     (Move(7, &[], &[], 2, false), "WrongForm"),
     (Move(7, &[], &[], 5, false), "|- O : Nat"),
+    (Argument(23, 1), "WrongForm"),
+    (Argument(10, 1), "NotApplication"),
+    (Argument(8, 0), "ArgumentCount: 0 given, 1 wanted"),
+    (Argument(8, 2), "ArgumentCount: 2 given, 1 wanted"),
     (Of(One::Natural, 2), "WrongForm"),
     (Begin("S"), "rule S declared twice"),
     (Begin("H"), ""),
@@ -231,7 +237,7 @@ const NO_RULES: [(Call, &str); 37] = [
 ];
 
 // Calls on metavariables, and their refusals.
-const METAVARIABLES: [(Call, &str); 23] = [
+const METAVARIABLES: [(Call, &str); 24] = [
     (BindBoundary(9, 0), ""),
     (NewMeta("C", 24), ""),
     (
@@ -243,28 +249,29 @@ const METAVARIABLES: [(Call, &str); 23] = [
         MetaCongruence(25, &[23]),
         "C?2 := {@0 : Nat} _ type |- C?2(O) == C?2(S(O))",
     ),
+    (Argument(27, 1), "C?2 := {@0 : Nat} _ type |- O : Nat"),
     (BindBoundary(9, 3), ""),
-    (NewMeta("f", 29), ""),
-    (Meta(30, &[5]), "f?3 := {@0 : Nat} _ : Nat |- f?3(O) : Nat"),
+    (NewMeta("f", 30), ""),
+    (Meta(31, &[5]), "f?3 := {@0 : Nat} _ : Nat |- f?3(O) : Nat"),
     (
-        Of(One::Natural, 31),
+        Of(One::Natural, 32),
         "f?3 := {@0 : Nat} _ : Nat |- Nat == Nat",
     ),
     (NewMeta("e", 21), ""),
-    (Generic(33), "e?4 := O == S(O) : Nat |- O == S(O) : Nat"),
+    (Generic(34), "e?4 := O == S(O) : Nat |- O == S(O) : Nat"),
     (NewMeta("a", 0), ""),
-    (Generic(35), "a?5 := _ type |- a?5 type"),
+    (Generic(36), "a?5 := _ type |- a?5 type"),
     (Meta(25, &[]), "ArgumentCount: 0 given, 1 wanted"),
     (Meta(25, &[2]), "WrongForm"),
     (Meta(25, &[18]), "TypeDiffers: found F(x#0), wanted Nat"),
-    (MetaCongruence(33, &[]), "WrongForm"),
+    (MetaCongruence(34, &[]), "WrongForm"),
     (MetaCongruence(25, &[]), "ArgumentCount: 0 given, 1 wanted"),
     (MetaCongruence(25, &[5]), "WrongForm"),
     (NewVar("z", 16), ""),
-    (Variable(37), "z#0 : F(O) |- z#0 : F(O)"),
-    (Of(One::Refl, 38), "z#0 : F(O) |- z#0 == z#0 : F(O)"),
+    (Variable(38), "z#0 : F(O) |- z#0 : F(O)"),
+    (Of(One::Refl, 39), "z#0 : F(O) |- z#0 == z#0 : F(O)"),
     (
-        MetaCongruence(25, &[39]),
+        MetaCongruence(25, &[40]),
         "TypeDiffers: found F(O), wanted Nat",
     ),
 ];

@@ -34,7 +34,9 @@ use std::alloc::Global;
 
 // Does the job.
 fn answer<I: Source, O: Sink>(alloc: Global, job: Job, input: &mut I, output: &mut O) -> u8
-    ensures called { IsCall job (I.left input.old) (I.left input.new) (I.taken input.old) (I.taken input.new) (I.faults input.old) (I.faults input.new) (O.written output.old) (O.written output.new) result }
+    ensures called { IsCall job (I.left input.old) (I.left input.new) (I.taken input.old)
+        (I.taken input.new) (I.faults input.old) (I.faults input.new) (O.written output.old)
+        (O.written output.new) result }
     ensures rose { result ≡ 4 → Rose (O.faults output.old) (O.faults output.new) }
 {
     match job {
@@ -51,46 +53,69 @@ pub fn top<I: Source, O: Sink>(alloc: Global, words: &[String], input: &mut I, o
     ensures status { IsStatus result }
 
     ensures usage { result ≡ 2 → IsNoJob (map string_bytes words.now) }
-    ensures refused { IsNoJob (map string_bytes words.now) → Ends usage_line 2 result (O.written output.old) (O.written output.new) }
+    ensures refused { IsNoJob (map string_bytes words.now)
+        → Ends usage_line 2 result (O.written output.old) (O.written output.new) }
     ensures unread { IsNoJob (map string_bytes words.now) → input.new ≡ input.old }
 
     ensures read { result ≡ 3 → Rose (I.faults input.old) (I.faults input.new) }
-    ensures read_line { result ≡ 3 → (IsAsked (map string_bytes words.now) asked.Export → ⊥) → Appends (O.written output.old) read_line (O.written output.new) }
+    ensures read_line { result ≡ 3 → (IsAsked (map string_bytes words.now) asked.Export → ⊥)
+        → Appends (O.written output.old) read_line (O.written output.new) }
     ensures write { result ≡ 4 → Rose (O.faults output.old) (O.faults output.new) }
-    ensures long { result ≡ 5 → (job : Asked) × (IsAsked (map string_bytes words.now) job × IsOverLimit job (I.taken input.old) (I.taken input.new)) }
+    ensures long { result ≡ 5 → (job : Asked) × (IsAsked (map string_bytes words.now) job
+        × IsOverLimit job (I.taken input.old) (I.taken input.new)) }
     // Without memory nothing is written; but `export` may have written a beginning.
-    ensures memory { result ≡ 17 → (IsAsked (map string_bytes words.now) asked.Export → ⊥) → O.written output.new ≡ O.written output.old }
-    ensures broken { result ≡ 17 → IsAsked (map string_bytes words.now) asked.Export → (bytes : List ℕ) → I.left input.old ≡ Some bytes
-        → (O.written output.new ≡ O.written output.old) ⊎ BreaksOff bytes (O.written output.old) (O.written output.new) }
+    ensures memory { result ≡ 17 → (IsAsked (map string_bytes words.now) asked.Export → ⊥)
+        → O.written output.new ≡ O.written output.old }
+    ensures broken { result ≡ 17 → IsAsked (map string_bytes words.now) asked.Export
+        → (bytes : List ℕ) → I.left input.old ≡ Some bytes
+        → (O.written output.new ≡ O.written output.old)
+        ⊎ BreaksOff bytes (O.written output.old) (O.written output.new) }
 
     ensures end { IsReadWhole result → IsAtEnd (I.left input.new) }
 
     // Where the source tells its bytes: what is written and answered in each case, and where no fault comes.
     ensures told { (bytes : List ℕ) → I.left input.old ≡ Some bytes → (result ≡ 17)
-        ⊎ (((text : List ℕ) × ((status : ℕ) × (IsAnswer (map string_bytes words.now) bytes (I.faults input.old) (I.faults input.new) text status
-        × (result ≡ status) × Appends (O.written output.old) text (O.written output.new))))
-        ⊎ ((result ≡ 4) × IsBroken (map string_bytes words.now) bytes (I.faults input.old) (I.faults input.new) (O.written output.old) (O.written output.new))) }
-    ensures answer { (job : Asked) (bytes : List ℕ) → I.left input.old ≡ Some bytes → IsAsked (map string_bytes words.now) job → length bytes ≤ limit job
-        → HasNoFault (I.faults input.old) (I.faults input.new) → HasNoFault (O.faults output.old) (O.faults output.new)
-        → (result ≡ 17) ⊎ ((text : List ℕ) × ((status : ℕ) × (IsText job bytes text status × (result ≡ status) × Appends (O.written output.old) text (O.written output.new)))) }
+        ⊎ (((text : List ℕ)
+        × ((status : ℕ) × (IsAnswer (map string_bytes words.now) bytes (I.faults input.old)
+        (I.faults input.new) text status × (result ≡ status)
+        × Appends (O.written output.old) text (O.written output.new))))
+        ⊎ ((result ≡ 4) × IsBroken (map string_bytes words.now) bytes (I.faults input.old)
+        (I.faults input.new) (O.written output.old) (O.written output.new))) }
+    ensures answer { (job : Asked) (bytes : List ℕ) → I.left input.old ≡ Some bytes
+        → IsAsked (map string_bytes words.now) job → length bytes ≤ limit job
+        → HasNoFault (I.faults input.old) (I.faults input.new)
+        → HasNoFault (O.faults output.old) (O.faults output.new) → (result ≡ 17)
+        ⊎ ((text : List ℕ) × ((status : ℕ) × (IsText job bytes text status × (result ≡ status)
+        × Appends (O.written output.old) text (O.written output.new)))) }
 
     // What a source shows, where all was written, and where a write failed after a beginning of it.
-    ensures derivable { (result ≡ 0) ⊎ (result ≡ 9) → (job : Asked) → ReadsSource job → IsAsked (map string_bytes words.now) job → (bytes : List ℕ) → I.left input.old ≡ Some bytes
-        → (cs : List Tree) (es : List Event) → IsPlainSource bytes cs → events [] cs ≡ Some es → AllDerivable (shown_in es) }
-    ensures begun { result ≡ 4 → (job : Asked) → ReadsSource job → IsAsked (map string_bytes words.now) job → (bytes : List ℕ) → I.left input.old ≡ Some bytes
-        → length bytes ≤ limit job → HasNoFault (I.faults input.old) (I.faults input.new)
-        → (cs : List Tree) (es : List Event) → IsPlainSource bytes cs → events [] cs ≡ Some es → AllDerivable (shown_in es) }
+    ensures derivable { (result ≡ 0) ⊎ (result ≡ 9) → (job : Asked) → ReadsSource job
+        → IsAsked (map string_bytes words.now) job → (bytes : List ℕ)
+        → I.left input.old ≡ Some bytes → (cs : List Tree) (es : List Event)
+        → IsPlainSource bytes cs → events [] cs ≡ Some es → AllDerivable (shown_in es) }
+    ensures begun { result ≡ 4 → (job : Asked) → ReadsSource job
+        → IsAsked (map string_bytes words.now) job → (bytes : List ℕ)
+        → I.left input.old ≡ Some bytes → length bytes ≤ limit job
+        → HasNoFault (I.faults input.old) (I.faults input.new) → (cs : List Tree) (es : List Event)
+        → IsPlainSource bytes cs → events [] cs ≡ Some es → AllDerivable (shown_in es) }
 
     // What was exported is a derivation that `check` accepts.
-    ensures exported { (result ≡ 0) ⊎ (result ≡ 9) → IsAsked (map string_bytes words.now) asked.Export → (bytes : List ℕ) → I.left input.old ≡ Some bytes
-        → (text : List ℕ) × (IsExport bytes text result × Appends (O.written output.old) text (O.written output.new) × ((c : Counts) × IsVerdict is_name_token text (verdict_line (Accepted c)) 0)) }
+    ensures exported { (result ≡ 0) ⊎ (result ≡ 9)
+        → IsAsked (map string_bytes words.now) asked.Export → (bytes : List ℕ)
+        → I.left input.old ≡ Some bytes → (text : List ℕ)
+        × (IsExport bytes text result × Appends (O.written output.old) text (O.written output.new)
+        × ((c : Counts) × IsVerdict is_name_token text (verdict_line (Accepted c)) 0)) }
 
     // What a verdict tells of the file.
-    ensures accepted { result ≡ 0 → IsAsked (map string_bytes words.now) asked.Check → (bytes : List ℕ) → I.left input.old ≡ Some bytes
-        → (items : List Item) × ((c : Counts) × (IsTextOf is_name_token bytes items × (verdict_built items ≡ Accepted c) × EachEntry (λ W e. Derivable W e.statement e.set) items)) }
+    ensures accepted { result ≡ 0 → IsAsked (map string_bytes words.now) asked.Check
+        → (bytes : List ℕ) → I.left input.old ≡ Some bytes → (items : List Item)
+        × ((c : Counts) × (IsTextOf is_name_token bytes items × (verdict_built items ≡ Accepted c)
+        × EachEntry (λ W e. Derivable W e.statement e.set) items)) }
     ensures rejected { result ≡ 15 → (bytes : List ℕ) → I.left input.old ≡ Some bytes
-        → (items : List Item) × ((k : ℕ) × ((why : Reject) × (IsTextOf is_name_token bytes items × (verdict_built items ≡ Rejected k why)))) }
-    ensures filed { result ≡ 16 → (bytes : List ℕ) → I.left input.old ≡ Some bytes → (fault : Fault) × HasFault is_name_token bytes fault }
+        → (items : List Item) × ((k : ℕ) × ((why : Reject)
+        × (IsTextOf is_name_token bytes items × (verdict_built items ≡ Rejected k why)))) }
+    ensures filed { result ≡ 16 → (bytes : List ℕ) → I.left input.old ≡ Some bytes → (fault : Fault)
+        × HasFault is_name_token bytes fault }
 {
     accepted_is_derivable();
     match job_of(words) {

@@ -24,7 +24,8 @@ use std::alloc::Global;
 // The verdict on the items of a file.
 #[tactic(auto, using(crate::proofs::Filing::items_text))]
 fn judge_items(alloc: Global, items: &StatedItems) -> Result<Written, Memory>
-    ensures text { (bytes : List ℕ) → IsTextOf is_name_token bytes items.now.items → IfOk result (λ w. IsVerdict is_name_token bytes w.text (number_of w.status)) }
+    ensures text { (bytes : List ℕ) → IsTextOf is_name_token bytes items.now.items
+        → IfOk result (λ w. IsVerdict is_name_token bytes w.text (number_of w.status)) }
     ensures status { IfOk result (λ w. IsOfInput asked.Check w.status) }
 {
     let verdict = check_items(alloc, items)?;
@@ -59,7 +60,8 @@ fn verdict<I: Source>(alloc: Global, input: &mut I) -> Result<Written, Status>
     ensures status { IfOk result (λ w. IsOfInput asked.Check w.status) }
     ensures text { IfOk result (λ w. IsOfBytes asked.Check (I.left input.old) w.text w.status) }
     ensures end { OnOk result (IsAtEnd (I.left input.new)) }
-    ensures cause { IfErr result (λ s. IsCause asked.Check (I.left input.old) (I.left input.new) (I.taken input.old) (I.taken input.new) (I.faults input.old) (I.faults input.new) s) }
+    ensures cause { IfErr result (λ s. IsCause asked.Check (I.left input.old) (I.left input.new)
+        (I.taken input.old) (I.taken input.new) (I.faults input.old) (I.faults input.new) s) }
 {
     let bytes = read_input(alloc, Job::Check, input)?;
     judge(alloc, &bytes).map_err(of_memory)
@@ -67,7 +69,9 @@ fn verdict<I: Source>(alloc: Global, input: &mut I) -> Result<Written, Status>
 
 /// Reads a derivation file and writes the verdict on it. The answer is the number of a status.
 pub(crate) fn check<I: Source, O: Sink>(alloc: Global, input: &mut I, output: &mut O) -> u8
-    ensures called { IsCall asked.Check (I.left input.old) (I.left input.new) (I.taken input.old) (I.taken input.new) (I.faults input.old) (I.faults input.new) (O.written output.old) (O.written output.new) result }
+    ensures called { IsCall asked.Check (I.left input.old) (I.left input.new) (I.taken input.old)
+        (I.taken input.new) (I.faults input.old) (I.faults input.new) (O.written output.old)
+        (O.written output.new) result }
     ensures rose { result ≡ 4 → Rose (O.faults output.old) (O.faults output.new) }
 {
     match verdict(alloc, input) {

@@ -21,7 +21,8 @@ use std::alloc::Global;
 
 // Writes the derivation of a run, and answers the status of the run; or why it was not written whole.
 fn write_run<O: Sink>(alloc: Global, run: &Run, output: &mut O) -> u8
-    ensures file { WritesFile run.now.session.state.items (ending_status run.now.ending) result (O.written output.old) (O.written output.new) }
+    ensures file { WritesFile run.now.session.state.items (ending_status run.now.ending) result
+        (O.written output.old) (O.written output.new) }
     ensures rose { result ≡ 4 → Rose (O.faults output.old) (O.faults output.new) }
 {
     match write_derivation(alloc, run.session.kernel(), output) {
@@ -33,7 +34,9 @@ fn write_run<O: Sink>(alloc: Global, run: &Run, output: &mut O) -> u8
 
 /// Reads a source, runs it, and writes the derivation of what was done. The answer is the number of a status.
 pub(crate) fn export<I: Source, O: Sink>(alloc: Global, input: &mut I, output: &mut O) -> u8
-    ensures called { IsCall asked.Export (I.left input.old) (I.left input.new) (I.taken input.old) (I.taken input.new) (I.faults input.old) (I.faults input.new) (O.written output.old) (O.written output.new) result }
+    ensures called { IsCall asked.Export (I.left input.old) (I.left input.new) (I.taken input.old)
+        (I.taken input.new) (I.faults input.old) (I.faults input.new) (O.written output.old)
+        (O.written output.new) result }
     ensures rose { result ≡ 4 → Rose (O.faults output.old) (O.faults output.new) }
 {
     built_verdict();

@@ -20,7 +20,8 @@ pub(crate) fn read_input<I: Source>(
     ensures bytes { IfOk result (λ v. IfSome (I.left input.old) (λ bytes. bytes ≡ v.items)) }
     ensures within { IfOk result (λ v. length v.items ≤ limit job) }
     ensures end { OnOk result (IsAtEnd (I.left input.new)) }
-    ensures cause { IfErr result (λ s. IsCauseOfReading job (I.left input.old) (I.taken input.old) (I.taken input.new) (I.faults input.old) (I.faults input.new) s) }
+    ensures cause { IfErr result (λ s. IsCauseOfReading job (I.left input.old) (I.taken input.old)
+        (I.taken input.new) (I.faults input.old) (I.faults input.new) s) }
 {
     read_source(alloc, input, most_bytes(job)).map_err(of_reading)
 }

@@ -40,7 +40,8 @@ pub(crate) fn status_for(ending: Ending) -> Status
 
 // Runs the source of the bytes.
 fn run_bytes(alloc: Global, bytes: &[u8]) -> Result<Ran, Fault>
-    ensures run { IfOk result (λ r. IsRun bytes.now r.text r.run.session.state.items (ending_status r.run.ending)) }
+    ensures run { IfOk result (λ r. IsRun bytes.now r.text r.run.session.state.items
+        (ending_status r.run.ending)) }
     ensures derivable { OnOk result (ShowsDerivable bytes.now) }
     ensures none { IsErrOf result fault.NotYet → IsNotBuilt bytes.now }
 {
@@ -53,9 +54,12 @@ fn run_bytes(alloc: Global, bytes: &[u8]) -> Result<Ran, Fault>
 /// Runs the source that comes in.
 pub(crate) fn run_input<I: Source>(alloc: Global, job: Job, input: &mut I) -> Result<Ran, Status>
     requires { ReadsSource job }
-    ensures run { IfOk result (λ r. IfSome (I.left input.old) (λ bytes. (length bytes ≤ limit job) × IsRun bytes r.text r.run.session.state.items (ending_status r.run.ending) × ShowsDerivable bytes)) }
+    ensures run { IfOk result (λ r. IfSome (I.left input.old) (λ bytes. (length bytes ≤ limit job)
+        × IsRun bytes r.text r.run.session.state.items (ending_status r.run.ending)
+        × ShowsDerivable bytes)) }
     ensures end { OnOk result (IsAtEnd (I.left input.new)) }
-    ensures cause { IfErr result (λ s. IsCause job (I.left input.old) (I.left input.new) (I.taken input.old) (I.taken input.new) (I.faults input.old) (I.faults input.new) s) }
+    ensures cause { IfErr result (λ s. IsCause job (I.left input.old) (I.left input.new)
+        (I.taken input.old) (I.taken input.new) (I.faults input.old) (I.faults input.new) s) }
 {
     let bytes = read_input(alloc, job, input)?;
     run_bytes(alloc, &bytes).map_err(of_running)
@@ -66,7 +70,8 @@ fn transcript<I: Source>(alloc: Global, input: &mut I) -> Result<Written, Status
     ensures status { IfOk result (λ w. IsOfInput asked.Run w.status) }
     ensures text { IfOk result (λ w. IsOfBytes asked.Run (I.left input.old) w.text w.status) }
     ensures end { OnOk result (IsAtEnd (I.left input.new)) }
-    ensures cause { IfErr result (λ s. IsCause asked.Run (I.left input.old) (I.left input.new) (I.taken input.old) (I.taken input.new) (I.faults input.old) (I.faults input.new) s) }
+    ensures cause { IfErr result (λ s. IsCause asked.Run (I.left input.old) (I.left input.new)
+        (I.taken input.old) (I.taken input.new) (I.faults input.old) (I.faults input.new) s) }
 {
     let ran = run_input(alloc, Job::Run, input)?;
     Ok(Written {
@@ -77,7 +82,9 @@ fn transcript<I: Source>(alloc: Global, input: &mut I) -> Result<Written, Status
 
 /// Reads a source and writes its transcript. The answer is the number of a status.
 pub(crate) fn run<I: Source, O: Sink>(alloc: Global, input: &mut I, output: &mut O) -> u8
-    ensures called { IsCall asked.Run (I.left input.old) (I.left input.new) (I.taken input.old) (I.taken input.new) (I.faults input.old) (I.faults input.new) (O.written output.old) (O.written output.new) result }
+    ensures called { IsCall asked.Run (I.left input.old) (I.left input.new) (I.taken input.old)
+        (I.taken input.new) (I.faults input.old) (I.faults input.new) (O.written output.old)
+        (O.written output.new) result }
     ensures rose { result ≡ 4 → Rose (O.faults output.old) (O.faults output.new) }
 {
     match transcript(alloc, input) {

@@ -56,7 +56,8 @@ fn accepted_text(
     shown: u64,
     level: u64,
 ) -> Result<Text, Memory>
-    ensures { IfOk result (λ t. t ≡ verdict_line (Accepted (record { rules = rules; entries = entries; shown = shown; level = level }))) }
+    ensures { IfOk result (λ t. t ≡ verdict_line
+        (Accepted (record { rules = rules; entries = entries; shown = shown; level = level }))) }
 {
     let mut out = Text::new(alloc);
     out.push_str("accepted ")?;

@@ -19,7 +19,8 @@ pub(crate) struct Written {
 /// Writes the text, and answers the status; or that the write failed.
 pub(crate) fn finish<O: Sink>(output: &mut O, text: &[u8], status: Status) -> u8
     requires { number_of status ≡ 4 → ⊥ }
-    ensures ended { Ends text.now (number_of status) result (O.written output.old) (O.written output.new) }
+    ensures ended { Ends text.now (number_of status) result (O.written output.old)
+        (O.written output.new) }
     ensures rose { result ≡ 4 → Rose (O.faults output.old) (O.faults output.new) }
 {
     match write_all(output, text) {
@@ -31,7 +32,8 @@ pub(crate) fn finish<O: Sink>(output: &mut O, text: &[u8], status: Status) -> u8
 /// Ends a call that has no text of its own, with the line of its status; without memory nothing is written.
 pub(crate) fn stop<O: Sink>(output: &mut O, status: Status) -> u8
     requires { number_of status ≡ 4 → ⊥ }
-    ensures ended { Ends (line_of status) (number_of status) result (O.written output.old) (O.written output.new) }
+    ensures ended { Ends (line_of status) (number_of status) result (O.written output.old)
+        (O.written output.new) }
     ensures rose { result ≡ 4 → Rose (O.faults output.old) (O.faults output.new) }
     ensures memory { number_of status ≡ 17 → result ≡ 17 }
     ensures same { result ≡ 17 → O.written output.new ≡ O.written output.old }

@@ -9,8 +9,6 @@ mod calls;
 #[cfg(test)]
 mod drafting;
 #[cfg(test)]
-mod expressions;
-#[cfg(test)]
 mod faults;
 #[cfg(test)]
 mod lines;

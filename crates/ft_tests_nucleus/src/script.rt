@@ -378,3 +378,19 @@ pub fn first_other(
     }
     Ok(None)
 }
+
+/// The first line of the scripts, one after the other, of which the call answers another text; where a call cannot be made, the
+/// number of lines of its script.
+pub fn first_wrong(alloc: Global, first: &[(Call, &str)], then: &[(Call, &str)]) -> Option<usize> {
+    let mut k = Kernel::new(alloc);
+    let mut draft = None;
+    match first_other(alloc, &mut k, &mut draft, first) {
+        Ok(None) => {}
+        Ok(Some(line)) => return Some(line),
+        Err(_) => return Some(first.len()),
+    }
+    match first_other(alloc, &mut k, &mut draft, then) {
+        Ok(line) => line,
+        Err(_) => Some(then.len()),
+    }
+}

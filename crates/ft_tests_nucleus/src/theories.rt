@@ -2,8 +2,7 @@
 
 use crate::calls::{One, Two};
 use crate::script::Call::{self, *};
-use crate::script::first_other;
-use crate::stop::Stop;
+use crate::script::first_wrong;
 use ft_kernel::Kernel;
 use ft_nucleus::Which;
 use std::alloc::Global;
@@ -138,8 +137,8 @@ const NO_STRUCTURE: [(Call, &str); 38] = [
     (PutBoundary(3, 5), "NotAbstracted"),
 ];
 
-// Answers of the calls on rules; a rule G of a number and a member of its F.
-const RULES: [(Call, &str); 28] = [
+// Answers of the calls on rules: G takes a number and a member of its F, P a family of types, Q an equation.
+const RULES: [(Call, &str); 38] = [
     (ApplyWith(7, 3, &[8]), "|- S(S(O)) : Nat"),
     (Next(7, &[]), ""),
     (Part(Which::Ty, 25), "|- Nat type"),
@@ -177,6 +176,16 @@ const RULES: [(Call, &str); 28] = [
     (Next(41, &[8]), ""),
     (Part(Which::Ty, 48), "|- F(S(O)) type"),
     (Of(One::Refl, 43), "z#0 : F(O) |- z#0 == z#0 : F(O)"),
+    (BindBoundary(9, 0), ""),
+    (Begin("P"), ""),
+    (Premise("a", 51), ""),
+    (Finish(0), ""),
+    (Bind(9, 15), "|- {@0 : Nat} F(@0) type"),
+    (Apply(53, &[54]), "|- P({@0} F(@0)) type"),
+    (Begin("Q"), ""),
+    (Premise("e", 21), ""),
+    (Finish(0), ""),
+    (Apply(57, &[23]), "|- Q(*) type"),
 ];
 
 // Refusals of rules and of their calls.
@@ -276,42 +285,27 @@ const METAVARIABLES: [(Call, &str); 24] = [
     ),
 ];
 
-// The first line that answers another text: first of the numbers, then of the script.
-fn first_wrong(alloc: Global, script: &[(Call, &str)]) -> Result<Option<usize>, Stop> {
-    let mut k = Kernel::new(alloc);
-    let mut draft = None;
-    match first_other(alloc, &mut k, &mut draft, &NATURALS)? {
-        None => first_other(alloc, &mut k, &mut draft, script),
-        Some(line) => Ok(Some(line)),
-    }
+#[test]
+fn structural_calls_answer(rt: HostRuntime) {
+    assert_eq!(rt; first_wrong(rt.alloc(), &NATURALS, &STRUCTURE), None);
 }
 
 #[test]
-fn structural_calls_answer(rt: HostRuntime) -> Result<(), Stop> {
-    assert_eq!(rt; first_wrong(rt.alloc(), &STRUCTURE)?, None);
-    Ok(())
+fn structural_calls_refuse(rt: HostRuntime) {
+    assert_eq!(rt; first_wrong(rt.alloc(), &NATURALS, &NO_STRUCTURE), None);
 }
 
 #[test]
-fn structural_calls_refuse(rt: HostRuntime) -> Result<(), Stop> {
-    assert_eq!(rt; first_wrong(rt.alloc(), &NO_STRUCTURE)?, None);
-    Ok(())
+fn calls_on_rules_answer(rt: HostRuntime) {
+    assert_eq!(rt; first_wrong(rt.alloc(), &NATURALS, &RULES), None);
 }
 
 #[test]
-fn calls_on_rules_answer(rt: HostRuntime) -> Result<(), Stop> {
-    assert_eq!(rt; first_wrong(rt.alloc(), &RULES)?, None);
-    Ok(())
+fn calls_on_rules_refuse(rt: HostRuntime) {
+    assert_eq!(rt; first_wrong(rt.alloc(), &NATURALS, &NO_RULES), None);
 }
 
 #[test]
-fn calls_on_rules_refuse(rt: HostRuntime) -> Result<(), Stop> {
-    assert_eq!(rt; first_wrong(rt.alloc(), &NO_RULES)?, None);
-    Ok(())
-}
-
-#[test]
-fn calls_on_metavariables_answer_or_refuse(rt: HostRuntime) -> Result<(), Stop> {
-    assert_eq!(rt; first_wrong(rt.alloc(), &METAVARIABLES)?, None);
-    Ok(())
+fn calls_on_metavariables_answer_or_refuse(rt: HostRuntime) {
+    assert_eq!(rt; first_wrong(rt.alloc(), &NATURALS, &METAVARIABLES), None);
 }

@@ -3,10 +3,7 @@
 use crate::calls::{One, Two};
 use crate::script::Call::{self, *};
 use crate::script::first_wrong;
-use ft_kernel::Kernel;
 use ft_nucleus::Which;
-use std::alloc::Global;
-use std::test::Fail;
 
 // Natural numbers, a family F over them, and the equation O == S(O); a variable x of Nat and y of F(x).
 const NATURALS: [(Call, &str); 29] = [

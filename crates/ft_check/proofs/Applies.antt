@@ -21,7 +21,7 @@ use Rattle.ft_check.specs.declared.compare.Compared.{Compared}
 use Rattle.ft_check.proofs.Basics.{each_first, named}
 use Rattle.ft_check.proofs.Fits.{each_at, each_length}
 use Rattle.ft_common.proofs.Options.{none_some}
-use Rattle.ft_check.proofs.GoalsTaken.{KnownRule, rule_gone, rule_known}
+use Rattle.ft_check.proofs.GoalsTaken.{KnownRule, rule_gone, rule_known, rule_unknown}
 
 pub named_rule_stands : (W : Declarations) (r : ℕ) (R : ℕ × Rule) → rule_named W r ≡ Some R → (r ≡ R.0) × (rule_at W.rules r ≡ Some R.1)
 named_rule_stands W r R h = go (rule_at W.rules r) refl h
@@ -35,6 +35,13 @@ named_rule_stands W r R h = go (rule_at W.rules r) refl h
 -- A rule of a good list is read by its line, and its goal by the entry of the conclusion.
 pub no_rule : {P : Type 0} (items : List Item) (r : ℕ) (R : ℕ × Rule) → Good items → rule_named (declared_by items) r ≡ Some R → None ≡ option_map line_of (nth (rules_in items) r) → P
 no_rule items r R g e h = rule_gone items r R.1 g (named_rule_stands (declared_by items) r R e).1 h
+
+pub not_declared : {P : Type 0} (items : List Item) (r : ℕ) (ms : List ℕ) (p : ℕ) → Good items → rule_named (declared_by items) r ≡ None → Some (ms, p) ≡ option_map line_of (nth (rules_in items) r) → P
+not_declared items r ms p g e h = rule_unknown items r ms p g (unnamed (rule_at (declared_by items).rules r) e) h
+  where
+    unnamed : (o : Option Rule) → option_map (λ R. (r, R)) o ≡ None → o ≡ None
+    unnamed None e = refl
+    unnamed (Some R) e = none_some (sym e)
 
 known : (items : List Item) (r : ℕ) (ms : List ℕ) (p : ℕ) (R : ℕ × Rule) → Good items → rule_named (declared_by items) r ≡ Some R → Some (ms, p) ≡ option_map line_of (nth (rules_in items) r) → KnownRule (store_of items) ms p R.1
 known items r ms p R g e h = rule_known items r ms p R.1 g (named_rule_stands (declared_by items) r R e).1 h

@@ -39,6 +39,13 @@ rule_gone {P} items r R g e h = go (nth (rules_in items) r) refl h
     go None q h = none_some (sym (rule_is_line items r g ∙ ap (option_map (λ (x : Name × List ℕ × ℕ). ruled (each (metavariable_named (declared_by items)) x.1) (entry_named (store_of items) x.2))) q) ∙ e)
     go (Some x) q h = none_some h
 
+pub rule_unknown : {P : Type 0} (items : List Item) (r : ℕ) (ms : List ℕ) (p : ℕ) → Good items → rule_at (declared_by items).rules r ≡ None → Some (ms, p) ≡ option_map line_of (nth (rules_in items) r) → P
+rule_unknown {P} items r ms p g e h = go (nth (rules_in items) r) refl h
+  where
+    go : (o : Option (Name × List ℕ × ℕ)) → nth (rules_in items) r ≡ o → Some (ms, p) ≡ option_map line_of o → P
+    go None q h = none_some (sym h)
+    go (Some x) q h = none_some (sym (sym (rule_is_line items r g ∙ ap (option_map (λ (x : Name × List ℕ × ℕ). ruled (each (metavariable_named (declared_by items)) x.1) (entry_named (store_of items) x.2))) q) ∙ e))
+
 pub record KnownRule (X : Store) (ms : List ℕ) (p : ℕ) (R : Rule) : Type 0 where
   pub line : Ruled X ms p
   pub premises : R.premises ≡ premises_of line.premises

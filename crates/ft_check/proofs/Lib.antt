@@ -35,3 +35,5 @@ mod Sided
 mod StepsAtRules
 mod MetavariableRead
 mod SidesFound
+mod AtSymbols
+mod Telling

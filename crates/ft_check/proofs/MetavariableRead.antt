@@ -67,6 +67,19 @@ read items m d g h = go (nth (metavariables_in items) m) refl
         }
 
 -- Where nothing is read, there is no such metavariable.
+pub not_declared : {P : Type 0} (items : List Item) (m p : ℕ) → Good items → metavariable_named (declared_by items) m ≡ None → Some p ≡ option_map (λ (x : Name × ℕ). x.1) (nth (metavariables_in items) m) → P
+not_declared {P} items m p g e h = go (nth (metavariables_in items) m) refl h
+  where
+    f : Name × ℕ → Declared
+    f x = declared x (nth (entries_in items) x.1)
+
+    found : option_map f (nth (metavariables_in items) m) ≡ nth (declared_by items).metavariables m
+    found = sym (ap (λ ds. nth ds m) (store_is items g).metavariables ∙ nth_map f (metavariables_in items) m)
+
+    go : (o : Option (Name × ℕ)) → nth (metavariables_in items) m ≡ o → Some p ≡ option_map (λ (x : Name × ℕ). x.1) o → P
+    go None q h = none_some (sym h)
+    go (Some x) q h = none_some (sym (ap (option_map (λ d. (m, d))) (sym (ap (option_map f) q) ∙ found) ∙ e))
+
 pub no_line : {P : Type 0} (items : List Item) (m : ℕ) (d : ℕ × Declared) → Good items → metavariable_named (declared_by items) m ≡ Some d → None ≡ option_map (λ (x : Name × ℕ). x.1) (nth (metavariables_in items) m) → P
 no_line items m d g h e = let k = read items m d g h in none_some (e ∙ ap (option_map (λ (x : Name × ℕ). x.1)) k.stands)
 

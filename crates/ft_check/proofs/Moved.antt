@@ -37,7 +37,7 @@ use Rattle.ft_check.proofs.NextBoundaries.{are_first}
 abbrev heads_same : Claim → Claim → Bool
 heads_same e d = same_head (claim_head e) (claim_head d)
 
-type_same : (e : Claim) (D : Expression) → (fits_goal e type_goal && heads_same e (is_type D)) ≡ equal_claims (is_type D) e
+pub type_same : (e : Claim) (D : Expression) → (fits_goal e type_goal && heads_same e (is_type D)) ≡ equal_claims (is_type D) e
 type_same (is_type E) D = equal_back E D
 type_same (has_type t A) D = refl
 type_same (equal_types A B) D = refl
@@ -47,7 +47,7 @@ type_same (term_goal A) D = refl
 type_same (type_equation_goal A B) D = refl
 type_same (term_equation_goal s t A) D = refl
 
-term_same : (e : Claim) (u B C : Expression) → (fits_goal e (term_goal C) && heads_same e (has_type u B)) ≡ equal_claims (has_type u C) e
+pub term_same : (e : Claim) (u B C : Expression) → (fits_goal e (term_goal C) && heads_same e (has_type u B)) ≡ equal_claims (has_type u C) e
 term_same (is_type E) u B C = refl
 term_same (has_type t A) u B C = and_comm (equal_expressions A C) (equal_expressions t u) ∙ ap₂ ◌&&◌ (equal_back t u) (equal_back A C)
 term_same (equal_types D E) u B C = refl
@@ -57,7 +57,7 @@ term_same (term_goal A) u B C = refl
 term_same (type_equation_goal D E) u B C = refl
 term_same (term_equation_goal s t A) u B C = refl
 
-types_same : (e d : Claim) (C D : Expression) → (fits_goal e (type_equation_goal C D) && heads_same e d) ≡ equal_claims (equal_types C D) e
+pub types_same : (e d : Claim) (C D : Expression) → (fits_goal e (type_equation_goal C D) && heads_same e d) ≡ equal_claims (equal_types C D) e
 types_same (is_type E) d C D = refl
 types_same (has_type t A) d C D = refl
 types_same (equal_types A B) d C D = and-true (equal_expressions A C && equal_expressions B D) ∙ ap₂ ◌&&◌ (equal_back A C) (equal_back B D)
@@ -75,7 +75,7 @@ turned false true true = refl
 turned false true false = refl
 turned false false z = refl
 
-terms_same : (e d : Claim) (u v C : Expression) → (fits_goal e (term_equation_goal u v C) && heads_same e d) ≡ equal_claims (equal_terms u v C) e
+pub terms_same : (e d : Claim) (u v C : Expression) → (fits_goal e (term_equation_goal u v C) && heads_same e d) ≡ equal_claims (equal_terms u v C) e
 terms_same (is_type E) d u v C = refl
 terms_same (has_type t A) d u v C = refl
 terms_same (equal_types A B) d u v C = refl

@@ -1,6 +1,6 @@
 //! The rule that a step applies.
 
-ghost use Rattle.std.specs.Prelude.{◌≡◌, ℕ, Some, length, take, IfSome, IsSomeAnd};
+ghost use Rattle.std.specs.Prelude.{◌≡◌, ℕ, None, Some, length, take, IfSome, IsSomeAnd};
 ghost use Rattle.ft_theory.specs.Rules.{Rule};
 ghost use Rattle.ft_items.specs.Store.{rule_named, declared_by};
 ghost use Rattle.ft_items.specs.Good.{Good};
@@ -24,6 +24,8 @@ pub fn rule_at_hand(items: &StatedItems, i: u64, r: u64) -> Option<RuleAt<'_>>
     ensures is { (R : ℕ × Rule) → Good (take i items.now.items)
         → rule_named (declared_by (take i items.now.items)) r ≡ Some R
         → IsSomeAnd result (λ x. IsRule items.now.trees (declared_by (take i items.now.items)) x R) }
+    ensures none { Good (take i items.now.items)
+        → rule_named (declared_by (take i items.now.items)) r ≡ None → result ≡ None }
     ensures below { IfSome result (λ x. GoalBelow (length items.now.trees) x.goal) }
 {
     let line = rule_before(items, i, r)?;

@@ -54,8 +54,8 @@ fn directed(way: Way, sides: Sides) -> Sides
     }
 }
 
-// Whether a thesis fits the instance of a boundary.
-fn fits_at(
+/// Whether a thesis fits the instance of a boundary.
+pub fn fits_at(
     alloc: Global,
     put: &mut Put,
     terms: &Terms,
@@ -78,9 +78,9 @@ fn fits_at(
     put.are_instances(terms, &list)
 }
 
-// The head of a thesis that has one.
+/// The head of a thesis that has one.
 #[tactic(auto, using(crate::proofs::HeadsPut::head_below, crate::proofs::Moved::body_some))]
-fn head_in(x: Entry<'_>) -> Option<E>
+pub fn head_in(x: Entry<'_>) -> Option<E>
     ensures is { (ts : List Expression)
         → option_map (tree ts) result
         ≡ head_of_statement (entry_in ts x.entry).statement }

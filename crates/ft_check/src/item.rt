@@ -12,12 +12,14 @@ ghost use Rattle.ft_check.specs.Entries.{entry_in, EntryBelow, with_step};
 ghost use Rattle.ft_check.specs.Kinds.{kinds_right};
 ghost use Rattle.ft_check.specs.Rejects.{reason_of};
 
+use crate::arguments::check_arg;
 use crate::binding::{By, check_abs, check_subst, check_var};
 use crate::boundaries::check_btype;
 use crate::congruences::check_cong;
 use crate::conversions::{Way, check_conv};
 use crate::entry::Entry;
 use crate::metas::{check_generic, check_meta};
+use crate::naturals::check_natural;
 use crate::next_boundary::check_inst;
 use crate::parted::{check_from_one, check_from_three, check_from_two};
 use crate::reject::Reject;
@@ -79,8 +81,8 @@ fn check_result(
         StatedStep::Convback(r, ps, es, q) => {
             check_conv(alloc, items, i, found, Way::Back, *r, ps, es, *q)
         }
-        StatedStep::Arg(_, _) => Ok(Some(Reject::Premise)),
-        StatedStep::Natural(_) => Ok(Some(Reject::Premise)),
+        StatedStep::Arg(k, p) => check_arg(alloc, items, i, found, *k, *p),
+        StatedStep::Natural(p) => check_natural(alloc, items, i, found, *p),
     }
 }
 

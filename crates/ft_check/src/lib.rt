@@ -2,8 +2,10 @@
 #![tactic(auto)]
 
 mod after;
+mod applications;
 mod applied;
 mod arguing;
+mod arguments;
 mod binding;
 mod boundaries;
 mod compare;
@@ -23,6 +25,7 @@ mod metas;
 mod metavariable_at;
 mod metavariables;
 mod named;
+mod naturals;
 mod next_boundary;
 mod parted;
 mod reject;

@@ -1,6 +1,6 @@
 //! The metavariable that a step names.
 
-ghost use Rattle.std.specs.Prelude.{◌≡◌, ℕ, Some, length, IfSome, IsSomeAnd};
+ghost use Rattle.std.specs.Prelude.{◌≡◌, ℕ, None, Some, length, IfSome, IsSomeAnd};
 ghost use Rattle.ft_items.specs.Store.{Declared, metavariable_named};
 ghost use Rattle.ft_judge.specs.Meaning.{BoundaryBelow};
 ghost use Rattle.ft_check.specs.AtHand.{IsMetavariable};
@@ -23,6 +23,8 @@ pub fn metavariable_at_hand(items: &StatedItems, i: u64, m: u64) -> Option<Metav
     ensures is { (d : ℕ × Declared) → GoodBefore i items.now.items
         → metavariable_named (declared_before i items.now.items) m ≡ Some d
         → IsSomeAnd result (λ x. IsMetavariable items.now.trees m x d) }
+    ensures none { GoodBefore i items.now.items
+        → metavariable_named (declared_before i items.now.items) m ≡ None → result ≡ None }
     ensures below { IfSome result (λ x. BoundaryBelow (length items.now.trees) x.boundary.now) }
 {
     let p = metavariable_before(items, i, m)?;

@@ -6,3 +6,4 @@ mod Putting
 mod Placed
 mod Nodes
 mod GenericFilled
+mod Told

@@ -31,7 +31,7 @@ no_bound i (symbol s a) n h f = refl
 no_bound i (meta m a) n h f = refl
 
 -- the arguments, one by one
-first_of_rest : (ps : List Argument) (k : ℕ) (p : Argument) → slice_get ps k ≡ Some p → drop k ps ≡ p ∷ drop (k + 1) ps
+pub first_of_rest : (ps : List Argument) (k : ℕ) (p : Argument) → slice_get ps k ≡ Some p → drop k ps ≡ p ∷ drop (k + 1) ps
 first_of_rest ps k p h = drop_more ps k p (slice_get_within ps k p h) ∙ ap (λ q. q ∷ drop (k + 1) ps) (get_or_from_slice_get ps k p p h)
 
 bounds_at : (n k : ℕ) (ps : List Argument) (p : Argument) → k < n → slice_get ps k ≡ Some p → are_bounds (n - k) (drop k ps) ≡ (is_bound_body (n - 1 - k) p.1 && are_bounds (n - (k + 1)) (drop (k + 1) ps))

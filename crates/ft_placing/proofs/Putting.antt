@@ -57,7 +57,7 @@ as_many ts done (D ∷ Ds) [] n = refl
 as_many ts done (D ∷ Ds) (s ∷ ss) n = ap (λ b. is_put ts done D s.ty && b) (as_many ts (done ++ s.left ∷ []) Ds ss (λ e. n (ap suc e))) ∙ and-false (is_put ts done D s.ty)
 
 -- terms for all domains, and further ones, which are not put
-at_plain : (c : Claim) (as' : List Expression) → at (plain c) (listed as') ≡ plain c
+pub at_plain : (c : Claim) (as' : List Expression) → at (plain c) (listed as') ≡ plain c
 at_plain c [] = refl
 at_plain c (t ∷ as') = at_plain c as'
 

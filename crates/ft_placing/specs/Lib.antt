@@ -1,4 +1,5 @@
 pub mod Opening
 pub mod Sides
 pub mod Applied
+pub mod Telling
 pub mod Laws

@@ -2,7 +2,7 @@ use Rattle.std.proofs.Common.{take, refl, sym, ap, ◌∙◌}
 use Rattle.std.specs.Prelude.{option_map}
 use Rattle.ft_judge.specs.Meaning.{goal_in}
 use Rattle.ft_check.specs.Entries.{entry_in, line_in}
-use Rattle.ft_check.proofs.Applies.{no_goal_read, no_rule, no_goal_found, rule_read}
+use Rattle.ft_check.proofs.Applies.{no_goal_read, no_rule, not_declared, no_goal_found, rule_read}
 use Rattle.ft_check.proofs.applied.rule_at_hand.Goals as goal
 
 pub returns-in_err-line-clause-is : goal.returns-in_err-line-clause-is
@@ -27,3 +27,6 @@ returns-clause-is c = λ R g e.
 
 pub returns-clause-below : goal.returns-clause-below
 returns-clause-below c = c.in_ok-goal.ensures.below _ c.in_ok-conclusion.ensures.below
+
+pub returns-clause-none : goal.returns-clause-none
+returns-clause-none c = λ g e. not_declared (take c.args.i c.args.items.now.items) c.args.r c.in_ok-line.line.premises.now c.in_ok-line.line.conclusion g e (sym (ap (option_map line_in) c.in_ok-line.was) ∙ c.rule_before.ensures)

@@ -1,7 +1,7 @@
 use Rattle.std.proofs.Common.{Some, take, sym, ap, ◌∙◌}
 use Rattle.std.specs.Prelude.{option_map}
 use Rattle.ft_check.specs.Entries.{entry_in}
-use Rattle.ft_check.proofs.MetavariableRead.{no_line, no_entry, no_boundary, is_read}
+use Rattle.ft_check.proofs.MetavariableRead.{no_line, no_entry, no_boundary, is_read, not_declared}
 use Rattle.ft_check.proofs.metavariable_at.metavariable_at_hand.Goals as goal
 
 pub returns-in_err-p-clause-is : goal.returns-in_err-p-clause-is
@@ -23,3 +23,6 @@ returns-in-Boundary-clause-is c = λ d g h.
     let T = c.args.items.now.trees in
     is_read T (take c.args.i c.args.items.now.items) c.args.m c.in_ok-p.p d _ g h (sym c.in_ok-p.was ∙ c.metavariable_before.ensures)
     (sym (ap (λ x. Some (entry_in T x)) c.in-Boundary.is) ∙ sym (ap (option_map (entry_in T)) c.in_ok-entry.was) ∙ c.entry_before.ensures.entry)
+
+pub returns-in-Boundary-clause-none : goal.returns-in-Boundary-clause-none
+returns-in-Boundary-clause-none c = λ g e. not_declared (take c.args.i c.args.items.now.items) c.args.m c.in_ok-p.p g e (sym c.in_ok-p.was ∙ c.metavariable_before.ensures)

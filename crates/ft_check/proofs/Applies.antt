@@ -39,7 +39,7 @@ no_rule items r R g e h = rule_gone items r R.1 g (named_rule_stands (declared_b
 pub not_declared : {P : Type 0} (items : List Item) (r : ℕ) (ms : List ℕ) (p : ℕ) → Good items → rule_named (declared_by items) r ≡ None → Some (ms, p) ≡ option_map line_of (nth (rules_in items) r) → P
 not_declared items r ms p g e h = rule_unknown items r ms p g (unnamed (rule_at (declared_by items).rules r) e) h
   where
-    unnamed : (o : Option Rule) → option_map (λ R. (r, R)) o ≡ None → o ≡ None
+    unnamed : (o : Option Rule) → option_map {U = ℕ × Rule} (λ R. (r, R)) o ≡ None → o ≡ None
     unnamed None e = refl
     unnamed (Some R) e = none_some (sym e)
 

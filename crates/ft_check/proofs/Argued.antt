@@ -1,5 +1,5 @@
 -- What a rule has after its first premises, and arguments put for them.
-use Rattle.std.proofs.Common.{◌≡◌, ◌≢◌, ℕ, zero, suc, ◌+◌, ◌<◌, ◌≤◌, Bool, true, false, ◌&&◌, Option, Some, None, List, [], ◌∷◌, ◌++◌, refl, sym, ap, ap₂, ◌∙◌, subst, length, take, drop, get_or, map, min, nat_lt, arith}
+use Rattle.std.proofs.Common.{◌≡◌, ◌≢◌, ℕ, zero, suc, ◌<◌, ◌≤◌, Bool, true, false, ◌&&◌, Option, Some, None, List, [], ◌∷◌, ◌++◌, refl, sym, ap, ◌∙◌, subst, length, take, drop, get_or, min, nat_lt, arith}
 use Rattle.std.specs.Prelude.{option_map, IsSomeAnd}
 use Rattle.std.proofs.Math.Bool.{and-false}
 use Rattle.std.proofs.lemmas.List.{append-nil, drop_all, length-take, take-append-drop}
@@ -11,9 +11,9 @@ use Rattle.ft_theory.specs.Statements.{Statement, plain, map_statement}
 use Rattle.ft_items.specs.Item.{Item}
 use Rattle.ft_items.specs.Equal.{fit_all, fits, heads, is_plain, is_thesis}
 use Rattle.ft_items.specs.Store.{Assertion, Declared, claim_in, declared_by, each, entry_named, metavariable_named, nth, premises_of, rule_named, rules_in, store_of}
-use Rattle.ft_items.specs.Rows.{are_arguments, boundary_after, first_premises, next_boundary, statements}
+use Rattle.ft_items.specs.Rows.{are_arguments, first_premises, next_boundary, statements}
 use Rattle.ft_items.specs.Good.{Good}
-use Rattle.ft_check.specs.Arguing.{AreDeclared, AreTheses, IsAfter, IsLineOf, IsNext, boundary_next, boundary_or}
+use Rattle.ft_check.specs.Arguing.{AreTheses, IsAfter, IsLineOf, IsNext, boundary_next, boundary_or}
 use Rattle.ft_check.specs.Comparing.{all_same}
 use Rattle.ft_check.specs.Entries.{entry_in, line_in, line_of}
 use Rattle.ft_check.specs.declared.after.After.{After}

@@ -2,15 +2,15 @@
 use Rattle.std.proofs.Common.{◌≡◌, ℕ, zero, suc, ◌<◌, ◌≤◌, Bool, true, false, ◌&&◌, Option, Some, None, List, [], ◌∷◌, refl, sym, ap, ap₂, ◌∙◌, subst, length, drop, get_or, map, slice_get, arith}
 use Rattle.std.specs.Prelude.{option_map, unwrap_or}
 use Rattle.std.proofs.Math.Bool.{and_assoc}
-use Rattle.std.proofs.lemmas.List.{length-map}
 use Rattle.std.proofs.lemmas.Option.{same_Some}
+use Rattle.ft_common.proofs.Booleans.{false_true}
 use Rattle.ft_common.proofs.Options.{none_some}
 use Rattle.ft_theory.specs.Expressions.{Expression, bound, free, symbol, Arguments, no_arguments, with_body, dummy, act, instantiate}
 use Rattle.ft_theory.specs.Rules.{Rule, instance_of, filled_premises}
 use Rattle.ft_theory.specs.Statements.{Claim, is_type, has_type, equal_types, equal_terms, type_goal, term_goal, type_equation_goal, term_equation_goal, Statement, plain, abstracted, act_statement, fill, map_claim, map_statement}
 use Rattle.ft_items.specs.Equal.{equal_expressions, equal_statements, fits, is_thesis}
 use Rattle.ft_items.specs.Rows.{natural_of_rule, rule_arguments, type_of_boundary}
-use Rattle.ft_items.specs.Store.{Declared, Declarations, each, metavariable_named, nth, premises_of}
+use Rattle.ft_items.specs.Store.{Declared, Declarations, metavariable_named, nth, premises_of}
 use Rattle.ft_sound.proofs.EqualLemmas.{equal_back}
 use Rattle.ft_syntax.specs.Arguments.{Argument, arguments_of, as_arguments, list_of_arguments}
 use Rattle.ft_syntax.specs.Instances.{instance_in}
@@ -29,7 +29,7 @@ use Rattle.ft_check.specs.declared.instances.Put.{Put}
 use Rattle.ft_check.proofs.Applies.{numbers_are}
 use Rattle.ft_check.proofs.Basics.{named}
 use Rattle.ft_check.proofs.Fits.{each_at, each_length}
-use Rattle.ft_check.proofs.Moved.{type_same, term_same, types_same, terms_same, unfit}
+use Rattle.ft_check.proofs.Moved.{type_same, term_same, types_same, terms_same}
 
 -- The arguments are those of the symbol, and are put for the premises.
 pub symbol_put : (x : Put) (qs : List (ℕ × Statement)) (b a : Arguments) (e : Expression) (s : ℕ) → b ≡ as_arguments (arguments_of e) → e ≡ symbol s a → IsPut x qs b → IsPut x qs a
@@ -39,9 +39,9 @@ pub rule_numbers : (ts : List Expression) (W : Declarations) (x : RuleAt) (R : �
 rule_numbers ts W x R k = ap (map (λ (q : ℕ × Statement). q.0)) k.premises ∙ numbers_are W x.metavariables.now k.declared k.are
 
 -- The type in the conclusion at the arguments.
-pub type_concluded : (ts : List Expression) (W : Declarations) (x : RuleAt) (R : ℕ × Rule) (ty : ℕ) (a : Arguments) (left : Option ℕ) (p : Put) (yes : Bool) → IsRule ts W x R → x.goal ≡ goal.Tm ty → IsPut p R.1.premises a
-    → yes ≡ is_left ts (instantiate (instance_in p.terms p.instance.pairs) (tree ts ty)) left → Some yes ≡ option_map (λ N. is_left ts N left) (natural_of_rule (Some R.1) a)
-type_concluded ts W x R ty a left p yes k g q e =
+pub type_concluded : (ts : List Expression) (W : Declarations) (x : RuleAt) (R : ℕ × Rule) (ty : ℕ) (a : Arguments) (left : Option ℕ) (p : Put) (b : Bool) → IsRule ts W x R → x.goal ≡ goal.Tm ty → IsPut p R.1.premises a
+    → b ≡ is_left ts (instantiate (instance_in p.terms p.instance.pairs) (tree ts ty)) left → Some b ≡ option_map (λ N. is_left ts N left) (natural_of_rule (Some R.1) a)
+type_concluded ts W x R ty a left p b k g q e =
     ap Some (e ∙ ap (λ i. is_left ts (instantiate i (tree ts ty)) left) q.instance)
     ∙ ap (λ c. option_map (λ N. is_left ts N left) (type_of_boundary (plain (map_claim (act free (instance_of R.1.premises a)) c)))) (sym (ap (goal_in ts) g) ∙ k.conclusion)
 
@@ -63,10 +63,10 @@ filled_same (plain type_goal) (plain e) h n = type_same e h
 filled_same (plain (term_goal C)) (plain e) h n = term_same e h (bound zero) C
 filled_same (plain (type_equation_goal C D)) (plain e) h n = types_same e (is_type h) C D
 filled_same (plain (term_equation_goal u v C)) (plain e) h n = terms_same e (is_type h) u v C
-filled_same (plain (is_type A)) (plain e) h n = unfit (sym n)
-filled_same (plain (has_type t A)) (plain e) h n = unfit (sym n)
-filled_same (plain (equal_types A B)) (plain e) h n = unfit (sym n)
-filled_same (plain (equal_terms s t A)) (plain e) h n = unfit (sym n)
+filled_same (plain (is_type A)) (plain e) h n = false_true (sym n)
+filled_same (plain (has_type t A)) (plain e) h n = false_true (sym n)
+filled_same (plain (equal_types A B)) (plain e) h n = false_true (sym n)
+filled_same (plain (equal_terms s t A)) (plain e) h n = false_true (sym n)
 filled_same (plain c) (abstracted A x) h n = refl
 filled_same (abstracted B b) (plain e) h n = refl
 filled_same (abstracted B b) (abstracted A x) h n =
@@ -167,10 +167,10 @@ premise_declared ts W x R k m h l e =
     let y = each_at (metavariable_named W) x.metavariables.now h.declared k m h.are l e in
     (y.0.1, y.0.0, (named W m y.0 y.1).1, ap (λ ps. nth ps k) h.premises ∙ premise_at h.declared k y.0 _ y.2)
 
-pub argument_told : (ts : List Expression) (R : ℕ × Rule) (e : Expression) (s : ℕ) (a : Arguments) (k j n : ℕ) (b : Statement) (x : Arg) (y : Statement) (yes : Bool) → nth R.1.premises k ≡ Some (n, b) → e ≡ symbol s a → j ≡ k → slice_get (arguments_of e) j ≡ Some (argument_in ts x)
-    → yes ≡ equal_statements (fill (act_statement free (instance_of R.1.premises a) b) (head_in ts x.body)) y
-    → Some yes ≡ option_map (λ z. equal_statements z y) (nth (rule_arguments (Some R.1) a) k)
-argument_told ts R e s a k j n b x y yes h q i g f =
+pub argument_told : (ts : List Expression) (R : ℕ × Rule) (e : Expression) (s : ℕ) (a : Arguments) (k j n : ℕ) (b : Statement) (x : Arg) (y : Statement) (t : Bool) → nth R.1.premises k ≡ Some (n, b) → e ≡ symbol s a → j ≡ k → slice_get (arguments_of e) j ≡ Some (argument_in ts x)
+    → t ≡ equal_statements (fill (act_statement free (instance_of R.1.premises a) b) (head_in ts x.body)) y
+    → Some t ≡ option_map (λ z. equal_statements z y) (nth (rule_arguments (Some R.1) a) k)
+argument_told ts R e s a k j n b x y t h q i g f =
     ap Some f
     ∙ ap (option_map (λ z. equal_statements z y))
     (sym (filled_at (instance_of R.1.premises a) R.1.premises a k (n, b) (argument_in ts x) h (subst (λ e. slice_get (arguments_of e) k ≡ Some (argument_in ts x)) q (subst (λ j. slice_get (arguments_of e) j ≡ Some (argument_in ts x)) i g))))

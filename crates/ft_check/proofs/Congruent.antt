@@ -1,14 +1,13 @@
 -- A symbol at equal arguments: what it concludes, and the reasons against that.
 use Rattle.std.proofs.Common.{◌≡◌, ℕ, Bool, true, false, ◌&&◌, Option, Some, None, List, [], ◌∷◌, refl, sym, ap, ap₂, ◌∙◌, subst}
-use Rattle.std.proofs.Math.Bool.{and_comm, and-false}
 use Rattle.ft_theory.specs.Expressions.{Expression, symbol, instantiate}
-use Rattle.ft_theory.specs.Rules.{Rule, conclusion_at, instance_of}
+use Rattle.ft_theory.specs.Rules.{Rule, conclusion_at}
 use Rattle.ft_theory.specs.Statements.{Claim, Statement, plain, equate_goal, map_claim}
 use Rattle.ft_items.specs.Item.{Stated}
-use Rattle.ft_items.specs.Sets.{Atom, same_set, union, unions}
+use Rattle.ft_items.specs.Sets.{Atom, same_set}
 use Rattle.ft_items.specs.Equal.{equal_claims, equal_statements, heads, is_object_goal, right_heads, start_all}
 use Rattle.ft_items.specs.Store.{Assertion, Declarations, premises_of}
-use Rattle.ft_items.specs.Rows.{are_arguments, congruence_of, sets, statements}
+use Rattle.ft_items.specs.Rows.{are_arguments, congruence_of, statements}
 use Rattle.ft_items.specs.Good.{Reject as Reason, Premise as premise, Conclusion as conclusion, Set as set, reason_of_result, unless}
 use Rattle.ft_syntax.specs.Table.{arguments_in}
 use Rattle.ft_judge.specs.Meaning.{under, claim_in, goal_in, thesis_in, boundary_in}

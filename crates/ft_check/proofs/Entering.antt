@@ -1,35 +1,28 @@
 -- The reasons against entries, by the step.
-use Rattle.std.proofs.Common.{◌≡◌, ℕ, Bool, true, false, cond, ◌&&◌, not, Option, Some, None, List, [], refl, sym, ap, ◌∙◌}
+use Rattle.std.proofs.Common.{◌≡◌, ℕ, Bool, true, false, ◌&&◌, not, Option, Some, None, List, [], refl, sym, ap, ◌∙◌}
 use Rattle.std.specs.Prelude.{IfOk, Result, Ok, Err, option_map}
 use Rattle.std.proofs.lemmas.Option.{same_Some}
-use Rattle.ft_theory.specs.Expressions.{Expression}
 use Rattle.ft_theory.specs.Statements.{plain, type_goal}
 use Rattle.ft_theory.specs.Rules.{Rule}
 use Rattle.ft_items.specs.Sets.{union, unions}
 use Rattle.ft_items.specs.Equal.{is_thesis}
-use Rattle.ft_items.specs.Item.{by_btype, by_rule, by_rulewith, Item, variable, metavariable, rule, entry, shown}
+use Rattle.ft_items.specs.Item.{by_arg, by_btype, by_rule, by_rulewith}
 use Rattle.ft_items.specs.Store.{Assertion, Store, Resolved, each, entry_named, rule_named, resolve, with_one, with_two, with_three}
-use Rattle.ft_items.specs.Rows.{result_set, rule_instance, rule_instance_with, statements, sets}
-use Rattle.ft_items.specs.Good.{Reject as Reason, Premise as premise, all_theses, reason_in, reason_of_result}
+use Rattle.ft_items.specs.Rows.{conclusion, result_set, rule_instance, rule_instance_with, statements, sets}
+use Rattle.ft_items.specs.Good.{Reject as Reason, all_theses, reason_of_result}
 use Rattle.ft_items.proofs.SetLemmas.{both}
-use Rattle.ft_stated.specs.Lines.{item_in}
-use Rattle.ft_stated.specs.Places.{is_entry}
 use Rattle.ft_stated.specs.Steps.{stated_step}
-use Rattle.ft_stated.specs.declared.stated.Stated.{Stated}
-use Rattle.ft_stated.specs.declared.stated.Stated.TheVariants.{Var, Met, Rule as RuleLine, Thesis, Boundary, Shown}
 use Rattle.ft_stated.specs.declared.step.StatedStep.{StatedStep}
 use Rattle.ft_stated.specs.declared.step.StatedStep.TheVariants as step
-use Rattle.ft_verdicts.specs.Built.{is_built, conclusion_built, reason_built}
 use Rattle.ft_check.specs.Entries.{with_step}
 use Rattle.ft_check.specs.Kinds.{kinds_right}
 use Rattle.ft_check.specs.Rejects.{reason_of}
 use Rattle.ft_check.specs.declared.reject.Reject.{Reject}
 use Rattle.ft_common.proofs.Options.{none_some}
-use Rattle.ft_check.proofs.BuiltLaws.{resolved_built}
 
 -- the result of a step
 abbrev pub result_of : Store → Resolved → Assertion → StatedStep → Option Reason
-result_of W s a t = reason_of_result (conclusion_built W.declarations s) (result_set s) (with_step a (stated_step t))
+result_of W s a t = reason_of_result (conclusion W.declarations s) (result_set s) (with_step a (stated_step t))
 
 pub btype_result : (W : Store) (t : StatedStep) (a : Assertion) (r : Option Reason) (s : Resolved) → t ≡ step.Btype → resolve W (stated_step t) ≡ Some s
     → r ≡ reason_of_result (Some (plain type_goal)) [] (with_step a (stated_step t)) → r ≡ result_of W s a t
@@ -55,6 +48,17 @@ pub one_checked : {A E : Type 0} (W : Store) (t : StatedStep) (f : A → Resolve
     → ((b : A) → o ≡ Some b → IfOk x (gives (result_of W (f b) a t))) → IfOk x (gives (result_of W s a t))
 one_checked W t f None a x s e q h = none_some (sym e ∙ q)
 one_checked W t f (Some b) a x s e q h = same_reason _ _ x (ap (λ s. result_of W s a t) (same_Some (f b) s (sym e ∙ q))) (h b refl)
+
+pub arg_result : {E : Type 0} (W : Store) (t : StatedStep) (n p : ℕ) (a : Assertion) (x : Result (Option Reject) E) (s : Resolved) → resolve W (stated_step t) ≡ with_one (by_arg n) (entry_named W p) → resolve W (stated_step t) ≡ Some s → kinds_right (is_thesis a.statement) s ≡ true
+    → ((b : Assertion) → entry_named W p ≡ Some b → is_thesis a.statement ≡ true → IfOk x (gives (result_of W (by_arg n b) a t))) → IfOk x (gives (result_of W s a t))
+arg_result W t n p a x s e q k h = go (entry_named W p) refl (sym e ∙ q)
+  where
+    go : (o : Option Assertion) → entry_named W p ≡ o → with_one (by_arg n) o ≡ Some s → IfOk x (gives (result_of W s a t))
+    go None f q = none_some q
+    go (Some b) f q =
+        let same : by_arg n b ≡ s = same_Some (by_arg n b) s q in
+        let right : kinds_right (is_thesis a.statement) (by_arg n b) ≡ true = ap (kinds_right (is_thesis a.statement)) same ∙ k in
+        same_reason _ _ x (ap (λ s. result_of W s a t) same) (h b f (both ((is_thesis b.statement && true) && true) (is_thesis a.statement) right).1)
 
 pub two_result : {A B E : Type 0} (W : Store) (t : StatedStep) (f : A → B → Resolved) (o : Option A) (l : Option B) (a : Assertion) (x : Result (Option Reject) E) (s : Resolved) → resolve W (stated_step t) ≡ with_two f o l → resolve W (stated_step t) ≡ Some s
     → ((b : A) (c : B) → o ≡ Some b → l ≡ Some c → IfOk x (gives (result_of W (f b c) a t))) → IfOk x (gives (result_of W s a t))
@@ -110,27 +114,3 @@ rulewith_result W t r p ps a x b s e q k h = go (rule_named W.declarations r) re
         let same : by_rulewith R c given ≡ s = same_Some (by_rulewith R c given) s q in
         let right = kinds R c given same in
         same_reason _ _ x (ap (λ s. result_of W s a t) same) (h R c given f m (no_thesis (is_thesis c.statement) right.1) g right.0)
-
--- a step that is not built
-pub unbuilt_result : (W : Store) (t : StatedStep) (a : Assertion) (s : Resolved) → resolve W (stated_step t) ≡ Some s → is_built (stated_step t) ≡ false → Some premise ≡ result_of W s a t
-unbuilt_result W t a s q h =
-    ap (λ b. reason_of_result (cond b (Rattle.ft_items.specs.Rows.conclusion W.declarations s) None) (result_set s) (with_step a (stated_step t))) (sym (resolved_built W (stated_step t) s q ∙ h))
-
--- an item without a step
-pub not_entry : (ts : List Expression) (s : Stated) → ((x : _) (S : _) (t : _) → s ≡ Thesis x S t → ⊥) → ((x : _) (S : _) (t : _) → s ≡ Boundary x S t → ⊥) → is_entry (item_in ts s) ≡ false
-not_entry ts (Var v n p) a b = refl
-not_entry ts (Met n p) a b = refl
-not_entry ts (RuleLine n ms p) a b = refl
-not_entry ts (Thesis x S t) a b = absurd (a x S t refl)
-not_entry ts (Boundary x S t) a b = absurd (b x S t refl)
-not_entry ts (Shown p) a b = refl
-
-pub other_reason : (W : Store) (x y : Item) → Some y ≡ Some x → is_entry y ≡ false → reason_in W x ≡ reason_built W x
-other_reason W x y e h = go x (ap is_entry (sym (same_Some y x e)) ∙ h)
-  where
-    go : (x : Item) → is_entry x ≡ false → reason_in W x ≡ reason_built W x
-    go (variable v n p) h = refl
-    go (metavariable n p) h = refl
-    go (rule n ms p) h = refl
-    go (entry e) h = let clash : true ≡ false = h in cc
-    go (shown p) h = refl

@@ -8,7 +8,6 @@ mod Premises
 mod RuleReasons
 mod Stating
 mod Before
-mod BuiltLaws
 mod StepKinds
 mod NamedTheses
 mod Results

@@ -1,9 +1,9 @@
 -- The metavariables of a good list, by their lines, with what they rest on.
 use Rattle.std.proofs.Common.{◌≡◌, ℕ, Bool, true, false, Option, Some, None, List, refl, sym, ap, ◌∙◌}
-use Rattle.std.specs.Prelude.{option_map, IsSomeAnd}
+use Rattle.std.specs.Prelude.{option_map}
 use Rattle.std.proofs.lemmas.Option.{same_Some}
 use Rattle.ft_common.proofs.Options.{none_some}
-use Rattle.ft_theory.specs.Expressions.{Expression, meta}
+use Rattle.ft_theory.specs.Expressions.{Expression}
 use Rattle.ft_theory.specs.Statements.{Statement}
 use Rattle.ft_items.specs.Item.{Name, Item, Entry as AnyEntry}
 use Rattle.ft_items.specs.Sets.{Atom, insert, met, union}
@@ -13,7 +13,6 @@ use Rattle.ft_items.specs.Good.{Reject as Reason, Premise, Good, reason_of_resul
 use Rattle.ft_items.proofs.Lists.{store_is}
 use Rattle.ft_judge.specs.Meaning.{thesis_in, boundary_in}
 use Rattle.ft_judge.specs.declared.judgement.Thesis.{Thesis as ThesisValue}
-use Rattle.ft_judge.specs.declared.judgement.Boundary.{Boundary as BoundaryValue}
 use Rattle.ft_placing.specs.Sides.{placed}
 use Rattle.ft_placing.specs.declared.sides.At.{At}
 use Rattle.ft_check.specs.AtHand.{generic, IsMetavariable}
@@ -78,7 +77,7 @@ not_declared {P} items m p g e h = go (nth (metavariables_in items) m) refl h
 
     go : (o : Option (Name × ℕ)) → nth (metavariables_in items) m ≡ o → Some p ≡ option_map (λ (x : Name × ℕ). x.1) o → P
     go None q h = none_some (sym h)
-    go (Some x) q h = none_some (sym (ap (option_map (λ d. (m, d))) (sym (ap (option_map f) q) ∙ found) ∙ e))
+    go (Some x) q h = none_some (sym (ap (option_map {U = ℕ × Declared} (λ d. (m, d))) (sym (ap (option_map f) q) ∙ found) ∙ e))
 
 pub no_line : {P : Type 0} (items : List Item) (m : ℕ) (d : ℕ × Declared) → Good items → metavariable_named (declared_by items) m ≡ Some d → None ≡ option_map (λ (x : Name × ℕ). x.1) (nth (metavariables_in items) m) → P
 no_line items m d g h e = let k = read items m d g h in none_some (e ∙ ap (option_map (λ (x : Name × ℕ). x.1)) k.stands)

@@ -1,18 +1,16 @@
 -- An argument for the next premise, moved along equations, and the reasons against that.
-use Rattle.std.proofs.Common.{◌≡◌, ℕ, zero, suc, ◌<◌, Bool, true, false, ◌&&◌, Option, Some, None, List, [], ◌∷◌, refl, sym, ap, ap₂, ◌∙◌, subst, length, take, drop, nat_lt, arith, IsTrue, ◌↔◌, IfSome}
+use Rattle.std.proofs.Common.{◌≡◌, ℕ, zero, suc, ◌<◌, Bool, true, false, ◌&&◌, Option, Some, None, List, [], ◌∷◌, refl, sym, ap, ap₂, ◌∙◌, length, nat_lt, arith, IsTrue, ◌↔◌, IfSome}
 use Rattle.std.proofs.Math.Bool.{and_assoc, and_comm, and-false, and-true}
 use Rattle.std.proofs.lemmas.Bool.{le-ltb}
 use Rattle.std.specs.Prelude.{option_map}
-use Rattle.std.proofs.lemmas.Option.{same_Some}
-use Rattle.ft_common.proofs.Options.{none_some}
 use Rattle.ft_theory.specs.Expressions.{Expression, Arguments, instantiate}
 use Rattle.ft_theory.specs.Rules.{Rule, instance_of}
 use Rattle.ft_theory.specs.Statements.{Claim, is_type, has_type, equal_types, equal_terms, type_goal, term_goal, type_equation_goal, term_equation_goal, Statement, plain, abstracted, fill, fill_goal, map_claim, map_statement}
 use Rattle.ft_items.specs.Item.{Item, Stated, Entry as AnyEntry}
-use Rattle.ft_items.specs.Sets.{Atom, same_set, union, unions}
-use Rattle.ft_items.specs.Equal.{equal_claims, equal_expressions, equal_statements, fits, fits_goal, head, head_of_claim, heads, is_thesis, is_thesis_claim, right_heads, start_all}
+use Rattle.ft_items.specs.Sets.{Atom, same_set}
+use Rattle.ft_items.specs.Equal.{equal_claims, equal_expressions, equal_statements, fits, fits_goal, head, head_of_claim, heads, is_thesis_claim, right_heads, start_all}
 use Rattle.ft_items.specs.Store.{Assertion, premises_of}
-use Rattle.ft_items.specs.Rows.{are_arguments, boundary_after, first_premises, moved, sets, statements}
+use Rattle.ft_items.specs.Rows.{are_arguments, boundary_after, first_premises, moved, statements}
 use Rattle.ft_items.specs.Good.{Reject as Reason, Premise as premise, Conclusion as conclusion, Set as set, reason_of_result, unless}
 use Rattle.ft_sound.proofs.EqualLemmas.{equal_back, by_equal}
 use Rattle.ft_syntax.specs.Instances.{instance_in}

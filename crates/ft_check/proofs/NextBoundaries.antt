@@ -1,5 +1,5 @@
 -- Whether a boundary is an instance of another, and the reasons against the boundary of a rule after arguments.
-use Rattle.std.proofs.Common.{◌≡◌, ◌≢◌, ℕ, zero, suc, ◌<◌, Bool, true, false, ◌&&◌, Option, Some, None, List, [], ◌∷◌, refl, sym, ap, ap₂, ◌∙◌, subst, length, take, drop}
+use Rattle.std.proofs.Common.{◌≡◌, ◌≢◌, ℕ, zero, suc, ◌<◌, Bool, true, false, ◌&&◌, Option, Some, None, List, [], ◌∷◌, refl, sym, ap, ap₂, ◌∙◌, length, take}
 use Rattle.std.proofs.Math.Bool.{and_assoc, and-false}
 use Rattle.ft_theory.specs.Expressions.{Expression, instantiate}
 use Rattle.ft_theory.specs.Rules.{Rule, instance_of}
@@ -8,7 +8,7 @@ use Rattle.ft_items.specs.Item.{Item, Stated}
 use Rattle.ft_items.specs.Sets.{Atom, same_set, unions}
 use Rattle.ft_items.specs.Equal.{equal_claims, equal_expressions, equal_statements, heads}
 use Rattle.ft_items.specs.Store.{Assertion, premises_of}
-use Rattle.ft_items.specs.Rows.{are_arguments, boundary_after, boundary_instance, first_premises, sets, statements, when}
+use Rattle.ft_items.specs.Rows.{are_arguments, boundary_after, boundary_instance, first_premises, sets, statements}
 use Rattle.ft_items.specs.Good.{Reject as Reason, Premise as premise, Conclusion as conclusion, Set as set, reason_of_result, unless}
 use Rattle.ft_sound.proofs.EqualLemmas.{equal_back}
 use Rattle.ft_syntax.specs.Table.{tree}

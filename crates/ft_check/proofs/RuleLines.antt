@@ -5,7 +5,7 @@ use Rattle.std.proofs.lemmas.Option.{same_Some}
 use Rattle.ft_theory.specs.Rules.{Rule, rule_at}
 use Rattle.ft_items.specs.Item.{Name, Item, variable, metavariable, rule, entry, shown}
 use Rattle.ft_items.specs.Equal.{is_thesis, is_plain}
-use Rattle.ft_items.specs.Store.{Assertion, Declared, Store, declared, ruled, nth, each, entry_named, metavariable_named, add, add_all, empty_store, store_of, metavariables_in, rules_in, declared_by}
+use Rattle.ft_items.specs.Store.{Assertion, Declared, Store, ruled, nth, each, entry_named, metavariable_named, add, add_all, empty_store, store_of, metavariables_in, rules_in, declared_by}
 use Rattle.ft_items.specs.Good.{AllowedRule, GoodAfter, Good}
 use Rattle.ft_items.proofs.Lists.{Before, before_all, each_before, store_is}
 use Rattle.ft_common.proofs.Options.{none_some}

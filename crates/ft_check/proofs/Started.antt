@@ -8,12 +8,12 @@ use Rattle.ft_common.proofs.Options.{none_some}
 use Rattle.ft_theory.specs.Expressions.{Expression, with_body, dummy}
 use Rattle.ft_theory.specs.Statements.{Claim, is_type, has_type, equal_types, equal_terms, type_goal, term_goal, type_equation_goal, term_equation_goal, Statement, plain, abstracted, domain_count}
 use Rattle.ft_items.specs.Item.{Item}
-use Rattle.ft_items.specs.Equal.{equal_claims, equal_expressions, equal_statements, has_head, head, is_thesis, is_thesis_claim, right_head, right_heads, right_of_claim, start_all, starts, starts_claim}
+use Rattle.ft_items.specs.Equal.{equal_claims, equal_expressions, equal_statements, has_head, is_thesis, is_thesis_claim, right_head, right_heads, right_of_claim, start_all, starts, starts_claim}
 use Rattle.ft_items.specs.Store.{Assertion, entry_named, store_of}
 use Rattle.ft_items.specs.Rows.{left_side, statements, under_domains}
 use Rattle.ft_items.specs.Good.{all_theses}
 use Rattle.ft_items.proofs.SetLemmas.{both}
-use Rattle.ft_syntax.specs.Arguments.{Argument, as_arguments, with_argument}
+use Rattle.ft_syntax.specs.Arguments.{Argument, as_arguments}
 use Rattle.ft_syntax.specs.Laws.{arguments_push}
 use Rattle.ft_syntax.specs.Table.{tree, argument_in, arguments_in, ArgumentsBelow, BodyBelow}
 use Rattle.ft_syntax.specs.declared.syntax.Arg.{Arg}

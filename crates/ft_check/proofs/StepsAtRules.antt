@@ -1,18 +1,17 @@
 -- The reasons against entries by steps at rules, whose numbers name what is there and is of the right kind.
-use Rattle.std.proofs.Common.{◌≡◌, ℕ, Bool, true, false, ◌&&◌, not, Option, Some, None, List, [], ◌∷◌, ◌++◌, refl, sym, ap, ap₂, ◌∙◌}
-use Rattle.std.specs.Prelude.{IfOk, Result, Ok, Err, option_map}
+use Rattle.std.proofs.Common.{◌≡◌, ℕ, Bool, true, false, ◌&&◌, not, Option, Some, None, List, [], ◌∷◌, ◌++◌, refl, sym, ap, ◌∙◌}
+use Rattle.std.specs.Prelude.{IfOk, Result, option_map}
 use Rattle.std.proofs.Math.Bool.{and_assoc}
 use Rattle.std.proofs.lemmas.Option.{same_Some}
 use Rattle.std.proofs.lemmas.Result.{IfOk-weaker}
 use Rattle.ft_common.proofs.Options.{none_some}
 use Rattle.ft_theory.specs.Rules.{Rule}
-use Rattle.ft_theory.specs.Statements.{Statement}
-use Rattle.ft_items.specs.Sets.{Atom, union, unions}
+use Rattle.ft_items.specs.Sets.{union, unions}
 use Rattle.ft_items.specs.Equal.{is_thesis}
 use Rattle.ft_items.specs.Item.{by_inst, by_cong, by_convprem, by_convback, Item}
 use Rattle.ft_items.specs.Store.{Assertion, Resolved, declared_by, each, entry_named, rule_named, resolve, store_of, with_two, with_three, with_four}
 use Rattle.ft_items.specs.Rows.{boundary_instance, congruence_of, sets, statements}
-use Rattle.ft_items.specs.Good.{all_boundaries, all_theses, same_truth}
+use Rattle.ft_items.specs.Good.{all_theses}
 use Rattle.ft_items.proofs.SetLemmas.{both}
 use Rattle.ft_stated.specs.Steps.{stated_step}
 use Rattle.ft_stated.specs.declared.step.StatedStep.{StatedStep}

@@ -1,30 +1,39 @@
 -- Applications by their declarations, and what they tell.
-use Rattle.std.proofs.Common.{◌≡◌, ℕ, zero, suc, ◌+◌, ◌-◌, ◌<◌, Bool, true, false, Option, Some, None, List, refl, sym, ap, ap₂, ◌∙◌, subst, arith}
-use Rattle.std.specs.Prelude.{option_map, IfOk, IsSomeAnd, Result}
+use Rattle.std.proofs.Common.{◌≡◌, ◌≢◌, ℕ, zero, suc, ◌-◌, Bool, true, false, Option, Some, None, List, refl, sym, ap, ◌∙◌, subst, arith}
+use Rattle.std.specs.Prelude.{option_map, IfOk, Result}
 use Rattle.ft_common.proofs.Options.{none_some}
 use Rattle.ft_theory.specs.Expressions.{Expression, bound, free, symbol, meta, Arguments, Terms}
 use Rattle.ft_theory.specs.Rules.{look_up, rule_at, term_typings}
-use Rattle.ft_theory.specs.Statements.{Claim, is_type, has_type, equal_types, equal_terms, type_goal, term_goal, type_equation_goal, term_equation_goal, Statement, plain, abstracted}
+use Rattle.ft_theory.specs.Statements.{is_type, has_type, equal_types, equal_terms, type_goal, term_goal, type_equation_goal, term_equation_goal, Statement, plain, abstracted, at}
 use Rattle.ft_items.specs.Equal.{equal_statements}
-use Rattle.ft_items.specs.Rows.{argument, arguments_of, from_one, meta_arguments, natural, natural_of_meta, natural_of_rule, natural_type, rule_arguments}
-use Rattle.ft_items.specs.Store.{Declarations, nth}
+use Rattle.ft_items.specs.Rows.{argument, arguments_of, from_one, meta_arguments, natural, natural_of_meta, natural_of_rule, natural_type, rule_arguments, type_of_boundary}
+use Rattle.ft_items.specs.Store.{Declarations, Declared, nth}
 use Rattle.ft_syntax.specs.Arguments.{node_of}
-use Rattle.ft_syntax.specs.Table.{tree}
 use Rattle.ft_syntax.specs.declared.syntax.Node.TheVariants as node
+use Rattle.ft_judge.specs.Meaning.{boundary_in}
 use Rattle.ft_placing.specs.Applied.{is_left}
 use Rattle.ft_placing.specs.Sides.{has_sides}
 use Rattle.ft_placing.specs.Telling.{head_told}
-use Rattle.ft_placing.specs.declared.sides.At.TheVariants as at
+use Rattle.ft_placing.specs.declared.sides.At.TheVariants as at_these
+use Rattle.ft_check.specs.AtHand.{IsMetavariable}
+use Rattle.ft_check.specs.declared.metavariable_at.MetavariableAt.{MetavariableAt}
 
--- What has a number is found where it is declared, and only there.
-pub found_there : {A X : Type 0} (n : ℕ) (o : Option A) (x : Option X) (Q : ℕ × A → X → Type 0) (y : X) → ((R : ℕ × A) → option_map (λ R. (n, R)) o ≡ Some R → IsSomeAnd x (Q R)) → (option_map (λ R. (n, R)) o ≡ None → x ≡ None) → x ≡ Some y
+-- What has a number is found only where it is declared.
+pub found_there : {A X : Type 0} (n : ℕ) (o : Option A) (y : X) (Q : ℕ × A → X → Type 0) → ((R : ℕ × A) → option_map {U = ℕ × A} (λ R. (n, R)) o ≡ Some R → Q R y) → (option_map {U = ℕ × A} (λ R. (n, R)) o ≡ None → Some y ≡ None)
     → (R : A) × (o ≡ Some R) × Q (n, R) y
-found_there n None x Q y f g e = none_some (sym (g refl) ∙ e)
-found_there n (Some R) x Q y f g e = (R, refl, subst (λ o. IsSomeAnd o (Q (n, R))) e (f (n, R) refl))
+found_there n None y Q f g = none_some (sym (g refl))
+found_there n (Some R) y Q f g = (R, refl, f (n, R) refl)
 
-pub found_gone : {A X : Type 0} (n : ℕ) (o : Option A) (x : Option X) (Q : ℕ × A → X → Type 0) → ((R : ℕ × A) → option_map (λ R. (n, R)) o ≡ Some R → IsSomeAnd x (Q R)) → x ≡ None → o ≡ None
-found_gone n None x Q f e = refl
-found_gone n (Some R) x Q f e = absurd (subst (λ o. IsSomeAnd o (Q (n, R))) e (f (n, R) refl))
+-- What a metavariable tells, by what is read of it.
+pub meta_natural : {B E : Type 0} (ts : List Expression) (m : ℕ) (x : MetavariableAt) (d : Declared) (a : Terms) (f : Expression → B) (r : Result (Option B) E) (n : Option Declared) → n ≡ Some d → IsMetavariable ts m x (m, d)
+    → IfOk r (λ o. o ≡ option_map f (type_of_boundary (at (boundary_in ts x.boundary.now) a))) → IfOk r (λ o. o ≡ option_map f (natural_of_meta n a))
+meta_natural ts m x d a f r n h k e =
+    subst (λ n. IfOk r (λ o. o ≡ option_map f (natural_of_meta n a))) (sym h) (subst (λ b. IfOk r (λ o. o ≡ option_map f (type_of_boundary (at b a)))) k.boundary e)
+
+pub meta_argument : {B E : Type 0} (ts : List Expression) (m k : ℕ) (x : MetavariableAt) (d : Declared) (a : Terms) (f : Statement → B) (r : Result (Option B) E) (n : Option Declared) → n ≡ Some d → IsMetavariable ts m x (m, d)
+    → IfOk r (λ o. o ≡ option_map f (nth (term_typings (boundary_in ts x.boundary.now) a) k)) → IfOk r (λ o. o ≡ option_map f (nth (meta_arguments n a) k))
+meta_argument ts m k x d a f r n h q e =
+    subst (λ n. IfOk r (λ o. o ≡ option_map f (nth (meta_arguments n a) k))) (sym h) (subst (λ b. IfOk r (λ o. o ≡ option_map f (nth (term_typings b a) k))) q.boundary e)
 
 -- The type of an expression by its node.
 pub natural_bound : {B : Type 0} (W : Declarations) (e : Expression) (j : ℕ) (f : Expression → B) → node.Bound j ≡ node_of e → None ≡ option_map f (natural_type W e)
@@ -89,7 +98,7 @@ argument_meta W (meta n a) m k f x h g =
     subst (λ m. IfOk x (λ o. o ≡ option_map f (nth (meta_arguments (nth W.metavariables m) a) k))) same (g a (ap (λ m. meta m a) (sym same)))
 
 -- What the rows conclude, by the parts of the statement.
-pub no_natural : (W : Declarations) (x : Statement) → has_sides at.Terms x ≡ false → natural W x ≡ None
+pub no_natural : (W : Declarations) (x : Statement) → has_sides at_these.Terms x ≡ false → natural W x ≡ None
 no_natural W (abstracted A x) h = refl
 no_natural W (plain (is_type A)) h = refl
 no_natural W (plain (has_type t A)) h = let clash : true ≡ false = h in cc
@@ -137,3 +146,8 @@ pub argument_tested : (W : Declarations) (i k : ℕ) (e : Expression) (x y : Sta
     → o ≡ option_map (λ z. equal_statements z y) (nth (arguments_of W e) k) → o ≡ option_map (λ z. equal_statements z y) (argument W i x)
 argument_tested W i k e x y o h n f =
     f ∙ ap (option_map (λ z. equal_statements z y)) (sym (argument_of_head W i e x h ∙ ap (from_one (arguments_of W e)) n))
+
+-- a place that is not the first
+pub later_place : (n : ℕ) → n ≢ 0 → n ≡ suc (n - 1)
+later_place zero h = absurd (h refl)
+later_place (suc n) h = omega arith

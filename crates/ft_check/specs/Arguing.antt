@@ -1,5 +1,5 @@
 -- Theses as arguments for the premises of a rule, put for its metavariables; and what a rule has after its first premises.
-use Rattle.std.specs.Prelude.{◌≡◌, ℕ, ◌<◌, nat_lt, Bool, false, true, Option, Some, option_map, List, [], ◌∷◌, take, drop, length}
+use Rattle.std.specs.Prelude.{◌≡◌, ℕ, nat_lt, false, true, Option, Some, option_map, List, [], ◌∷◌, take, drop, length}
 use Rattle.ft_theory.specs.Expressions.{Expression, Arguments}
 use Rattle.ft_theory.specs.Statements.{Claim, Statement, plain}
 use Rattle.ft_theory.specs.Rules.{Rule, instance_of}

@@ -1,8 +1,8 @@
 -- Equations that start at the heads of theses, one by one.
-use Rattle.std.specs.Prelude.{ℕ, ◌≡◌, Bool, true, false, cond, Option, Some, None, List, [], ◌∷◌, drop}
-use Rattle.ft_theory.specs.Expressions.{Expression, Arguments, instantiate, symbol}
+use Rattle.std.specs.Prelude.{ℕ, Bool, true, false, cond, Option, Some, None, List, [], ◌∷◌, drop}
+use Rattle.ft_theory.specs.Expressions.{Expression, instantiate, symbol}
 use Rattle.ft_theory.specs.Statements.{Claim, Statement, domain_count, equate_goal, map_claim}
-use Rattle.ft_theory.specs.Rules.{Rule, instance_of}
+use Rattle.ft_theory.specs.Rules.{Rule}
 use Rattle.ft_items.specs.Equal.{equal_expressions, has_head, heads, right_head, right_heads, starts}
 use Rattle.ft_items.specs.Rows.{premise_conversion, premise_conversion_back}
 use Rattle.ft_syntax.specs.Arguments.{Argument}

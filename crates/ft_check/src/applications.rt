@@ -46,12 +46,7 @@ fn put_application(alloc: Global, terms: &Terms, ms: &[u64], e: E) -> Result<Put
 
 // Whether an expression, where one is there, is the instance of the type.
 #[tactic(auto, using(ft_sound::proofs::EqualLemmas::equal_back))]
-fn is_left_instance(
-    put: &mut Put,
-    terms: &Terms,
-    ty: E,
-    left: Option<E>,
-) -> Result<bool, Memory>
+fn is_left_instance(put: &mut Put, terms: &Terms, ty: E, left: Option<E>) -> Result<bool, Memory>
     requires ty { ty < length terms.now }
     requires left { IfSome left (λ e. e < length terms.now) }
     requires below { IsPutIn put.old }

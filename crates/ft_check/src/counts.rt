@@ -6,12 +6,11 @@ ghost use Rattle.ft_theory.specs.Rules.{Rule, rule_at};
 ghost use Rattle.ft_items.specs.Levels.{level as level_of, rule_level as level_of_rule};
 ghost use Rattle.ft_items.specs.Equal.{is_plain};
 ghost use Rattle.ft_items.specs.Store.{Assertion, Resolved, empty_store, entry_named, resolve, store_of, declared_by};
-ghost use Rattle.ft_items.specs.Good.{Good, counts, level_in, shown_in};
+ghost use Rattle.ft_items.specs.Good.{Good, counts, first_rejected, level_in, reason_in, shown_in};
 ghost use Rattle.ft_judge.specs.Meaning.{goal_in};
 ghost use Rattle.ft_stated.specs.Lines.{item_in};
 ghost use Rattle.ft_stated.specs.Places.{is_entry, is_rule};
 ghost use Rattle.ft_stated.specs.Steps.{stated_step};
-ghost use Rattle.ft_verdicts.specs.Built.{first_rejected_by, reason_built};
 ghost use Rattle.ft_check.specs.Verdicts.{counts_of, IsAtMost};
 
 use crate::applied::rule_at_hand;
@@ -104,7 +103,7 @@ fn step_level(items: &StatedItems, i: u64, step: &StatedStep) -> u64
 // The level of an item against which there is no reason.
 fn item_level(items: &StatedItems, i: u64, x: &Stated) -> u64
     ensures { (ts : List Expression) → Good (take i items.now.items)
-        → reason_built (store_of (take i items.now.items)) (item_in ts x.now) ≡ None
+        → reason_in (store_of (take i items.now.items)) (item_in ts x.now) ≡ None
         → result ≡ level_in (store_of (take i items.now.items)) (item_in ts x.now) }
 {
     match x {
@@ -169,7 +168,7 @@ impl Counted {
         requires fits { i + 1 < 2 ^ 64 }
         requires few { IsAtMost i self }
         ensures few { IsAtMost (i + 1) result }
-        ensures counts { first_rejected_by reason_built empty_store zero
+        ensures counts { first_rejected empty_store zero
             (take (i + 1) items.now.items) ≡ None → counts_of self ≡ counts (take i items.now.items)
             → counts_of result ≡ counts (take (i + 1) items.now.items) }
     {

@@ -4,10 +4,9 @@ ghost use Rattle.std.specs.Prelude.{◌≡◌, ◌<◌, Some, true, length, take
 ghost use Rattle.ft_items.specs.Item.{Item};
 ghost use Rattle.ft_items.specs.Equal.{is_thesis};
 ghost use Rattle.ft_items.specs.Store.{Resolved, nth, resolve, store_of, declared_by};
-ghost use Rattle.ft_items.specs.Rows.{result_set};
-ghost use Rattle.ft_items.specs.Good.{Good, reason_of_result};
+ghost use Rattle.ft_items.specs.Rows.{conclusion, result_set};
+ghost use Rattle.ft_items.specs.Good.{Good, reason, reason_of_entry, reason_of_result};
 ghost use Rattle.ft_stated.specs.Steps.{stated_step};
-ghost use Rattle.ft_verdicts.specs.Built.{conclusion_built, reason_built, reason_by};
 ghost use Rattle.ft_check.specs.Entries.{entry_in, EntryBelow, with_step};
 ghost use Rattle.ft_check.specs.Kinds.{kinds_right};
 ghost use Rattle.ft_check.specs.Rejects.{reason_of};
@@ -45,7 +44,7 @@ fn check_result(
         → resolve (store_of (take i items.now.items)) (stated_step step.now) ≡ Some s
         → kinds_right (is_thesis (entry_in items.now.trees found.entry).statement) s ≡ true
         → IfOk result (λ r. option_map reason_of r ≡
-        reason_of_result (conclusion_built (declared_by (take i items.now.items)) s) (result_set s)
+        reason_of_result (conclusion (declared_by (take i items.now.items)) s) (result_set s)
         (with_step (entry_in items.now.trees found.entry) (stated_step step.now))) }
 {
     match step {
@@ -96,7 +95,7 @@ fn check_entry(
 ) -> Result<Option<Reject>, Memory>
     requires { EntryBelow (length items.now.trees) found }
     ensures { Good (take i items.now.items) → IfOk result (λ r. option_map reason_of r ≡
-        reason_by conclusion_built (declared_by (take i items.now.items))
+        reason_of_entry (declared_by (take i items.now.items))
         (resolve (store_of (take i items.now.items)) (stated_step step.now))
         (with_step (entry_in items.now.trees found.entry) (stated_step step.now))) }
 {
@@ -113,7 +112,7 @@ pub fn check_item(alloc: Global, items: &StatedItems, i: u64) -> Result<Option<R
     requires { i < length items.now.items }
     ensures { (x : Item) → nth items.now.items i ≡ Some x → Good (take i items.now.items)
         → IfOk result (λ r. option_map reason_of r ≡
-        reason_built (store_of (take i items.now.items)) x) }
+        reason (take i items.now.items) x) }
 {
     match items.item(i) {
         Stated::Thesis(thesis, set, step) => {

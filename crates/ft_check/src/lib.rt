@@ -19,7 +19,6 @@ mod entry_contents;
 mod fitting;
 mod instances;
 mod item;
-mod laws;
 mod list;
 mod metas;
 mod metavariable_at;
@@ -43,7 +42,6 @@ mod verdict;
 mod without_step;
 
 pub use item::check_item;
-pub use laws::{accepted_is_accepted, built_is_verdict, rejected_is_rejected};
 pub use list::check_items;
 pub use metavariables::check_metavariable;
 pub use reject::Reject;

@@ -2,9 +2,8 @@
 
 ghost use Rattle.std.specs.Prelude.{◌≡◌, IfOk};
 ghost use Rattle.ft_items.specs.Store.{Derivable};
-ghost use Rattle.ft_items.specs.Good.{Counts, Accepted, verdict as verdict_on};
+ghost use Rattle.ft_items.specs.Good.{Counts, Accepted, verdict};
 ghost use Rattle.ft_sound.specs.Soundness.{EachEntry};
-ghost use Rattle.ft_verdicts.specs.Built.{verdict_built, AllBuilt};
 ghost use Rattle.ft_check.specs.Verdicts.{verdict_of};
 
 use crate::counts::Counted;
@@ -16,7 +15,7 @@ use std::alloc::Global;
 
 // The first item against which there is a reason, or the counts of all.
 fn first_rejected(alloc: Global, items: &StatedItems) -> Result<Verdict, Memory>
-    ensures { IfOk result (λ v. verdict_of v ≡ verdict_built items.now.items) }
+    ensures { IfOk result (λ v. verdict_of v ≡ verdict items.now.items) }
 {
     let mut counted = Counted {
         rules: 0,
@@ -39,11 +38,9 @@ fn first_rejected(alloc: Global, items: &StatedItems) -> Result<Verdict, Memory>
 }
 
 /// The verdict on a list.
-#[tactic(auto, using(crate::proofs::Listed::as_defined, crate::proofs::Listed::all_derivable))]
+#[tactic(auto, using(crate::proofs::Listed::all_derivable))]
 pub fn check_items(alloc: Global, items: &StatedItems) -> Result<Verdict, Memory>
-    ensures verdict { IfOk result (λ v. verdict_of v ≡ verdict_built items.now.items) }
-    ensures built { AllBuilt items.now.items → IfOk result (λ v. verdict_of v ≡
-        verdict_on items.now.items) }
+    ensures verdict { IfOk result (λ v. verdict_of v ≡ verdict items.now.items) }
     ensures derivable { IfOk result (λ v. (c : Counts) → verdict_of v ≡ Accepted c
         → EachEntry (λ W e. Derivable W e.statement e.set) items.now.items) }
 {

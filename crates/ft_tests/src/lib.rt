@@ -20,3 +20,5 @@ mod sources;
 mod steps;
 #[cfg(test)]
 mod streams;
+#[cfg(test)]
+mod told;

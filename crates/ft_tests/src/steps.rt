@@ -82,12 +82,24 @@ const REJECTED: &str = "rejected 52 ";
 /// Whether `check` answers so for the file with this line after the others: with a level where it
 /// accepts the line, else with the reason against it.
 pub fn answers(alloc: Global, line: &str, answer: &str) -> Result<bool, Fail> {
+    answers_after(alloc, "", (ACCEPTED, REJECTED), line, answer)
+}
+
+/// The same with further lines before this one, where verdicts begin so: that which accepts, and
+/// that which rejects.
+pub fn answers_after(
+    alloc: Global,
+    more: &str,
+    fronts: (&str, &str),
+    line: &str,
+    answer: &str,
+) -> Result<bool, Fail> {
     let front = if answer.starts_with("level ") {
-        ACCEPTED
+        fronts.0
     } else {
-        REJECTED
+        fronts.1
     };
-    let file = format!(in alloc; "{BEGIN}{line}\nend\n")?;
+    let file = format!(in alloc; "{BEGIN}{more}{line}\nend\n")?;
     let verdict = format!(in alloc; "{front}{answer}")?;
     checks(alloc, file.as_bytes(), &verdict)
 }

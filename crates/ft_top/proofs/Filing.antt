@@ -2,13 +2,12 @@
 use Rattle.std.proofs.Common.{◌≡◌, ◌∙◌, sym, subst, ℕ, List, ◌++◌, codes, decimal}
 use Rattle.ft_base.specs.Names.{is_name_token}
 use Rattle.ft_items.specs.Item.{Item}
-use Rattle.ft_items.specs.Good.{Verdict}
+use Rattle.ft_items.specs.Good.{Verdict, verdict}
 use Rattle.ft_items.specs.Texts.{IsTextOf}
 use Rattle.ft_items.specs.Faults.{Fault, Form, Version, HasFault}
-use Rattle.ft_verdicts.specs.Built.{verdict_built}
 use Rattle.ft_verdicts.specs.Verdicts.{IsVerdict, verdict_line, verdict_status, fault_line}
 
-pub items_text : (bs text : List ℕ) (items : List Item) (v : Verdict) (n : ℕ) → IsTextOf is_name_token bs items → v ≡ verdict_built items → text ≡ verdict_line v → n ≡ verdict_status v
+pub items_text : (bs text : List ℕ) (items : List Item) (v : Verdict) (n : ℕ) → IsTextOf is_name_token bs items → v ≡ verdict items → text ≡ verdict_line v → n ≡ verdict_status v
     → IsVerdict is_name_token bs text n
 items_text bs text items v n t e h k =
     subst (λ n. IsVerdict is_name_token bs text n) (sym k) (subst (λ text. IsVerdict is_name_token bs text (verdict_status v)) (sym h)

@@ -4,7 +4,6 @@ use Rattle.ft_common.proofs.Options.{none_some, one_value}
 use Rattle.ft_base.specs.Names.{is_name_token}
 use Rattle.ft_items.specs.Item.{Item}
 use Rattle.ft_items.specs.Good.{counts}
-use Rattle.ft_verdicts.specs.Built.{BuiltIsVerdict}
 use Rattle.ft_items.specs.Texts.{IsTextOf, text_of as file_of}
 use Rattle.ft_sound.specs.Soundness.{GoodAreAccepted}
 use Rattle.ft_streams.specs.Streams.{Appends, AppendsPrefix, IsAtEnd}
@@ -29,7 +28,7 @@ use Rattle.ft_verdicts.specs.Verdicts.{IsVerdict}
 use Rattle.ft_answers.specs.Exports.{IsExport, BreaksOff}
 use Rattle.ft_answers.specs.Answer.{IsText}
 use Rattle.ft_top.specs.Calls.{IsNotBuilt, ShowsDerivable, IsRun, WritesFile, IsCause, IsKnown, IsOfBytes, IsBegun, IsLeft, IsCall}
-use Rattle.ft_top.proofs.Bridge.{all_built, accepted_by_check}
+use Rattle.ft_top.proofs.Bridge.{accepted_by_check}
 
 -- what follows from what is known of the bytes
 if_some : (P Q : List ℕ → Type 0) (o : Option (List ℕ)) → ((bs : List ℕ) → P bs → Q bs) → IfSome o P → IfSome o Q
@@ -52,7 +51,6 @@ ran bs old out cs items status s empty h = record {
   lines = h.2 ∙ ap (λ o. o ++ text_of h.0) empty;
   ending = h.3;
   derivation = h.5;
-  steps = h.6;
 }
 
 pub shows : (bs old out : List ℕ) (cs : List Command) (items : List Item) (status : ℕ) → ((ds : List Command) → IsPlainSource bs ds → ds ≡ cs) → Runs cs old out items status → ShowsDerivable bs
@@ -181,10 +179,10 @@ breaks_off bs text items status before after r p = record {
 }
 
 -- where the derivation is exported, or a beginning of it
-pub exported : BuiltIsVerdict → GoodAreAccepted → (left rest : Option (List ℕ)) (taken taken' faults later : ℕ) (before after : Option (List ℕ)) (n : ℕ) (text : List ℕ) (items : List Item) (e : Ending)
+pub exported : GoodAreAccepted → (left rest : Option (List ℕ)) (taken taken' faults later : ℕ) (before after : Option (List ℕ)) (n : ℕ) (text : List ℕ) (items : List Item) (e : Ending)
     → IsAtEnd rest → RanInput job.Export left text items (ending_status e) → WritesFile items (ending_status e) n before after
     → IsCall job.Export left rest taken taken' faults later before after n
-exported built good left rest taken taken' faults later before after n text items e end h (inl w) =
+exported good left rest taken taken' faults later before after n text items e end h (inl w) =
     let s = status_of_ending e in
     IsCall.of_text s.0 (encode_utf8_all (file_of items)) s.1 end
     (if_some (λ bytes. (length bytes ≤ limit job.Export) × IsRun bytes text items (ending_status e) × ShowsDerivable bytes)
@@ -193,13 +191,13 @@ exported built good left rest taken taken' faults later before after n text item
       k.0,
       export_of bs text items (ending_status e) (number_of s.0) s.2 k.1 w.1,
       λ _. k.2,
-      (counts items, accepted_by_check built good (encode_utf8_all (file_of items)) items w.1 k.1.derivation.good (all_built items k.1.steps)),
+      (counts items, accepted_by_check good (encode_utf8_all (file_of items)) items w.1 k.1.derivation.good),
     )) h) (w.0 ∙ sym s.2) w.2
-exported built good left rest taken taken' faults later before after n text items e end h (inr (inl k, p)) =
+exported good left rest taken taken' faults later before after n text items e end h (inr (inl k, p)) =
     IsCall.of_break k (if_some (λ bytes. (length bytes ≤ limit job.Export) × IsRun bytes text items (ending_status e) × ShowsDerivable bytes)
     (λ bytes. (length bytes ≤ limit job.Export) × BreaksOff bytes before after × (ReadsSource job.Export → ShowsDerivable bytes)) left
     (λ bs q. (q.0, breaks_off bs text items (ending_status e) before after q.1 p, λ _. q.2)) h)
-exported built good left rest taken taken' faults later before after n text items e end h (inr (inr k, p)) =
+exported good left rest taken taken' faults later before after n text items e end h (inr (inr k, p)) =
     IsCall.of_memory k (inr (if_some (λ bytes. (length bytes ≤ limit job.Export) × IsRun bytes text items (ending_status e) × ShowsDerivable bytes)
     (λ bytes. (length bytes ≤ limit job.Export) × BreaksOff bytes before after) left
     (λ bs q. (q.0, breaks_off bs text items (ending_status e) before after q.1 p)) h))

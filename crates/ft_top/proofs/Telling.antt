@@ -3,12 +3,11 @@ use Rattle.std.proofs.Common.{◌≡◌, ◌∙◌, sym, ap, refl, subst, ℕ, �
 use Rattle.ft_base.specs.Names.{is_name_token}
 use Rattle.ft_items.specs.Item.{Item, Entry}
 use Rattle.ft_items.specs.Store.{Derivable}
-use Rattle.ft_items.specs.Good.{Reject, Counts, Verdict, Accepted, Rejected}
+use Rattle.ft_items.specs.Good.{Reject, Counts, Verdict, Accepted, Rejected, verdict}
 use Rattle.ft_items.specs.Texts.{IsTextOf}
 use Rattle.ft_items.specs.Faults.{Fault, HasFault}
-use Rattle.ft_sound.specs.Soundness.{EachEntry}
+use Rattle.ft_sound.specs.Soundness.{AcceptedAreDerivable, EachEntry}
 use Rattle.ft_streams.specs.Streams.{Appends}
-use Rattle.ft_verdicts.specs.Built.{verdict_built}
 use Rattle.ft_answers.specs.declared.words.Job.{Job}
 use Rattle.ft_answers.specs.declared.words.Job.TheVariants as job
 use Rattle.ft_answers.specs.Words.{IsAsked}
@@ -16,16 +15,15 @@ use Rattle.ft_verdicts.specs.Verdicts.{IsVerdict, verdict_line, verdict_status}
 use Rattle.ft_answers.specs.Exports.{IsExport}
 use Rattle.ft_answers.specs.Answer.{IsText}
 use Rattle.ft_top.specs.Calls.{IsAcceptedExport, IsKnown, IsCall}
-use Rattle.ft_top.specs.Laws.{AcceptedIsDerivable}
 use Rattle.ft_top.proofs.Asking.{one_job}
 use Rattle.ft_top.proofs.Numbers.{of_file}
 use Rattle.ft_top.proofs.Calling.{of_told, neither}
 
-rejected_by : (items : List Item) (v : Verdict) → verdict_built items ≡ v → verdict_status v ≡ 15 → (k : ℕ) × ((why : Reject) × (verdict_built items ≡ Rejected k why))
+rejected_by : (items : List Item) (v : Verdict) → verdict items ≡ v → verdict_status v ≡ 15 → (k : ℕ) × ((why : Reject) × (verdict items ≡ Rejected k why))
 rejected_by items (Accepted c) e h = absurd (omega (arith, h))
 rejected_by items (Rejected k why) e h = (k, (why, e))
 
-accepted_by : (items : List Item) (v : Verdict) → verdict_built items ≡ v → verdict_status v ≡ 0 → (c : Counts) × (verdict_built items ≡ Accepted c)
+accepted_by : (items : List Item) (v : Verdict) → verdict items ≡ v → verdict_status v ≡ 0 → (c : Counts) × (verdict items ≡ Accepted c)
 accepted_by items (Accepted c) e h = (c, e)
 accepted_by items (Rejected k why) e h = absurd (omega (arith, h))
 
@@ -35,22 +33,22 @@ no_fault_status (Rejected k why) h = absurd (omega (arith, h))
 
 -- the file has these items, and the k-th is rejected
 abbrev pub RejectedFile : List ℕ → Type 0
-RejectedFile bs = (items : List Item) × ((k : ℕ) × ((why : Reject) × (IsTextOf is_name_token bs items × (verdict_built items ≡ Rejected k why))))
+RejectedFile bs = (items : List Item) × ((k : ℕ) × ((why : Reject) × (IsTextOf is_name_token bs items × (verdict items ≡ Rejected k why))))
 
 verdict_rejected : (bs line : List ℕ) (n : ℕ) → IsVerdict is_name_token bs line n → n ≡ 15 → RejectedFile bs
-verdict_rejected bs line n (IsVerdict.of_items items t) h = let r = rejected_by items (verdict_built items) refl h in (items, (r.0, (r.1.0, (t, r.1.1))))
+verdict_rejected bs line n (IsVerdict.of_items items t) h = let r = rejected_by items (verdict items) refl h in (items, (r.0, (r.1.0, (t, r.1.1))))
 verdict_rejected bs line n (IsVerdict.of_fault f t) h = absurd (omega (arith, h))
 
 -- the file has these items, which are accepted
 abbrev pub AcceptedFile : List ℕ → Type 0
-AcceptedFile bs = (items : List Item) × ((c : Counts) × (IsTextOf is_name_token bs items × (verdict_built items ≡ Accepted c)))
+AcceptedFile bs = (items : List Item) × ((c : Counts) × (IsTextOf is_name_token bs items × (verdict items ≡ Accepted c)))
 
 verdict_accepted : (bs line : List ℕ) (n : ℕ) → IsVerdict is_name_token bs line n → n ≡ 0 → AcceptedFile bs
-verdict_accepted bs line n (IsVerdict.of_items items t) h = let r = accepted_by items (verdict_built items) refl h in (items, (r.0, (t, r.1)))
+verdict_accepted bs line n (IsVerdict.of_items items t) h = let r = accepted_by items (verdict items) refl h in (items, (r.0, (t, r.1)))
 verdict_accepted bs line n (IsVerdict.of_fault f t) h = absurd (omega (arith, h))
 
 verdict_filed : (bs line : List ℕ) (n : ℕ) → IsVerdict is_name_token bs line n → n ≡ 16 → (f : Fault) × HasFault is_name_token bs f
-verdict_filed bs line n (IsVerdict.of_items items t) h = absurd (no_fault_status (verdict_built items) h)
+verdict_filed bs line n (IsVerdict.of_items items t) h = absurd (no_fault_status (verdict items) h)
 verdict_filed bs line n (IsVerdict.of_fault f t) h = (f, t)
 
 -- the text of an input that was read whole
@@ -70,8 +68,8 @@ text_of_call bs {j = j} {left = left} told a b d e f (IsCall.of_text s text i q 
 text_of_call bs told a b d e f (IsCall.of_break k h) = absurd (a k)
 text_of_call bs told a b d e f (IsCall.of_memory k h) = absurd (f k)
 
-pub accepted_text : AcceptedIsDerivable → (words : List (List ℕ)) (bs : List ℕ) {j : Job} {left rest : Option (List ℕ)} {taken taken' faults later : ℕ} {before after : Option (List ℕ)} {n : ℕ} → IsAsked words j → n ≡ 0 → IsAsked words job.Check → left ≡ Some bs → IsCall j left rest taken taken' faults later before after n
-    → (items : List Item) × ((c : Counts) × (IsTextOf is_name_token bs items × (verdict_built items ≡ Accepted c) × EachEntry (λ W e. Derivable W e.statement e.set) items))
+pub accepted_text : AcceptedAreDerivable → (words : List (List ℕ)) (bs : List ℕ) {j : Job} {left rest : Option (List ℕ)} {taken taken' faults later : ℕ} {before after : Option (List ℕ)} {n : ℕ} → IsAsked words j → n ≡ 0 → IsAsked words job.Check → left ≡ Some bs → IsCall j left rest taken taken' faults later before after n
+    → (items : List Item) × ((c : Counts) × (IsTextOf is_name_token bs items × (verdict items ≡ Accepted c) × EachEntry (λ W e. Derivable W e.statement e.set) items))
 accepted_text law words bs {j = j} {before = before} {after = after} {n = n} asked z asked' told call =
     let t : Texted j bs n before after = text_of_call bs told (λ k. absurd (omega (arith, k, z))) (λ k. absurd (omega (arith, k, z))) (λ k. absurd (omega (arith, k, z))) (λ k. absurd (omega (arith, k, z))) (λ k. absurd (omega (arith, k, z))) call in
     let f : AcceptedFile bs = verdict_accepted bs t.0 n (subst (λ j. IsText j bs t.0 n) (one_job words j job.Check asked asked') t.1.0) z in

@@ -10,7 +10,6 @@ use Rattle.ft_streams.specs.Streams.{Rose, Appends, AppendsPrefix, IsAtEnd}
 use Rattle.ft_applications_meaning.specs.declared.syntax.Command.{Command}
 use Rattle.ft_applications_meaning.specs.Events.{Event, events}
 use Rattle.ft_applications_meaning.specs.Histories.{IsDerivationOf}
-use Rattle.ft_run.specs.Steps.{AllOfApplications}
 use Rattle.ft_applications_meaning.specs.Transcript.{IsPlainSource, AllDerivable, shown_in, text_of, status_of, not_yet_line}
 use Rattle.ft_answers.specs.declared.words.Job.{Job}
 use Rattle.ft_answers.specs.declared.words.Job.TheVariants as job
@@ -39,7 +38,6 @@ pub record IsRun (bytes text : List ℕ) (items : List Item) (status : ℕ) : Ty
   pub lines : text ≡ text_of done
   pub ending : status ≡ status_of done
   pub derivation : IsDerivationOf items done
-  pub steps : AllOfApplications items
 
 -- the file of the items was written, and the status answered; or a beginning of the file, where the sink failed or memory was refused
 abbrev pub WritesFile : List Item → ℕ → ℕ → Option (List ℕ) → Option (List ℕ) → Type 0

@@ -4,7 +4,7 @@ ghost use Rattle.std.specs.Prelude.{◌≡◌, ◌≤◌, ◌⊎◌, [], List, �
 ghost use Rattle.ft_base.specs.Names.{is_name_token};
 ghost use Rattle.ft_items.specs.Item.{Item};
 ghost use Rattle.ft_items.specs.Store.{Derivable};
-ghost use Rattle.ft_items.specs.Good.{Reject, Counts, Accepted, Rejected};
+ghost use Rattle.ft_items.specs.Good.{Reject, Counts, Accepted, Rejected, verdict};
 ghost use Rattle.ft_items.specs.Texts.{IsTextOf};
 ghost use Rattle.ft_items.specs.Faults.{Fault, HasFault};
 ghost use Rattle.ft_sound.specs.Soundness.{EachEntry};
@@ -12,7 +12,6 @@ ghost use Rattle.ft_streams.specs.Streams.{Rose, Appends, IsAtEnd};
 ghost use Rattle.ft_applications_meaning.specs.Events.{Event, events};
 ghost use Rattle.ft_applications_meaning.specs.Transcript.{IsPlainSource, AllDerivable, shown_in};
 ghost use Rattle.ft_applications_meaning.specs.declared.syntax.Command.{Command as Tree};
-ghost use Rattle.ft_verdicts.specs.Built.{verdict_built};
 ghost use Rattle.ft_answers.specs.declared.words.Job.{Job as Asked};
 ghost use Rattle.ft_answers.specs.declared.words.Job.TheVariants as asked;
 ghost use Rattle.ft_answers.specs.Words.{IsAsked, IsNoJob, ReadsSource, limit};
@@ -24,12 +23,12 @@ ghost use Rattle.ft_top.specs.Calls.{IsCall};
 
 use crate::checking::check;
 use crate::exporting::export;
-use crate::laws::accepted_is_derivable;
 use crate::running::run;
 use crate::words::job_of;
 use crate::writing::stop;
 use ft_answers::{Job, Status};
 use ft_outside::{Sink, Source};
+use ft_sound::accepted_derivable;
 use std::alloc::Global;
 
 // Does the job.
@@ -109,15 +108,15 @@ pub fn top<I: Source, O: Sink>(alloc: Global, words: &[String], input: &mut I, o
     // What a verdict tells of the file.
     ensures accepted { result ≡ 0 → IsAsked (map string_bytes words.now) asked.Check
         → (bytes : List ℕ) → I.left input.old ≡ Some bytes → (items : List Item)
-        × ((c : Counts) × (IsTextOf is_name_token bytes items × (verdict_built items ≡ Accepted c)
+        × ((c : Counts) × (IsTextOf is_name_token bytes items × (verdict items ≡ Accepted c)
         × EachEntry (λ W e. Derivable W e.statement e.set) items)) }
     ensures rejected { result ≡ 15 → (bytes : List ℕ) → I.left input.old ≡ Some bytes
         → (items : List Item) × ((k : ℕ) × ((why : Reject)
-        × (IsTextOf is_name_token bytes items × (verdict_built items ≡ Rejected k why)))) }
+        × (IsTextOf is_name_token bytes items × (verdict items ≡ Rejected k why)))) }
     ensures filed { result ≡ 16 → (bytes : List ℕ) → I.left input.old ≡ Some bytes → (fault : Fault)
         × HasFault is_name_token bytes fault }
 {
-    accepted_is_derivable();
+    accepted_derivable();
     match job_of(words) {
         Some(job) => answer(alloc, job, input, output),
         None => stop(output, Status::Usage),

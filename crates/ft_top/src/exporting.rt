@@ -9,7 +9,6 @@ ghost use Rattle.ft_answers.specs.declared.words.Job.TheVariants as asked;
 ghost use Rattle.ft_answers.specs.Statuses.{number_of};
 ghost use Rattle.ft_top.specs.Calls.{IsCall, WritesFile};
 
-use crate::laws::built_verdict;
 use crate::running::{run_input, status_for};
 use crate::statuses::number;
 use ft_answers::{Job, Status};
@@ -39,7 +38,6 @@ pub(crate) fn export<I: Source, O: Sink>(alloc: Global, input: &mut I, output: &
         (O.written output.new) result }
     ensures rose { result ≡ 4 → Rose (O.faults output.old) (O.faults output.new) }
 {
-    built_verdict();
     verdict_is_exact();
     match run_input(alloc, Job::Export, input) {
         Ok(ran) => write_run(alloc, &ran.run, output),

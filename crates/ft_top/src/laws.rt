@@ -1,12 +1,10 @@
 //! Laws of transcripts, derivations and verdicts.
 
-ghost use Rattle.ft_verdicts.specs.Built.{BuiltIsVerdict};
-ghost use Rattle.ft_top.specs.Laws.{Headline, AcceptedIsDerivable, OneVerdict};
+ghost use Rattle.ft_top.specs.Laws.{Headline, OneVerdict};
 
 use ft_applications::at_most_one_tree;
-use ft_check::{accepted_is_accepted, built_is_verdict};
 use ft_lines::laws::names_are_visible;
-use ft_sound::{accepted_derivable, entries_derivable, verdict_is_exact};
+use ft_sound::{entries_derivable, verdict_is_exact};
 use ft_texts::{at_most_one_fault, at_most_one_list, text_has_no_fault};
 
 /// A source whose commands are built has the transcript of its events; and each text that is exported of it is that of a
@@ -15,7 +13,6 @@ pub fn headline()
     ensures law { Headline }
 {
     at_most_one_tree();
-    built_verdict();
     verdict_is_exact();
     entries_derivable();
 }
@@ -28,19 +25,4 @@ pub fn one_verdict()
     at_most_one_list();
     text_has_no_fault();
     at_most_one_fault();
-}
-
-/// Where each step of a list is built, the verdict by built steps is the verdict.
-pub fn built_verdict()
-    ensures law { BuiltIsVerdict }
-{
-    built_is_verdict();
-}
-
-/// In a list that `check` accepts each entry is derivable.
-pub fn accepted_is_derivable()
-    ensures law { AcceptedIsDerivable }
-{
-    accepted_is_accepted();
-    accepted_derivable();
 }

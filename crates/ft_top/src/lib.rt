@@ -13,4 +13,4 @@ mod words;
 mod writing;
 
 pub use call::top;
-pub use laws::{accepted_is_derivable, built_verdict, headline, one_verdict};
+pub use laws::{headline, one_verdict};

@@ -2,10 +2,9 @@
 use Rattle.std.specs.Prelude.{ℕ, Bool, List, ◌++◌, codes}
 use Rattle.std.specs.Fmt.{decimal}
 use Rattle.ft_items.specs.Item.{Name, Item}
-use Rattle.ft_items.specs.Good.{Reject, Reference, Kind, Premise, Conclusion, Set, Named, Number, Many, Loose, Verdict, Accepted, Rejected}
+use Rattle.ft_items.specs.Good.{Reject, Reference, Kind, Premise, Conclusion, Set, Named, Number, Many, Loose, Verdict, Accepted, Rejected, verdict}
 use Rattle.ft_items.specs.Texts.{IsTextOf}
 use Rattle.ft_items.specs.Faults.{Fault, Form, Version, HasFault}
-use Rattle.ft_verdicts.specs.Built.{verdict_built}
 
 -- the word of a reason
 abbrev pub reason_word : Reject → List ℕ
@@ -38,5 +37,5 @@ fault_line (Version n) = codes "error line " ++ decimal n ++ codes " version\n"
 -- What `check` writes for a file, with its status: the verdict on its items, or its fault. `is_name` tells the names.
 pub data IsVerdict (is_name : Name → Bool) (bytes : List ℕ) : List ℕ → ℕ → Type 0 where
   of_items : (items : List Item) → IsTextOf is_name bytes items
-      → IsVerdict is_name bytes (verdict_line (verdict_built items)) (verdict_status (verdict_built items))
+      → IsVerdict is_name bytes (verdict_line (verdict items)) (verdict_status (verdict items))
   of_fault : (f : Fault) → HasFault is_name bytes f → IsVerdict is_name bytes (fault_line f) 16

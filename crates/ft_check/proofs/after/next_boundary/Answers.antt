@@ -1,4 +1,4 @@
-use Rattle.std.proofs.Common.{rules, take, length, get_or, refl, sym, ap, subst, ◌∙◌, ◌≤◌, ◌<◌}
+use Rattle.std.proofs.Common.{take, length, get_or, ap, subst, ◌≤◌, ◌<◌}
 use Rattle.ft_check.proofs.Argued.{premise_next, conclusion_next}
 use Rattle.ft_check.proofs.after.next_boundary.Goals as goal
 

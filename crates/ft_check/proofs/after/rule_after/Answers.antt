@@ -1,4 +1,4 @@
-use Rattle.std.proofs.Common.{take, length, sym, ap, subst, ◌∙◌, ◌<◌, nat_lt}
+use Rattle.std.proofs.Common.{take, length, ap, subst, ◌∙◌, ◌<◌, nat_lt}
 use Rattle.ft_check.proofs.Argued.{after_read, fewer, none_after}
 use Rattle.ft_check.proofs.after.rule_after.Goals as goal
 

@@ -1,4 +1,4 @@
-use Rattle.std.proofs.Common.{take, ◌≡◌, true, false, is_some, sym, ap, ap₂, ◌∙◌, subst, IfSome, length}
+use Rattle.std.proofs.Common.{take, ◌≡◌, true, is_some, sym, ap, ◌∙◌, subst, IfSome}
 use Rattle.ft_theory.specs.Statements.{plain}
 use Rattle.ft_items.specs.Equal.{equal_statements, is_object_goal}
 use Rattle.ft_items.specs.Rows.{sets, statements}

@@ -1,4 +1,4 @@
-use Rattle.std.proofs.Common.{rules, take, zero, ◌≡◌, true, false, is_some, sym, ap, ap₂, ◌∙◌, ◌&&◌, subst, IfSome}
+use Rattle.std.proofs.Common.{rules, take, zero, ◌≡◌, true, false, is_some, sym, ap, ◌∙◌, ◌&&◌, subst, IfSome}
 use Rattle.ft_theory.specs.Expressions.{instantiate}
 use Rattle.ft_theory.specs.Statements.{map_statement}
 use Rattle.ft_items.specs.Equal.{fits, is_thesis}
@@ -8,7 +8,7 @@ use Rattle.ft_items.specs.Store.{premises_of}
 use Rattle.ft_syntax.specs.Instances.{instance_in}
 use Rattle.ft_judge.specs.Meaning.{head_of_statement}
 use Rattle.ft_check.specs.Entries.{entry_in, with_step}
-use Rattle.ft_check.specs.Equations.{AreSides, directed, same_head}
+use Rattle.ft_check.specs.Equations.{AreSides, same_head}
 use Rattle.ft_check.specs.Putting.{IsPutIn}
 use Rattle.ft_check.specs.declared.sides.Sides.{Sides}
 use Rattle.ft_check.proofs.Moved.{directed_below, moved_judged, no_sides_moved, unfit_moved}

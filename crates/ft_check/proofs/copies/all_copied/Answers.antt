@@ -1,6 +1,6 @@
-use Rattle.std.proofs.Common.{rules, ◌≤◌, length}
+use Rattle.std.proofs.Common.{length}
 use Rattle.ft_syntax.specs.Laws.{argument_below}
-use Rattle.ft_check.proofs.Copied.{copied_more, copied_end}
+use Rattle.ft_check.proofs.Copied.{copied_more}
 use Rattle.ft_check.proofs.copies.all_copied.Goals as goal
 
 pub loop-k-preserved : goal.loop-k-preserved

@@ -1,4 +1,4 @@
-use Rattle.std.proofs.Common.{sym, ap, ◌∙◌}
+use Rattle.std.proofs.Common.{ap, ◌∙◌}
 use Rattle.ft_check.specs.Comparing.{paired}
 use Rattle.ft_check.proofs.HeadsPut.{instance_is}
 use Rattle.ft_check.proofs.copies.put_all.Goals as goal

@@ -1,11 +1,10 @@
 use Rattle.std.proofs.Common.{take, ap}
 use Rattle.ft_items.specs.Equal.{is_thesis}
-use Rattle.ft_items.specs.Item.{by_generic, by_meta, by_metacong, by_var, by_abs, by_subst, by_substeq, by_refl, by_sym, by_left, by_right, by_typeof, by_domain, by_boundary, by_bterm, by_trans, by_conv, by_conveq, by_widen, by_beqty, by_beqtm}
+use Rattle.ft_items.specs.Item.{by_natural, by_generic, by_meta, by_metacong, by_var, by_abs, by_subst, by_substeq, by_refl, by_sym, by_left, by_right, by_typeof, by_domain, by_boundary, by_bterm, by_trans, by_conv, by_conveq, by_widen, by_beqty, by_beqtm}
 use Rattle.ft_items.specs.Store.{store_of, each, entry_named, metavariable_named, variable_named, resolve, declared_by}
 use Rattle.ft_stated.specs.Steps.{stated_step}
-use Rattle.ft_verdicts.specs.Built.{is_built}
 use Rattle.ft_check.specs.Entries.{entry_in}
-use Rattle.ft_check.proofs.Entering.{btype_result, one_checked, one_result, two_result, three_result, unbuilt_result, rule_result, rulewith_result}
+use Rattle.ft_check.proofs.Entering.{arg_result, btype_result, one_checked, one_result, two_result, three_result, rule_result, rulewith_result}
 use Rattle.ft_check.specs.declared.conversions.Way.TheVariants.{Forth, Back}
 use Rattle.ft_check.proofs.StepsAtRules.{inst_result, cong_result, conv_result}
 use Rattle.ft_check.proofs.item.check_result.Goals as goal
@@ -122,7 +121,9 @@ returns-in-Metacong c = λ s g q k. two_result (store_of (take c.args.i c.args.i
     (λ d given f h. c.check_meta-in-Metacong.ensures d given (stated_step c.args.step.now) g f h)
 
 pub returns-in-Arg : goal.returns-in-Arg
-returns-in-Arg c = λ s g q k. unbuilt_result (store_of (take c.args.i c.args.items.now.items)) c.args.step.now (entry_in c.args.items.now.trees c.args.found) s q (ap (λ t. is_built (stated_step t)) c.in-Arg.is)
+returns-in-Arg c = λ s g q k. arg_result (store_of (take c.args.i c.args.items.now.items)) c.args.step.now c.in-Arg.k c.in-Arg.p (entry_in c.args.items.now.trees c.args.found) c.check_arg.result s (ap (λ t. resolve (store_of (take c.args.i c.args.items.now.items)) (stated_step t)) c.in-Arg.is) q k
+    (λ b f h. c.check_arg.ensures b (stated_step c.args.step.now) g f h)
 
 pub returns-in-Natural : goal.returns-in-Natural
-returns-in-Natural c = λ s g q k. unbuilt_result (store_of (take c.args.i c.args.items.now.items)) c.args.step.now (entry_in c.args.items.now.trees c.args.found) s q (ap (λ t. is_built (stated_step t)) c.in-Natural.is)
+returns-in-Natural c = λ s g q k. one_checked (store_of (take c.args.i c.args.items.now.items)) c.args.step.now by_natural (entry_named (store_of (take c.args.i c.args.items.now.items)) c.in-Natural.p) (entry_in c.args.items.now.trees c.args.found) c.check_natural.result s (ap (λ t. resolve (store_of (take c.args.i c.args.items.now.items)) (stated_step t)) c.in-Natural.is) q
+    (λ b f. c.check_natural.ensures b (stated_step c.args.step.now) g f)

@@ -1,4 +1,4 @@
-use Rattle.std.proofs.Common.{◌≡◌, ◌∙◌, length, sym, ap}
+use Rattle.std.proofs.Common.{◌∙◌, length, sym, ap}
 use Rattle.std.specs.Prelude.{option_map}
 use Rattle.ft_common.proofs.Options.{none_some}
 use Rattle.ft_placing.specs.Sides.{has_sides}

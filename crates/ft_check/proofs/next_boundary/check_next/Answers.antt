@@ -1,4 +1,4 @@
-use Rattle.std.proofs.Common.{take, zero, ◌≡◌, false, is_some, sym, ap, ap₂, ◌∙◌, subst, IfOk, IfSome}
+use Rattle.std.proofs.Common.{take, zero, ◌≡◌, false, is_some, ap, ◌∙◌, subst, IfSome}
 use Rattle.ft_theory.specs.Expressions.{instantiate}
 use Rattle.ft_theory.specs.Statements.{map_statement}
 use Rattle.ft_items.specs.Equal.{equal_statements, heads, is_thesis}

@@ -1,11 +1,8 @@
-use Rattle.std.proofs.Common.{rules, zero, ◌≡◌, true, false, sym, ap, ◌∙◌, length, subst}
+use Rattle.std.proofs.Common.{rules, ◌≡◌, true, false, sym, ap, ◌∙◌, length, subst}
 use Rattle.std.proofs.lemmas.Result.{IfOk-weaker}
 use Rattle.ft_theory.specs.Expressions.{instantiate}
-use Rattle.ft_theory.specs.Statements.{map_statement}
-use Rattle.ft_items.specs.Equal.{equal_statements}
 use Rattle.ft_syntax.specs.Instances.{instance_in}
 use Rattle.ft_check.specs.Comparing.{all_same, ComparedBelow}
-use Rattle.ft_check.specs.Entries.{entry_in}
 use Rattle.ft_check.proofs.Argued.{all_pushed, not_pushed}
 use Rattle.ft_check.proofs.next_boundary.is_bound.Goals as goal
 

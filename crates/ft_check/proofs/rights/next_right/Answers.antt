@@ -1,4 +1,4 @@
-use Rattle.std.proofs.Common.{take, ◌≡◌, true, is_some, sym, ap, ◌∙◌, subst}
+use Rattle.std.proofs.Common.{sym, ap, ◌∙◌}
 use Rattle.std.specs.Prelude.{option_map}
 use Rattle.std.proofs.lemmas.Option.{same_Some}
 use Rattle.ft_items.specs.Equal.{is_thesis}

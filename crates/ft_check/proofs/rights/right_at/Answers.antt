@@ -1,8 +1,7 @@
-use Rattle.std.proofs.Common.{rules, take, ◌≡◌, ◌<◌, ◌≤◌, length, true, is_some, sym, ap, ◌∙◌, subst, refl, arith}
+use Rattle.std.proofs.Common.{rules, take, ◌≡◌, ◌<◌, ◌≤◌, length, true, is_some, sym, ap, ◌∙◌, subst, refl}
 use Rattle.std.specs.Prelude.{option_map}
 use Rattle.std.proofs.lemmas.Option.{same_Some}
 use Rattle.ft_items.specs.Equal.{is_thesis, right_head, starts}
-use Rattle.ft_items.specs.Rows.{statements}
 use Rattle.ft_items.specs.Store.{Assertion}
 use Rattle.ft_syntax.specs.Table.{tree}
 use Rattle.ft_check.specs.Entries.{entry_in}

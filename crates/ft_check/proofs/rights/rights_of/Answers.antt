@@ -1,5 +1,5 @@
 use Rattle.std.proofs.Common.{rules, ◌≤◌, length, take, refl}
-use Rattle.ft_check.proofs.Started.{rights_start, rights_more, rights_not, rights_over, rights_all, rights_are}
+use Rattle.ft_check.proofs.Started.{rights_more, rights_not, rights_over, rights_all, rights_are}
 use Rattle.ft_check.proofs.rights.rights_of.Goals as goal
 
 pub loop-k-preserved : goal.loop-k-preserved

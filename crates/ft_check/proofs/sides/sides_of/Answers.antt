@@ -1,10 +1,9 @@
-use Rattle.std.proofs.Common.{take, length, ◌≡◌, false, is_some, sym, ap, ap₂, ◌∙◌, ◌&&◌, subst, IfSome}
+use Rattle.std.proofs.Common.{take, ◌≡◌, is_some, sym, ap, ap₂, ◌∙◌, subst, IfSome}
 use Rattle.ft_items.specs.Equal.{heads, right_heads, start_all}
 use Rattle.ft_items.specs.Rows.{are_arguments, statements}
 use Rattle.ft_items.specs.Store.{declared_by, premises_of}
-use Rattle.ft_syntax.specs.Table.{arguments_in, ArgumentsBelow}
+use Rattle.ft_syntax.specs.Table.{arguments_in}
 use Rattle.ft_check.specs.Arguing.{IsPut}
-use Rattle.ft_check.specs.Putting.{IsPutIn}
 use Rattle.ft_check.proofs.Applies.{first_not, numbers_are}
 use Rattle.ft_check.proofs.Sided.{both_there, second_none, right_put}
 use Rattle.ft_check.proofs.sides.sides_of.Goals as goal

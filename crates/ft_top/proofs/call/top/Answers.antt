@@ -53,7 +53,7 @@ pub returns-in-Some-clause-exported : goal.returns-in-Some-clause-exported
 returns-in-Some-clause-exported g c = λ z asked bytes told. exported_text _ bytes c.in-Some.ensures.asked z asked told c.answer.ensures.called
 
 pub returns-in-Some-clause-accepted : goal.returns-in-Some-clause-accepted
-returns-in-Some-clause-accepted g c = λ z asked bytes told. accepted_text c.accepted_is_derivable.ensures.law _ bytes c.in-Some.ensures.asked z asked told c.answer.ensures.called
+returns-in-Some-clause-accepted g c = λ z asked bytes told. accepted_text c.accepted_derivable.ensures.law _ bytes c.in-Some.ensures.asked z asked told c.answer.ensures.called
 
 pub returns-in-Some-clause-rejected : goal.returns-in-Some-clause-rejected
 returns-in-Some-clause-rejected g c = λ z bytes told. rejected_text bytes z told c.answer.ensures.called

@@ -62,8 +62,8 @@ fn is_left_instance(put: &mut Put, terms: &Terms, ty: E, left: Option<E>) -> Res
     }
 }
 
-/// Whether an expression, where one is there, is the type in the conclusion of the rule at the arguments of its symbol `e`; None
-/// where the rule concludes no term.
+/// Whether an expression, where one is there, is the type in the conclusion of the rule at the
+/// arguments of its symbol `e`; None where the rule concludes no term.
 pub fn is_type_of_symbol(
     alloc: Global,
     terms: &Terms,
@@ -89,7 +89,8 @@ pub fn is_type_of_symbol(
     }
 }
 
-// Whether the head of the thesis, where it has one, is the body, or the innermost bound variable where there is no body.
+// Whether the head of the thesis, where it has one, is the body, or the innermost bound variable
+// where there is no body.
 fn has_body(terms: &Terms, found: Entry<'_>, body: Option<E>) -> bool
     requires found { EntryBelow (length terms.now) found }
     requires body { BodyBelow (length terms.now) body }
@@ -105,7 +106,8 @@ fn has_body(terms: &Terms, found: Entry<'_>, body: Option<E>) -> bool
     }
 }
 
-// Whether the thesis is the boundary of the metavariable `m` at the arguments of the symbol `e`, filled with the body.
+// Whether the thesis is the boundary of the metavariable `m` at the arguments of the symbol `e`,
+// filled with the body.
 fn is_argument_for(
     alloc: Global,
     items: &StatedItems,
@@ -139,7 +141,8 @@ fn is_argument_for(
     Ok(has_body(items.terms(), found, body))
 }
 
-/// Whether the thesis is that of the argument at place `k`, counted from 0, of the rule's symbol `e`; None where none stands there.
+/// Whether the thesis is that of the argument at place `k`, counted from 0, of the rule's symbol
+/// `e`; None where none stands there.
 pub fn is_argument_of_symbol(
     alloc: Global,
     items: &StatedItems,

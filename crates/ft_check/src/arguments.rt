@@ -76,7 +76,8 @@ fn is_argument_of_meta(
     }
 }
 
-// Whether the thesis is that of the argument at place `k`, counted from 0, of the expression; None where none stands there.
+// Whether the thesis is that of the argument at place `k`, counted from 0, of the expression; None
+// where none stands there.
 fn is_argument(
     alloc: Global,
     items: &StatedItems,
@@ -101,7 +102,8 @@ fn is_argument(
     }
 }
 
-/// The reason against a thesis as the argument at a place, counted from 1, of the application in entry `p`.
+/// The reason against a thesis as the argument at a place, counted from 1, of the application in
+/// entry `p`.
 pub fn check_arg(
     alloc: Global,
     items: &StatedItems,

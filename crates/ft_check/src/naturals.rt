@@ -82,7 +82,8 @@ fn is_natural_of_meta(
     }
 }
 
-// Whether an expression, where one is there, is the type that the term has by its declaration; None where it has none.
+// Whether an expression, where one is there, is the type that the term has by its declaration;
+// None where it has none.
 fn is_natural(
     alloc: Global,
     items: &StatedItems,
@@ -104,8 +105,8 @@ fn is_natural(
     }
 }
 
-/// The reason against an entry as the equation between the type that the term of entry `p` has by its declaration and the stated
-/// one.
+/// The reason against an entry as the equation between the type that the term of entry `p` has by
+/// its declaration and the stated one.
 pub fn check_natural(
     alloc: Global,
     items: &StatedItems,

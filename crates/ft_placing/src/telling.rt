@@ -1,4 +1,5 @@
-//! What a term tells by what it is made of: its arguments, and the type that it has by its declaration.
+//! What a term tells by what it is made of: its arguments, and the type that it has by its
+//! declaration.
 
 ghost use Rattle.std.specs.Prelude.{◌≡◌, ◌<◌, ◌≤◌, ℕ, List, Some, drop, get_or, length, option_map, take, IfOk, IfSome};
 ghost use Rattle.ft_theory.specs.Expressions.{Expression, meta, Terms as AnyTerms};
@@ -77,7 +78,8 @@ pub fn left_of(terms: &Terms, y: &Parts<'_>, ty: E) -> Option<E>
     requires y { PartsBelow (length terms.now) y.now }
     requires ty { ty < length terms.now }
     ensures is { (N : Expression) → is_left terms.now N result ≡
-        equal_statements (plain (equal_types N (tree terms.now ty))) (statement_in terms.now y.now) }
+        equal_statements (plain (equal_types N (tree terms.now ty)))
+        (statement_in terms.now y.now) }
     ensures below { IfSome result (λ e. e < length terms.now) }
 {
     if y.domains.is_empty() {
@@ -134,8 +136,8 @@ fn is_left_put(
     }
 }
 
-/// Whether an expression, where one is there, is the type in the boundary of the metavariable `e` at its terms; None where there is
-/// no type.
+/// Whether an expression, where one is there, is the type in the boundary of the metavariable `e`
+/// at its terms; None where there is no type.
 #[tactic(auto, using(crate::proofs::Siding::first_below))]
 pub fn is_type_of_meta(
     alloc: Global,
@@ -163,8 +165,8 @@ pub fn is_type_of_meta(
     Ok(Some(yes))
 }
 
-// Whether the expression is the domain at a place with the terms before it put; past the domains it is the innermost bound
-// variable.
+// Whether the expression is the domain at a place with the terms before it put; past the domains
+// it is the innermost bound variable.
 #[tactic(auto, using(crate::proofs::Siding::first_below, crate::proofs::Told::domain_here, crate::proofs::Told::domain_past, ft_syntax::specs::Laws::one_below))]
 fn is_domain_put(
     alloc: Global,
@@ -244,8 +246,8 @@ fn is_term_at(
     }
 }
 
-/// Whether the statement is that of the term at place `k`, counted from 0, of the metavariable `e` with this boundary; None where
-/// no term stands there.
+/// Whether the statement is that of the term at place `k`, counted from 0, of the metavariable `e`
+/// with this boundary; None where no term stands there.
 #[tactic(auto, using(crate::proofs::Told::no_term_told, crate::proofs::Told::term_told))]
 pub fn is_term_of_meta(
     alloc: Global,

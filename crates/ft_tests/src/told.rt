@@ -5,8 +5,8 @@ use crate::steps::answers_after;
 use std::alloc::Global;
 use std::test::Fail;
 
-// Further lines, which are allowed after those of the other tables. The metavariable 4 is `H(x, y) :
-// F(x)`, over `x : Nat` and `y : F(x)`. The entries, each by its number:
+// Further lines, which are allowed after those of the other tables. The metavariable 4 is
+// `H(x, y) : F(x)`, over `x : Nat` and `y : F(x)`. The entries, each by its number:
 //
 // 36: `Q(O, {x}F(x), *) type`    37: `G(O) type`      38: `T(O, p) : Nat`
 // 39: `{y : F(x)} _ : F(x)`      40: 39, abstracted   41: `H(O, p) : F(O)`

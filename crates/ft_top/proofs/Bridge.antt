@@ -1,18 +1,17 @@
 -- From an export to the verdict on it.
-use Rattle.std.proofs.Common.{◌≡◌, ap, refl, subst, ℕ, true, List, Some}
+use Rattle.std.proofs.Common.{◌≡◌, ap, refl, subst, ℕ, true, List, [], Some}
 use Rattle.ft_common.proofs.Options.{one_value}
 use Rattle.ft_base.specs.Names.{is_name_token}
 use Rattle.ft_grammar.specs.declared.token.Kind.{Kind}
 use Rattle.ft_items.specs.Item.{Item}
 use Rattle.ft_items.specs.Good.{Good, counts, Accepted, verdict}
 use Rattle.ft_items.specs.Texts.{IsTextOf}
-use Rattle.ft_items.specs.Faults.{Fault, HasFault}
 use Rattle.ft_sound.specs.Soundness.{EntriesDerivable, GoodAreAccepted}
 use Rattle.ft_texts.specs.Laws.{Visible, AtMostOneList, TextHasNoFault, AtMostOneFault}
 use Rattle.ft_applications_meaning.specs.declared.syntax.Command.{Command}
 use Rattle.ft_applications_meaning.specs.Grammar.{AreCommands}
 use Rattle.ft_applications_meaning.specs.Events.{Event, events}
-use Rattle.ft_applications_meaning.specs.Transcript.{IsPlainSource, IsTranscript, text_of, status_of}
+use Rattle.ft_applications_meaning.specs.Transcript.{IsPlainSource, IsTranscript, status_of}
 use Rattle.ft_applications_meaning.specs.Histories.{IsDerivationOf}
 use Rattle.ft_verdicts.specs.Verdicts.{IsVerdict, verdict_line, verdict_status, fault_line}
 use Rattle.ft_answers.specs.Exports.{IsExport}

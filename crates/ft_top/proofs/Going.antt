@@ -1,5 +1,5 @@
 -- How the call of a job comes to its end.
-use Rattle.std.proofs.Common.{◌≡◌, ◌∙◌, sym, ap, refl, subst, ℕ, ◌≤◌, ◌⊎◌, ◌++◌, List, [], length, Option, Some, None, IfSome, encode_utf8_all, append-nil, inl, inr}
+use Rattle.std.proofs.Common.{◌≡◌, ◌∙◌, sym, ap, refl, subst, ℕ, ◌≤◌, ◌++◌, List, [], length, Option, Some, None, IfSome, encode_utf8_all, append-nil, inl, inr}
 use Rattle.ft_common.proofs.Options.{none_some, one_value}
 use Rattle.ft_base.specs.Names.{is_name_token}
 use Rattle.ft_items.specs.Item.{Item}

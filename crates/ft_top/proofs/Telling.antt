@@ -1,7 +1,7 @@
 -- What a verdict tells of its file, and an export of its source.
-use Rattle.std.proofs.Common.{◌≡◌, ◌∙◌, sym, ap, refl, subst, ℕ, ◌⊎◌, List, Option, Some, IfSome, arith, inl, inr}
+use Rattle.std.proofs.Common.{◌≡◌, ◌∙◌, sym, refl, subst, ℕ, ◌⊎◌, List, Option, Some, arith, inl, inr}
 use Rattle.ft_base.specs.Names.{is_name_token}
-use Rattle.ft_items.specs.Item.{Item, Entry}
+use Rattle.ft_items.specs.Item.{Item}
 use Rattle.ft_items.specs.Store.{Derivable}
 use Rattle.ft_items.specs.Good.{Reject, Counts, Verdict, Accepted, Rejected, verdict}
 use Rattle.ft_items.specs.Texts.{IsTextOf}

@@ -1,7 +1,7 @@
 -- What holds of transcripts, derivations and verdicts, over the definitions alone.
 use Rattle.std.specs.Prelude.{ℕ, ◌≡◌, List, [], Some}
 use Rattle.ft_base.specs.Names.{is_name_token}
-use Rattle.ft_items.specs.Item.{Item, Entry}
+use Rattle.ft_items.specs.Item.{Item}
 use Rattle.ft_items.specs.Store.{Derivable}
 use Rattle.ft_items.specs.Good.{counts, Accepted, verdict}
 use Rattle.ft_items.specs.Texts.{IsTextOf}

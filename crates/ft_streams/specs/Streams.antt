@@ -17,9 +17,9 @@ raised_count n by = min (n + by) greatest_count
 abbrev pub FailsOnce : ℕ → ℕ → Bool → Type 0
 FailsOnce before after failed = (after ≡ raised_count before 1) × (failed ≡ true)
 
--- no call failed, or one did, and it was the last
-abbrev pub StopsAtFault : ℕ → ℕ → Bool → Type 0
-StopsAtFault before after failed = (after ≡ before) ⊎ FailsOnce before after failed
+-- no call failed; or one did, which was the last, and P
+abbrev pub NoFaultUnless : Type 0 → ℕ → ℕ → Bool → Type 0
+NoFaultUnless P before after failed = (after ≡ before) ⊎ (P × FailsOnce before after failed)
 
 -- a count that was raised by so many, maybe in several calls
 abbrev pub CountsOn : ℕ → ℕ → ℕ → Type 0

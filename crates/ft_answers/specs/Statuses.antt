@@ -16,9 +16,9 @@ number_of status.ReadFault = 3
 number_of status.WriteFault = 4
 number_of status.TooLong = 5
 number_of status.Syntax = 7
-number_of status.Twice = 9
+number_of status.Rule = 9
 number_of status.Rejected = 15
-number_of status.FileFault = 16
+number_of status.File = 16
 number_of status.Memory = 17
 
 -- the number is that of a status
@@ -29,16 +29,20 @@ IsStatus n = (s : Status) × (n ≡ number_of s)
 abbrev pub IsOfInput : Job → Status → Type 0
 IsOfInput job.Check status.Done = Unit {0}
 IsOfInput job.Check status.Rejected = Unit {0}
-IsOfInput job.Check status.FileFault = Unit {0}
+IsOfInput job.Check status.File = Unit {0}
 IsOfInput job.Check _ = ⊥
 IsOfInput _ status.Done = Unit {0}
 IsOfInput _ status.Syntax = Unit {0}
-IsOfInput _ status.Twice = Unit {0}
+IsOfInput _ status.Rule = Unit {0}
 IsOfInput _ _ = ⊥
 
 -- the number is that of such a status
 abbrev pub IsReadWhole : ℕ → Type 0
 IsReadWhole n = (j : Job) × (s : Status) × IsOfInput j s × (n ≡ number_of s)
+
+-- the number is that of a failed read, or of a failed write
+abbrev pub IsFaulty : ℕ → Type 0
+IsFaulty n = (n ≡ number_of status.ReadFault) ⊎ (n ≡ number_of status.WriteFault)
 
 -- the line where the words are others
 abbrev pub usage_line : List ℕ

@@ -2,7 +2,9 @@
 #![tactic(auto)]
 
 mod status;
+mod wanted;
 mod words;
 
 pub use status::Status;
+pub use wanted::Wanted;
 pub use words::Job;

@@ -16,11 +16,11 @@ pub enum Status {
     /// The source is not in the language, or a command of it is not built over the rules before it.
     Syntax,
     /// A rule has the name of an earlier one, and ended the run.
-    Twice,
+    Rule,
     /// An item of the derivation file is rejected.
     Rejected,
     /// The input is no derivation file.
-    FileFault,
+    File,
     /// Memory was refused.
     Memory,
 }

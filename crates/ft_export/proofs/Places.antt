@@ -1,5 +1,5 @@
 -- What is found by number is the item at its place.
-use Rattle.std.proofs.Common.{◌≡◌, ◌∙◌, sym, ap, ap₂, refl, subst, ℕ, zero, suc, ◌<◌, nat_eq, nat_lt, Bool, true, false, cond, Option, Some, None, option_map, List, [], ◌∷◌, ◌++◌, length, map, take, drop, arith}
+use Rattle.std.proofs.Common.{◌≡◌, ◌∙◌, sym, ap, ap₂, refl, subst, ℕ, zero, suc, ◌<◌, nat_eq, nat_lt, Bool, true, false, cond, Option, Some, option_map, List, [], ◌∷◌, ◌++◌, length, map, take, drop, arith}
 use Rattle.std.proofs.lemmas.Bool.{eq-eqb, ne_eqb, ltb-true}
 use Rattle.ft_items.specs.Sets.{Atom}
 use Rattle.ft_theory.specs.Statements.{Statement}

@@ -1,5 +1,5 @@
 -- Sources and sinks in memory, and the counts of adapters, as their callers see them.
-use Rattle.std.specs.Prelude.{◌≡◌, ◌<◌, ℕ, List, Option, None, Contains, length}
+use Rattle.std.specs.Prelude.{◌≡◌, ◌<◌, ℕ, Bool, List, Option, None, Contains, length}
 use Rattle.ft_streams.specs.Streams.{raised_count}
 
 -- a source in memory
@@ -16,6 +16,8 @@ pub record SourceState : Type 0 where
   pub taken : ℕ
   -- how many calls failed
   pub faults : ℕ
+  -- whether the last call failed
+  pub failed : Bool
 
 -- a sink in memory
 pub record SinkState : Type 0 where
@@ -31,11 +33,19 @@ pub record SinkState : Type 0 where
   pub calls : ℕ
   -- how many calls failed
   pub faults : ℕ
+  -- whether the last call failed
+  pub failed : Bool
 
--- the bytes given and the failed calls of an adapter
-pub record Counts : Type 0 where
+-- what a source over a reader tells: the bytes given, the failed calls, and whether the last call failed
+pub record SourceCounts : Type 0 where
   pub taken : ℕ
   pub faults : ℕ
+  pub failed : Bool
+
+-- what a sink over a writer tells: the failed calls, and whether the last call failed
+pub record SinkCounts : Type 0 where
+  pub faults : ℕ
+  pub failed : Bool
 
 -- what an adapter tells of its bytes
 abbrev pub untold_bytes : Option (List ℕ)

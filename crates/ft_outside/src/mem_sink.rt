@@ -1,7 +1,7 @@
 //! A sink in memory, whose calls fail where that is asked for.
-ghost use Rattle.std.specs.Prelude.{◌≡◌, ◌≤◌, ◌<◌, ◌+◌, ◌-◌, ◌++◌, ◌↔◌, ◌⊎◌, [], IfOk, OnErr, IsErr, Some, length, min, take, vec_capacity};
+ghost use Rattle.std.specs.Prelude.{◌≡◌, ◌≤◌, ◌<◌, ◌+◌, ◌-◌, ◌++◌, ◌↔◌, ◌⊎◌, [], IfOk, OnOk, OnErr, IsErr, is_err, Some, true, false, length, min, take, vec_capacity};
 ghost use Rattle.ft_outside.specs.InMemory.{SinkState, IsListed, IsFull};
-ghost use Rattle.ft_streams.specs.Streams.{Rose, Appends, raised_count};
+ghost use Rattle.ft_streams.specs.Streams.{Appends, raised_count};
 
 use crate::{Failed, Sink};
 use ft_base::Memory;
@@ -18,6 +18,7 @@ pub struct MemSink {
     fail_at: Vec<u64>,
     calls: u64,
     faults: u64,
+    failed: bool,
 }
 
 impl Model for MemSink {
@@ -33,6 +34,7 @@ impl Model for MemSink {
       fail_at = s.fail_at.items;
       calls = s.calls;
       faults = s.faults;
+      failed = s.failed;
     } };
 
     ghost invariant = { λ s. (length s.bytes.items ≤ s.room) × (s.room ≤ vec_capacity s.bytes) × (0 < s.piece) };
@@ -55,6 +57,7 @@ impl MemSink {
           fail_at = fail_at.items;
           calls = 0;
           faults = 0;
+          failed = false;
         }) }
     {
         Ok(MemSink {
@@ -64,6 +67,7 @@ impl MemSink {
             fail_at,
             calls: 0,
             faults: 0,
+            failed: false,
         })
     }
 
@@ -91,15 +95,18 @@ impl Sink for MemSink {
 
     ghost faults = { λ s. s.faults };
 
+    ghost failed = { λ s. s.failed };
+
     fn write(&mut self, bytes: &[u8]) -> Result<usize, Failed>
         ensures bound { IfOk result (λ n. n ≤ length bytes.now) }
         ensures some { IfOk result (λ n. 0 < length bytes.now → 0 < n) }
         ensures bytes { IfOk result (λ n. Appends (Some self.old.written) (take n bytes.now) (Some self.new.written)) }
 
-        ensures rose { OnErr result (Rose self.old.faults self.new.faults) }
         ensures same { OnErr result (Some self.new.written ≡ Some self.old.written) }
 
-        ensures faults { self.old.faults ≤ self.new.faults }
+        ensures calm { OnOk result (self.new.faults ≡ self.old.faults) }
+        ensures once { OnErr result (self.new.faults ≡ raised_count self.old.faults 1) }
+        ensures last { self.new.failed ≡ is_err result }
 
         // Beyond what each sink promises:
         ensures exactly { IsErr result ↔ (IsListed self.old.fail_at self.old.calls ⊎ IsFull self.old bytes.now) }
@@ -108,16 +115,19 @@ impl Sink for MemSink {
         ensures ok { IfOk result (λ n. self.new ≡ record self.old {
           written = self.old.written ++ take n bytes.now;
           calls = raised_count self.old.calls 1;
+          failed = false;
         }) }
         ensures err { OnErr result (self.new ≡ record self.old {
           calls = raised_count self.old.calls 1;
           faults = raised_count self.old.faults 1;
+          failed = true;
         }) }
         ensures room { length self.new.written ≤ self.new.room }
     {
         self.calls = self.calls.saturating_add(1);
         let full = !bytes.is_empty() && self.bytes.len() == self.room;
-        if full || self.fail_at.contains(&self.calls) {
+        self.failed = full || self.fail_at.contains(&self.calls);
+        if self.failed {
             self.faults = self.faults.saturating_add(1);
             return Err(Failed);
         }

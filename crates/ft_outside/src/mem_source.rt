@@ -1,7 +1,7 @@
 //! A source in memory, whose calls fail where that is asked for.
-ghost use Rattle.std.specs.Prelude.{◌≡◌, ◌≤◌, ◌<◌, ◌-◌, ◌↔◌, [], IfOk, OnErr, IsErr, Some, drop, length, min, take};
+ghost use Rattle.std.specs.Prelude.{◌≡◌, ◌≤◌, ◌<◌, ◌-◌, ◌↔◌, [], IfOk, OnOk, OnErr, IsErr, is_err, Some, true, false, drop, length, min, take};
 ghost use Rattle.ft_outside.specs.InMemory.{SourceState, IsListed};
-ghost use Rattle.ft_streams.specs.Streams.{Rose, Gives, IsAtEnd, raised_count};
+ghost use Rattle.ft_streams.specs.Streams.{Gives, IsAtEnd, raised_count};
 
 use crate::{Failed, Source};
 use std::marker::Model;
@@ -17,6 +17,7 @@ pub struct MemSource {
     calls: u64,
     taken: u64,
     faults: u64,
+    failed: bool,
 }
 
 impl Model for MemSource {
@@ -32,6 +33,7 @@ impl Model for MemSource {
       calls = s.calls;
       taken = s.taken;
       faults = s.faults;
+      failed = s.failed;
     } };
 
     ghost invariant = { λ s. (s.at ≤ length s.bytes.items) × (0 < s.piece) × (s.fail_at.items ≡ [] → s.faults ≡ 0) };
@@ -48,6 +50,7 @@ impl MemSource {
           calls = 0;
           taken = 0;
           faults = 0;
+          failed = false;
         } }
     {
         MemSource {
@@ -58,6 +61,7 @@ impl MemSource {
             calls: 0,
             taken: 0,
             faults: 0,
+            failed: false,
         }
     }
 }
@@ -81,6 +85,8 @@ impl Source for MemSource {
 
     ghost faults = { λ s. s.faults };
 
+    ghost failed = { λ s. s.failed };
+
     #[tactic(auto, using(crate::proofs::Pieces::gives_front))]
     fn read(&mut self, buf: &mut [u8]) -> Result<usize, Failed>
         ensures bound { IfOk result (λ n. n ≤ length buf.new) }
@@ -88,11 +94,13 @@ impl Source for MemSource {
         ensures taken { IfOk result (λ n. self.new.taken ≡ raised_count self.old.taken n) }
         ensures end { IfOk result (λ n. n ≡ 0 → 0 < length buf.old → IsAtEnd (Some self.new.rest)) }
 
-        ensures rose { OnErr result (Rose self.old.faults self.new.faults) }
+        ensures kept { OnErr result (buf.new ≡ buf.old) }
         ensures left { OnErr result (Some self.new.rest ≡ Some self.old.rest) }
         ensures same { OnErr result (self.new.taken ≡ self.old.taken) }
 
-        ensures faults { self.old.faults ≤ self.new.faults }
+        ensures calm { OnOk result (self.new.faults ≡ self.old.faults) }
+        ensures once { OnErr result (self.new.faults ≡ raised_count self.old.faults 1) }
+        ensures last { self.new.failed ≡ is_err result }
 
         // Beyond what each source promises:
         ensures exactly { IsErr result ↔ IsListed self.old.fail_at self.old.calls }
@@ -101,15 +109,18 @@ impl Source for MemSource {
           rest = drop n self.old.rest;
           calls = raised_count self.old.calls 1;
           taken = raised_count self.old.taken n;
+          failed = false;
         }) }
         ensures err { OnErr result (self.new ≡ record self.old {
           calls = raised_count self.old.calls 1;
           faults = raised_count self.old.faults 1;
+          failed = true;
         }) }
         ensures quiet { self.new.fail_at ≡ [] → self.new.faults ≡ 0 }
     {
         self.calls = self.calls.saturating_add(1);
-        if self.fail_at.contains(&self.calls) {
+        self.failed = self.fail_at.contains(&self.calls);
+        if self.failed {
             self.faults = self.faults.saturating_add(1);
             return Err(Failed);
         }

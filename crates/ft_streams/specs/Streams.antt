@@ -1,5 +1,5 @@
 -- What sources and sinks tell.
-use Rattle.std.specs.Prelude.{◌≡◌, ◌<◌, ◌≤◌, ◌+◌, ◌⊎◌, ◌++◌, ℕ, List, [], Option, option_map, min, length, take, IfSome}
+use Rattle.std.specs.Prelude.{◌≡◌, Bool, true, ◌<◌, ◌≤◌, ◌+◌, ◌⊎◌, ◌++◌, ℕ, List, [], Option, option_map, min, length, take, IfSome}
 
 -- where a count stands still: the end of its type
 abbrev pub greatest_count : ℕ
@@ -13,6 +13,14 @@ Rose before after = (before < after) ⊎ (after ≡ greatest_count)
 abbrev pub raised_count : ℕ → ℕ → ℕ
 raised_count n by = min (n + by) greatest_count
 
+-- one call failed, and it was the last: the count of faults before and after, and whether the last call failed
+abbrev pub FailsOnce : ℕ → ℕ → Bool → Type 0
+FailsOnce before after failed = (after ≡ raised_count before 1) × (failed ≡ true)
+
+-- no call failed; or one did, which was the last, and P
+abbrev pub NoFaultUnless : Type 0 → ℕ → ℕ → Bool → Type 0
+NoFaultUnless P before after failed = (after ≡ before) ⊎ (P × FailsOnce before after failed)
+
 -- a count that was raised by so many, maybe in several calls
 abbrev pub CountsOn : ℕ → ℕ → ℕ → Type 0
 CountsOn before by after = (after ≡ before + by) ⊎ (after ≡ greatest_count)
@@ -21,9 +29,9 @@ CountsOn before by after = (after ≡ before + by) ⊎ (after ≡ greatest_count
 abbrev pub Gives : Option (List ℕ) → List ℕ → Option (List ℕ) → Type 0
 Gives before piece after = before ≡ option_map (λ rest. piece ++ rest) after
 
--- a piece was given since, where the bytes are told
-abbrev pub GivesSome : Option (List ℕ) → Option (List ℕ) → Type 0
-GivesSome before after = (piece : List ℕ) × Gives before piece after
+-- so many bytes at most were given since, where they are told
+abbrev pub GivesAtMost : ℕ → Option (List ℕ) → Option (List ℕ) → Type 0
+GivesAtMost most before after = (piece : List ℕ) × (length piece ≤ most) × Gives before piece after
 
 -- no byte is to come, where that is told
 abbrev pub IsAtEnd : Option (List ℕ) → Type 0

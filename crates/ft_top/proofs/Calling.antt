@@ -1,5 +1,5 @@
 -- What is known after the call of a job.
-use Rattle.std.proofs.Common.{◌≡◌, ◌∙◌, sym, ap, refl, subst, ℕ, ◌<◌, ◌≤◌, ◌⊎◌, List, [], length, Option, Some, IfSome, arith, inl, inr}
+use Rattle.std.proofs.Common.{◌≡◌, ◌∙◌, sym, ap, refl, subst, ℕ, ◌<◌, ◌≤◌, ◌+◌, ◌⊎◌, List, [], length, Option, Some, IfSome, arith, inl, inr}
 use Rattle.ft_streams.specs.Streams.{Rose, Appends, AppendsPrefix, IsAtEnd}
 use Rattle.ft_applications_meaning.specs.declared.syntax.Command.{Command}
 use Rattle.ft_applications_meaning.specs.Events.{Event, events}
@@ -73,6 +73,10 @@ too_long (IsCall.of_another r e h (inr p)) five = absurd (omega (arith, p.0, fiv
 too_long (IsCall.of_text s text i e h k w) five = absurd ((excluded _ s i).long (sym k ∙ five))
 too_long (IsCall.of_break k h) five = absurd (omega (arith, k, five))
 too_long (IsCall.of_memory k h) five = absurd (omega (arith, k, five))
+
+-- how much was read
+pub most_of : (words : List (List ℕ)) (j i : Job) (before after : ℕ) → IsAsked words j → IsAsked words i → after ≤ before + limit j + 1 → after ≤ before + limit i + 1
+most_of words j i before after asked asked' h = subst (λ i. after ≤ before + limit i + 1) (one_job words j i asked asked') h
 
 -- memory was refused
 pub no_memory : {j : Job} {left rest : Option (List ℕ)} {taken taken' faults later : ℕ} {before after : Option (List ℕ)} {n : ℕ} → IsCall j left rest taken taken' faults later before after n → n ≡ 17 → IsLeft j left before after

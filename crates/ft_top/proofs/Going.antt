@@ -159,7 +159,7 @@ not_exported left rest taken taken' faults later before after n _ c k w = absurd
 -- the status of a run that ended so
 status_of_ending : (e : Ending) → (s : Status) × IsOfInput job.Export s × (number_of s ≡ ending_status e)
 status_of_ending ending.Done = (status.Done, tt, refl)
-status_of_ending ending.Twice = (status.Twice, tt, refl)
+status_of_ending ending.Twice = (status.Rule, tt, refl)
 
 export_of : (bs text : List ℕ) (items : List Item) (status n : ℕ) → n ≡ status → IsRun bs text items status → IsTextOf is_name_token (encode_utf8_all (file_of items)) items
     → IsExport bs (encode_utf8_all (file_of items)) n

@@ -1,4 +1,5 @@
 pub mod Asking
+pub mod Faulting
 pub mod Inputs
 pub mod Numbers
 pub mod Filing

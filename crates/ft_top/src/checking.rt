@@ -1,12 +1,13 @@
 //! The job `check`.
 
-ghost use Rattle.std.specs.Prelude.{◌≡◌, List, ℕ, IfOk, OnOk, IfErr};
-ghost use Rattle.ft_streams.specs.Streams.{Rose, IsAtEnd};
+ghost use Rattle.std.specs.Prelude.{◌≡◌, ◌≤◌, ◌+◌, List, ℕ, IfOk, OnOk, IfErr, IsErrOf};
+ghost use Rattle.ft_streams.specs.Streams.{Rose, IsAtEnd, NoFaultUnless};
 ghost use Rattle.ft_answers.specs.declared.words.Job.TheVariants as asked;
 ghost use Rattle.ft_base.specs.Names.{is_name_token};
 ghost use Rattle.ft_items.specs.Texts.{IsTextOf};
 ghost use Rattle.ft_verdicts.specs.Verdicts.{IsVerdict};
-ghost use Rattle.ft_answers.specs.Statuses.{IsOfInput, number_of};
+ghost use Rattle.ft_answers.specs.Words.{limit};
+ghost use Rattle.ft_answers.specs.Statuses.{IsFaulty, IsOfInput, number_of};
 ghost use Rattle.ft_top.specs.Calls.{IsCause, IsOfBytes, IsCall};
 
 use crate::reading::read_input;
@@ -45,11 +46,11 @@ fn judge(alloc: Global, bytes: &[u8]) -> Result<Written, Memory>
         Ok(items) => judge_items(alloc, &items),
         Err(FileFault::Form(line)) => Ok(Written {
             text: fault_text(alloc, line, " form\n")?,
-            status: Status::FileFault,
+            status: Status::File,
         }),
         Err(FileFault::Version(line)) => Ok(Written {
             text: fault_text(alloc, line, " version\n")?,
-            status: Status::FileFault,
+            status: Status::File,
         }),
         Err(FileFault::Memory) => Err(Memory),
     }
@@ -62,17 +63,26 @@ fn verdict<I: Source>(alloc: Global, input: &mut I) -> Result<Written, Status>
     ensures end { OnOk result (IsAtEnd (I.left input.new)) }
     ensures cause { IfErr result (λ s. IsCause asked.Check (I.left input.old) (I.left input.new)
         (I.taken input.old) (I.taken input.new) (I.faults input.old) (I.faults input.new) s) }
+    ensures faults { NoFaultUnless (IsErrOf result Status.ReadFault) (I.faults input.old)
+        (I.faults input.new) (I.failed input.new) }
+    ensures most { I.taken input.new ≤ I.taken input.old + limit asked.Check + 1 }
 {
     let bytes = read_input(alloc, Job::Check, input)?;
     judge(alloc, &bytes).map_err(of_memory)
 }
 
-/// Reads a derivation file and writes the verdict on it. The answer is the number of a status.
-pub(crate) fn check<I: Source, O: Sink>(alloc: Global, input: &mut I, output: &mut O) -> u8
+/// Reads a derivation file and writes the verdict on it.
+#[tactic(auto, using(crate::proofs::Faulting::fault_none, crate::proofs::Faulting::fault_ended))]
+pub(crate) fn check<I: Source, O: Sink>(alloc: Global, input: &mut I, output: &mut O) -> Status
     ensures called { IsCall asked.Check (I.left input.old) (I.left input.new) (I.taken input.old)
         (I.taken input.new) (I.faults input.old) (I.faults input.new) (O.written output.old)
-        (O.written output.new) result }
-    ensures rose { result ≡ 4 → Rose (O.faults output.old) (O.faults output.new) }
+        (O.written output.new) (number_of result) }
+    ensures rose { number_of result ≡ 4 → Rose (O.faults output.old) (O.faults output.new) }
+    ensures input { NoFaultUnless (IsFaulty (number_of result)) (I.faults input.old)
+        (I.faults input.new) (I.failed input.new) }
+    ensures output { NoFaultUnless (number_of result ≡ 4) (O.faults output.old)
+        (O.faults output.new) (O.failed output.new) }
+    ensures most { I.taken input.new ≤ I.taken input.old + limit asked.Check + 1 }
 {
     match verdict(alloc, input) {
         Ok(written) => finish(output, written.text.bytes(), written.status),

@@ -1,7 +1,7 @@
 //! The input of a job.
 
-ghost use Rattle.std.specs.Prelude.{◌≡◌, ◌≤◌, length, IfOk, OnOk, IfErr, IfSome};
-ghost use Rattle.ft_streams.specs.Streams.{IsAtEnd};
+ghost use Rattle.std.specs.Prelude.{◌≡◌, ◌≤◌, ◌+◌, length, IfOk, OnOk, IfErr, IsErrOf, IfSome};
+ghost use Rattle.ft_streams.specs.Streams.{IsAtEnd, NoFaultUnless};
 ghost use Rattle.ft_answers.specs.Words.{limit};
 ghost use Rattle.ft_top.specs.Causes.{IsCauseOfReading};
 
@@ -22,6 +22,9 @@ pub(crate) fn read_input<I: Source>(
     ensures end { OnOk result (IsAtEnd (I.left input.new)) }
     ensures cause { IfErr result (λ s. IsCauseOfReading job (I.left input.old) (I.taken input.old)
         (I.taken input.new) (I.faults input.old) (I.faults input.new) s) }
+    ensures faults { NoFaultUnless (IsErrOf result Status.ReadFault) (I.faults input.old)
+        (I.faults input.new) (I.failed input.new) }
+    ensures most { I.taken input.new ≤ I.taken input.old + limit job + 1 }
 {
     read_source(alloc, input, most_bytes(job)).map_err(of_reading)
 }

@@ -1,12 +1,12 @@
 //! The run of a source, and the job `run`.
 
-ghost use Rattle.std.specs.Prelude.{◌≡◌, ◌≤◌, List, length, IfOk, OnOk, IfErr, IsErrOf, IfSome};
-ghost use Rattle.ft_streams.specs.Streams.{Rose, IsAtEnd};
+ghost use Rattle.std.specs.Prelude.{◌≡◌, ◌≤◌, ◌+◌, List, length, IfOk, OnOk, IfErr, IsErrOf, IfSome};
+ghost use Rattle.ft_streams.specs.Streams.{Rose, IsAtEnd, NoFaultUnless};
 ghost use Rattle.ft_applications.specs.declared.fault.Fault.TheVariants as fault;
 ghost use Rattle.ft_run.specs.Running.{ending_status};
 ghost use Rattle.ft_answers.specs.declared.words.Job.TheVariants as asked;
 ghost use Rattle.ft_answers.specs.Words.{limit, ReadsSource};
-ghost use Rattle.ft_answers.specs.Statuses.{IsOfInput, number_of};
+ghost use Rattle.ft_answers.specs.Statuses.{IsFaulty, IsOfInput, number_of};
 ghost use Rattle.ft_top.specs.Calls.{IsRun, IsNotBuilt, ShowsDerivable, IsCause, IsOfBytes, IsCall};
 
 use crate::reading::read_input;
@@ -34,7 +34,7 @@ pub(crate) fn status_for(ending: Ending) -> Status
 {
     match ending {
         Ending::Done => Status::Done,
-        Ending::Twice => Status::Twice,
+        Ending::Twice => Status::Rule,
     }
 }
 
@@ -60,6 +60,9 @@ pub(crate) fn run_input<I: Source>(alloc: Global, job: Job, input: &mut I) -> Re
     ensures end { OnOk result (IsAtEnd (I.left input.new)) }
     ensures cause { IfErr result (λ s. IsCause job (I.left input.old) (I.left input.new)
         (I.taken input.old) (I.taken input.new) (I.faults input.old) (I.faults input.new) s) }
+    ensures faults { NoFaultUnless (IsErrOf result Status.ReadFault) (I.faults input.old)
+        (I.faults input.new) (I.failed input.new) }
+    ensures most { I.taken input.new ≤ I.taken input.old + limit job + 1 }
 {
     let bytes = read_input(alloc, job, input)?;
     run_bytes(alloc, &bytes).map_err(of_running)
@@ -72,6 +75,9 @@ fn transcript<I: Source>(alloc: Global, input: &mut I) -> Result<Written, Status
     ensures end { OnOk result (IsAtEnd (I.left input.new)) }
     ensures cause { IfErr result (λ s. IsCause asked.Run (I.left input.old) (I.left input.new)
         (I.taken input.old) (I.taken input.new) (I.faults input.old) (I.faults input.new) s) }
+    ensures faults { NoFaultUnless (IsErrOf result Status.ReadFault) (I.faults input.old)
+        (I.faults input.new) (I.failed input.new) }
+    ensures most { I.taken input.new ≤ I.taken input.old + limit asked.Run + 1 }
 {
     let ran = run_input(alloc, Job::Run, input)?;
     Ok(Written {
@@ -80,12 +86,18 @@ fn transcript<I: Source>(alloc: Global, input: &mut I) -> Result<Written, Status
     })
 }
 
-/// Reads a source and writes its transcript. The answer is the number of a status.
-pub(crate) fn run<I: Source, O: Sink>(alloc: Global, input: &mut I, output: &mut O) -> u8
+/// Reads a source and writes its transcript.
+#[tactic(auto, using(crate::proofs::Faulting::fault_none, crate::proofs::Faulting::fault_ended))]
+pub(crate) fn run<I: Source, O: Sink>(alloc: Global, input: &mut I, output: &mut O) -> Status
     ensures called { IsCall asked.Run (I.left input.old) (I.left input.new) (I.taken input.old)
         (I.taken input.new) (I.faults input.old) (I.faults input.new) (O.written output.old)
-        (O.written output.new) result }
-    ensures rose { result ≡ 4 → Rose (O.faults output.old) (O.faults output.new) }
+        (O.written output.new) (number_of result) }
+    ensures rose { number_of result ≡ 4 → Rose (O.faults output.old) (O.faults output.new) }
+    ensures input { NoFaultUnless (IsFaulty (number_of result)) (I.faults input.old)
+        (I.faults input.new) (I.failed input.new) }
+    ensures output { NoFaultUnless (number_of result ≡ 4) (O.faults output.old)
+        (O.faults output.new) (O.failed output.new) }
+    ensures most { I.taken input.new ≤ I.taken input.old + limit asked.Run + 1 }
 {
     match transcript(alloc, input) {
         Ok(written) => finish(output, written.text.bytes(), written.status),

@@ -21,9 +21,9 @@ pub(crate) fn number(status: Status) -> u8
         Status::WriteFault => 4,
         Status::TooLong => 5,
         Status::Syntax => 7,
-        Status::Twice => 9,
+        Status::Rule => 9,
         Status::Rejected => 15,
-        Status::FileFault => 16,
+        Status::File => 16,
         Status::Memory => 17,
     }
 }
@@ -39,9 +39,9 @@ pub(crate) fn line(status: Status) -> &'static [u8]
         Status::Syntax => b"error not yet\n",
         Status::Done
         | Status::WriteFault
-        | Status::Twice
+        | Status::Rule
         | Status::Rejected
-        | Status::FileFault
+        | Status::File
         | Status::Memory => b"",
     }
 }

@@ -42,7 +42,7 @@ loop-i-preserved g c =
       bytes = written_on w w1 (O.written c.write_full.new.sink) (encode_utf8_all (first_lines (take (suc i) items))) page c.in_ok-page.page
           (item_on_page w w1 items i h.0 c.loop-i.page _ page c.loop-i.invariant.bytes h.1 h.2.1 c.in_ok-push_str-2.ensures.ok) c.in_ok-page.ensures.ok;
       fits = fits_next items i h.0 h.1 c.loop-i.invariant.fits h.2.0;
-      faults = search rules;
+      calm = search rules;
     })
 
 pub returns-in_err-write_all-clause-front : goal.returns-in_err-write_all-clause-front

@@ -1,4 +1,4 @@
-use Rattle.std.proofs.Common.{◌≤◌, take, encode_utf8_all}
+use Rattle.std.proofs.Common.{◌≡◌, take, encode_utf8_all}
 use Rattle.ft_base.specs.Names.{is_name_token}
 use Rattle.ft_items.specs.Texts.{ItemsFit}
 use Rattle.ft_export.specs.Written.{WritesUpTo}
@@ -10,5 +10,5 @@ invariant-loop-i g l =
     let O = g.O.Sink in record {
       bytes : WritesUpTo (O.written l.fn.sink) (encode_utf8_all (first_lines (take l.i l.k.items))) l.page (O.written l.sink);
       fits : ItemsFit is_name_token (take l.i l.k.items);
-      faults : O.faults l.fn.sink ≤ O.faults l.sink;
+      calm : O.faults l.sink ≡ O.faults l.fn.sink;
     }

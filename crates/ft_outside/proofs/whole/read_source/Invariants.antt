@@ -1,4 +1,4 @@
-use Rattle.std.proofs.Common.{◌≤◌, ◌-◌, ◌+◌, length}
+use Rattle.std.proofs.Common.{◌≡◌, ◌≤◌, ◌-◌, ◌+◌, length}
 use Rattle.ft_streams.specs.Streams.{Gives, CountsOn}
 use Rattle.ft_outside.proofs.whole.read_source.Given as goal
 
@@ -8,7 +8,8 @@ invariant-reading g l =
       short : length l.out.items ≤ l.max;
       bytes : Gives (I.left l.fn.src) l.out.items (I.left l.src);
       taken : CountsOn (I.taken l.fn.src) (length l.out.items) (I.taken l.src);
-      faults : I.faults l.fn.src ≤ I.faults l.src;
+      calm : I.faults l.src ≡ I.faults l.fn.src;
+      most : I.taken l.src ≤ I.taken l.fn.src + length l.out.items;
     }
 
 abbrev pub decreases-reading : goal.decreases-reading

@@ -6,5 +6,5 @@ pub loop-at-preserved : goal.loop-at-preserved
 loop-at-preserved g c = record {
   within = search rules;
   bytes = appends_from _ _ _ c.args.bytes.now c.loop-at.at c.in_ok-at.field-0 c.loop-at.invariant.bytes c.in_ok-at.ensures.bytes;
-  faults = search rules;
+  calm = search rules;
 }

@@ -1,4 +1,4 @@
-use Rattle.std.proofs.Common.{◌≤◌, ◌-◌, length, take}
+use Rattle.std.proofs.Common.{◌≡◌, ◌≤◌, ◌-◌, length, take}
 use Rattle.ft_streams.specs.Streams.{Appends}
 use Rattle.ft_outside.proofs.whole.write_all.Given as goal
 
@@ -7,7 +7,7 @@ invariant-loop-at g l =
     let O = g.O.Sink in record {
       within : l.at ≤ length l.bytes;
       bytes : Appends (O.written l.fn.sink) (take l.at l.bytes) (O.written l.sink);
-      faults : O.faults l.fn.sink ≤ O.faults l.sink;
+      calm : O.faults l.sink ≡ O.faults l.fn.sink;
     }
 
 abbrev pub decreases-loop-at : goal.decreases-loop-at

@@ -4,3 +4,4 @@ pub mod Members
 pub mod Staying
 pub mod Meant
 pub mod Readers
+pub mod Layers

@@ -3,3 +3,4 @@ pub mod Code
 pub mod Rows
 pub mod Names
 pub mod Named
+pub mod Scopes

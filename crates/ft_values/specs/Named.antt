@@ -1,27 +1,11 @@
--- What is seen of the named values at hand.
-use Rattle.std.specs.Prelude.{ℕ, List, [], ◌∷◌, ◌++◌}
+-- What named values are over a list of items.
+use Rattle.std.specs.Prelude.{ℕ, List, [], ◌∷◌}
 use Rattle.ft_items.specs.Item.{Name}
 use Rattle.ft_kernel.specs.State.{State}
 use Rattle.ft_meaning.specs.Values as meaning
 use Rattle.ft_values.specs.Kept.{Kept, value_of, IsOver}
 use Rattle.ft_values.specs.Rows.{kept_in, Below}
 use Rattle.ft_values.specs.declared.values.Value.{Value}
-
--- the names within the command and those of the commands before, the last one first
-pub record Named : Type 0 where
-  pub locals : List (Name × Value)
-  pub top : List (Name × Value)
-
--- all names, the innermost first
-abbrev pub all_named : Named → List (Name × Value)
-all_named e = e.locals ++ e.top
-
--- with one more name within the command, or for the commands after
-abbrev pub with_local : Name → Value → Named → Named
-with_local n v e = record e { locals = (n, v) ∷ e.locals }
-
-abbrev pub with_top : Name → Value → Named → Named
-with_top n v e = record e { top = (n, v) ∷ e.top }
 
 -- the value of a known one, over a list of items and the values of a table
 abbrev pub value_in : State → List Kept → Value → meaning.Value

@@ -72,19 +72,3 @@ impl Names {
         Ok(())
     }
 }
-
-/// The value of the last entry of the name. It takes no memory.
-#[tactic(auto, using(crate::proofs::Listed::last_found, crate::proofs::Listed::last_other))]
-pub fn last_named(entries: &[Entry], name: &Name) -> Option<Value>
-    ensures { result ≡ named (listed entries.now) name.now }
-{
-    let mut count = entries.len();
-    'searching: while count > 0 {
-        let last = &entries[count - 1];
-        if last.name == *name {
-            return Some(last.value);
-        }
-        count -= 1;
-    }
-    None
-}

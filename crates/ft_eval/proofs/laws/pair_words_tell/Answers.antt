@@ -1,5 +1,0 @@
-use Rattle.ft_eval.proofs.WordsTold.{trans_tells, widen_tells, convert_equation_tells, convert_tells}
-use Rattle.ft_eval.proofs.laws.pair_words_tell.Goals as goal
-
-pub returns : goal.returns
-returns c = record { trans = trans_tells; widen = widen_tells; convert_equation = convert_equation_tells; convert = convert_tells }

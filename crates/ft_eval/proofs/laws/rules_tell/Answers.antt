@@ -1,5 +1,0 @@
-use Rattle.ft_eval.proofs.RulesTold.{conclusion_tells, premise_tells}
-use Rattle.ft_eval.proofs.laws.rules_tell.Goals as goal
-
-pub returns : goal.returns
-returns c = record { conclusion = conclusion_tells; premise = premise_tells }

@@ -1,0 +1,41 @@
+//! How an evaluation ends without a value.
+
+use ft_base::{Memory, Name};
+use ft_telling::Halt;
+use ft_values::Value;
+
+/// An operation that is performed, with its argument, at a place.
+#[derive(Debug, Drop)]
+pub struct Operation {
+    pub name: Name,
+    pub argument: Value,
+    pub at: u64,
+}
+
+/// How an evaluation ends without a value: it performs an operation, or the run halts.
+#[derive(Debug, Drop)]
+pub enum End {
+    Performs(Operation),
+    Halts(Halt),
+}
+
+impl From<Halt> for End {
+    ghost use Rattle.std.specs.Prelude.{◌≡◌};
+    ghost use Rattle.ft_running.specs.declared.ending.End.TheVariants.{Halts};
+
+    ghost from_gives = { λ h e. e ≡ Halts h };
+
+    fn from(halt: Halt) -> End {
+        End::Halts(halt)
+    }
+}
+
+impl From<Memory> for End {
+    ghost use Rattle.ft_running.specs.Ends.{IsMemory};
+
+    ghost from_gives = { λ _ e. IsMemory e };
+
+    fn from(memory: Memory) -> End {
+        End::Halts(Halt::from(memory))
+    }
+}

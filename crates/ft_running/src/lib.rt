@@ -1,0 +1,18 @@
+//! The state of an evaluation, and patterns against values.
+#![tactic(auto)]
+
+mod applications;
+mod ending;
+mod laws;
+mod literals;
+mod matching;
+mod names;
+mod state;
+mod values;
+
+pub use ending::{End, Operation};
+pub use laws::{
+    calls_go_further, goes_further, judgements_are_read, lists_go_further, scopes_stay_further,
+    values_stay_further,
+};
+pub use state::State;

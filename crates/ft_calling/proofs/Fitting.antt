@@ -1,11 +1,10 @@
 -- Whether a judgement fits a boundary.
-use Rattle.std.proofs.Common.{◌≡◌, ◌∙◌, ℕ, Bool, true, false, Some, None, List, [], ◌∷◌, length, ◌==◌, ap, ap₂, refl, sym, subst}
-use Rattle.std.specs.Prelude.{⊤, Result, Ok, Err, is_ok, option_map}
-use Rattle.std.proofs.lemmas.Option.{same_Some}
+use Rattle.std.proofs.Common.{◌≡◌, ◌∙◌, ℕ, Bool, true, false, Some, None, List, [], ◌∷◌, length, ◌==◌, ap, ap₂, refl, sym}
+use Rattle.std.specs.Prelude.{⊤, Result, Ok, Err, is_ok}
 use Rattle.ft_common.proofs.Options.{none_some}
 use Rattle.ft_theory.specs.Expressions.{Expression}
-use Rattle.ft_theory.specs.Statements.{Statement, plain, fill}
-use Rattle.ft_items.specs.Equal.{is_thesis, head, fits as statement_fits}
+use Rattle.ft_theory.specs.Statements.{Statement, plain}
+use Rattle.ft_items.specs.Equal.{is_thesis, fits as statement_fits}
 use Rattle.ft_items.specs.Store.{Assertion}
 use Rattle.ft_sound.proofs.EqualLemmas.{fits_true}
 use Rattle.ft_reference.specs.Refusals.{first_refusal}

@@ -1,7 +1,7 @@
 -- What a call leaves.
 use Rattle.std.proofs.Common.{◌≡◌, ◌∙◌, ℕ, List, [], ◌∷◌, ◌++◌, ap, refl, sym, append-nil, IfOk, OnErr}
 use Rattle.std.specs.Prelude.{Result, Ok, Err}
-use Rattle.ft_items.specs.Item.{Stated, Name, Item, variable, metavariable, rule, entry, shown}
+use Rattle.ft_items.specs.Item.{Stated, Item, variable, metavariable, rule, entry, shown}
 use Rattle.ft_items.specs.Store.{Assertion, variables_in, rules_in, declared_by}
 use Rattle.ft_items.proofs.Lists.{declared_last}
 use Rattle.ft_judge.specs.declared.fault.Fault.{Fault}

@@ -1,6 +1,6 @@
 -- Rules, by their names and by what their calls answer.
 use Rattle.std.proofs.Common.{◌≡◌, ◌∙◌, ◌<◌, ℕ, zero, suc, Bool, true, false, cond, Option, Some, None, List, [], ◌∷◌, ◌++◌, length, ap, ap₂, refl, sym, subst, arith, IfOk, IfSome, option_map, option_and_then}
-use Rattle.std.specs.Prelude.{Result, Ok, Err}
+use Rattle.std.specs.Prelude.{Result}
 use Rattle.std.proofs.lemmas.List.{length-map}
 use Rattle.std.proofs.lemmas.Option.{same_Some}
 use Rattle.ft_common.proofs.Options.{some_none}
@@ -8,13 +8,11 @@ use Rattle.ft_theory.specs.Rules.{Rule}
 use Rattle.ft_theory.specs.Rules as theory
 use Rattle.ft_laws.proofs.Admissible.{rule_before}
 use Rattle.ft_items.specs.Item.{Name, Item, variable, metavariable, rule, entry, shown, by_rule, by_inst, by_cong}
-use Rattle.ft_items.specs.Store.{Assertion, Declared, Declarations, Store, Resolved, empty_store, store_of, add, add_all, add_rule, add_variable, add_metavariable, declared_by, declared_rule, each, entry_named, metavariable_named, rule_named, rules_in, with_two, with_three, ruled, nth, entries_in}
+use Rattle.ft_items.specs.Store.{Assertion, Declared, Declarations, Store, empty_store, store_of, add, add_all, add_rule, add_variable, add_metavariable, declared_by, declared_rule, each, entry_named, metavariable_named, rule_named, rules_in, with_three, ruled, nth, entries_in}
 use Rattle.ft_items.specs.Good.{Good, equal_names}
 use Rattle.ft_items.proofs.Lists.{store_is, store_append}
 use Rattle.ft_reference.specs.Nucleus as reference
-use Rattle.ft_base.specs.Budget.{Budget}
-use Rattle.ft_meaning.specs.Names.{number_of, rule_of_name}
-use Rattle.ft_meaning.specs.Values as meaning
+use Rattle.ft_meaning.specs.Names.{number_of}
 use Rattle.ft_meaning.specs.Values.{nucleus, the, the_rule}
 use Rattle.ft_meaning.specs.Forms.{judged}
 use Rattle.ft_judge.specs.declared.fault.Fault.{Fault}

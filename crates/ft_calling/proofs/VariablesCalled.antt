@@ -1,25 +1,24 @@
 -- Variables, by what their calls answer.
-use Rattle.std.proofs.Common.{◌≡◌, ◌∙◌, ◌+◌, ◌≤◌, ℕ, Some, List, [], ◌∷◌, ◌++◌, ap, refl, sym, subst, arith, IfOk, OnErr, append-nil, option_map}
+use Rattle.std.proofs.Common.{◌≡◌, ◌∙◌, ◌+◌, ◌≤◌, ℕ, List, [], ◌∷◌, ◌++◌, ap, refl, sym, subst, arith, IfOk, OnErr, append-nil, option_map}
 use Rattle.std.specs.Prelude.{Result, Ok, Err}
 use Rattle.ft_items.specs.Item.{Name, variable, by_var, by_abs, by_subst}
-use Rattle.ft_items.specs.Store.{Assertion, Annotation, Resolved, Store, store_of, declared_by, entry_named, variable_named, resolve, with_one, with_two, variables_in}
+use Rattle.ft_items.specs.Store.{with_one, variables_in}
 use Rattle.ft_items.specs.Good.{Good}
 use Rattle.ft_reference.specs.Nucleus as reference
-use Rattle.ft_theory.specs.Rules.{look_up}
 use Rattle.ft_syntax.specs.Laws.{extends_same}
 use Rattle.ft_syntax.specs.Table.{Extends}
 use Rattle.ft_base.specs.Budget.{Budget}
 use Rattle.ft_meaning.specs.Values as meaning
 use Rattle.ft_meaning.specs.Values.{after, declare, spend, nucleus, judgement, boundary}
-use Rattle.ft_meaning.specs.Forms.{make_variable, abstract_value, substitute_value, judged, bounded}
+use Rattle.ft_meaning.specs.Forms.{make_variable, abstract_value, substitute_value, bounded}
 use Rattle.ft_reference.specs.Declare.{new_variable}
 use Rattle.ft_judge.specs.declared.fault.Fault.{Fault}
 use Rattle.ft_judge.specs.declared.fault.Fault.TheVariants.{Refused, Memory}
-use Rattle.ft_kernel.specs.State.{State, next_number, entry_at, IsThesisOf, IsBoundaryOf, IsVariableOf}
+use Rattle.ft_kernel.specs.State.{State, next_number, IsThesisOf, IsBoundaryOf, IsVariableOf}
 use Rattle.ft_calls.specs.Answers.{Answers}
 use Rattle.ft_calls.specs.Declaring.{DeclaresVariable}
 use Rattle.ft_calls.proofs.Answering.{resolves_two}
-use Rattle.ft_values.specs.Kept.{stated, stated_at, GoesOn}
+use Rattle.ft_values.specs.Kept.{stated, stated_at}
 use Rattle.ft_telling.specs.declared.halt.Halt.{Halt}
 use Rattle.ft_telling.specs.Telling.{state_of, halted_at, variable_at, annotation_or, HaltsSo, TellsBoundary, TellsStatement}
 use Rattle.ft_telling.proofs.Calls.{tells_two, tells_boundary, tells_statement}

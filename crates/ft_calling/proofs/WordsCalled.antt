@@ -16,7 +16,6 @@ use Rattle.ft_judge.specs.declared.fault.Fault.{Fault}
 use Rattle.ft_kernel.specs.State.{State, IsThesisOf, IsBoundaryOf}
 use Rattle.ft_calls.specs.Answers.{Answers}
 use Rattle.ft_nucleus.specs.Sides.{side_step}
-use Rattle.ft_nucleus.specs.declared.parts.Which.{Which}
 use Rattle.ft_nucleus.specs.declared.parts.Which.TheVariants as which
 use Rattle.ft_values.specs.Kept.{stated_at}
 use Rattle.ft_telling.specs.declared.halt.Halt.{Halt}

@@ -1,5 +1,5 @@
 -- What a call of the nucleus, as the evaluator makes it, tells of a run over a kernel's list.
-use Rattle.std.specs.Prelude.{ℕ, ◌≡◌, ◌<◌, ◌≤◌, Option, Some, None, List, [], Result, Ok, Err}
+use Rattle.std.specs.Prelude.{ℕ, ◌≡◌, ◌<◌, ◌≤◌, Option, Some, None, [], Result, Ok, Err}
 use Rattle.std.specs.Prelude.{IfOk, OnErr, length}
 use Rattle.ft_theory.specs.Rules.{Rule}
 use Rattle.ft_theory.specs.Rules as theory

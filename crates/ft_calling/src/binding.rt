@@ -32,6 +32,7 @@ pub fn new_variable(
         result k.new units.new }
     ensures used { OnOk result (units.new.used ≡ units.old.used + 1) }
     ensures more { units.old.used ≤ units.new.used }
+    ensures total { units.new.total ≡ units.old.total }
 {
     let _terms = k.terms();
     let number = units.used();

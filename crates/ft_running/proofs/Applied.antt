@@ -1,33 +1,30 @@
 -- Applications, their symbols and their arguments.
-use Rattle.std.proofs.Common.{◌≡◌, ◌≢◌, ◌∙◌, ◌+◌, ◌<◌, sym, ap, ap₂, refl, subst, ℕ, zero, suc, List, [], ◌∷◌, length, map, get_or, drop, drop-cons, add-one, Some, None, Bool, true, false, cond, nat_eq, Option, if◌then◌else◌, arith}
+use Rattle.std.proofs.Common.{◌≡◌, ◌∙◌, ◌+◌, ◌<◌, sym, ap, ap₂, refl, subst, ℕ, zero, suc, List, [], ◌∷◌, length, map, get_or, drop, drop-cons, add-one, Some, None, Bool, true, false, cond, nat_eq, Option, if◌then◌else◌, arith}
 use Rattle.std.specs.Prelude.{Result, Ok, Err, option_map, option_and_then, IfSome}
 use Rattle.std.specs.Bool.{then_some}
 use Rattle.std.proofs.lemmas.Option.{same_Some, none-some}
 use Rattle.std.proofs.lemmas.List.{length-map}
 use Rattle.ft_common.proofs.Results.{ok_ok, err_ok}
 use Rattle.ft_theory.specs.Expressions.{Expression, bound, free, symbol, meta}
-use Rattle.ft_theory.specs.Rules.{Rule, rule_at}
-use Rattle.ft_theory.specs.Statements.{is_type, has_type, equal_types, equal_terms, type_goal, term_goal, type_equation_goal, term_equation_goal, Statement, plain, abstracted}
+use Rattle.ft_theory.specs.Rules.{Rule}
+use Rattle.ft_theory.specs.Statements.{is_type, has_type, Statement, plain, abstracted}
 use Rattle.ft_base.specs.Budget.{Budget}
 use Rattle.ft_items.specs.Item.{Name, Item, by_arg}
 use Rattle.ft_items.specs.Equal.{is_plain}
 use Rattle.ft_items.specs.Good.{Good, equal_names}
 use Rattle.ft_items.specs.Rows.{when}
-use Rattle.ft_items.specs.Store.{Assertion, Declarations, declared_by, rule_named, rules_in, with_one}
+use Rattle.ft_items.specs.Store.{Assertion, declared_by, rule_named, rules_in, with_one}
 use Rattle.ft_items.proofs.Lists.{store_is}
-use Rattle.ft_reference.specs.Nucleus as reference
 use Rattle.ft_grammar.specs.declared.syntax.Named.{Named}
 use Rattle.ft_grammar.specs.declared.syntax.Pattern.{Pattern as AnyPattern}
 use Rattle.ft_judge.specs.declared.fault.Fault.{Fault}
-use Rattle.ft_judge.specs.declared.fault.Fault.TheVariants.{Refused, Memory}
 use Rattle.ft_judge.specs.Meaning.{FormBelow}
 use Rattle.ft_judge.specs.declared.judgement.Form.{Form}
 use Rattle.ft_judge.specs.declared.judgement.Form.TheVariants as form
 use Rattle.ft_syntax.specs.Table.{tree}
 use Rattle.ft_syntax.specs.Arguments.{node_of}
-use Rattle.ft_syntax.specs.declared.syntax.Node.{Node}
 use Rattle.ft_syntax.specs.declared.syntax.Node.TheVariants as node
-use Rattle.ft_kernel.specs.State.{State, entry_at, statement_at, IsThesisOf, place_of_name, rule_names}
+use Rattle.ft_kernel.specs.State.{State, statement_at, IsThesisOf, place_of_name, rule_names}
 use Rattle.ft_apply.specs.Named.{rule_of}
 use Rattle.ft_apply.proofs.RuleLines.{rule_resolved}
 use Rattle.ft_calls.specs.Answers.{Answers}
@@ -36,7 +33,7 @@ use Rattle.ft_calls.proofs.Answering.{entry_in}
 use Rattle.ft_meaning.specs.Matching.{matches, match_arguments, ◌and_also◌, if_found, is_applied}
 use Rattle.ft_meaning.specs.Names.{rule_of_name, number_of}
 use Rattle.ft_meaning.specs.Trees.{Pattern, pattern, Patterns, patterns, symbol_pattern, and_pattern}
-use Rattle.ft_meaning.specs.Values.{Value, judgement, boundary, unit, truth, pair, nil, cons, none, some, Environment, State as Running, Outcome, Run, End, halts, stuck, after, pure, the, ◌>>=◌}
+use Rattle.ft_meaning.specs.Values.{Value, judgement, boundary, unit, truth, pair, nil, cons, none, some, Environment, State as Running, Outcome, Run, End, halts, stuck, after, pure, the}
 use Rattle.ft_telling.specs.Telling.{halted_at, TellsStatement, state_of}
 use Rattle.ft_telling.proofs.Calls.{tells_statement}
 use Rattle.ft_telling.specs.declared.halt.Halt.{Halt}
@@ -44,7 +41,7 @@ use Rattle.ft_telling.specs.declared.halt.Why.TheVariants as why
 use Rattle.ft_values.specs.Kept.{stated, stated_at}
 use Rattle.ft_values.specs.declared.scopes.Scope.{Scope}
 use Rattle.ft_values.specs.declared.values.Value.{Value as AnyValue}
-use Rattle.ft_running.specs.Evaluation.{Evaluation, run_of, value_over, IsValueOf, environment_of, IsScopeIn, IsEvaluation, GoesFurther}
+use Rattle.ft_running.specs.Evaluation.{Evaluation, run_of, value_over, environment_of, IsScopeIn, IsEvaluation, GoesFurther}
 use Rattle.ft_running.specs.Matching.{symbol_applied, argument_of, matches_argument, is_symbol, head_in}
 use Rattle.ft_running.specs.Readers.{judgement_in, stated_in}
 use Rattle.ft_running.specs.Telling.{TellsMatch, TellsApplied, TellsArgument}

@@ -1,15 +1,14 @@
 -- States that go further.
-use Rattle.std.proofs.Common.{◌≡◌, ◌≤◌, ◌<◌, ◌∙◌, ◌++◌, sym, ap, ap₂, refl, subst, ℕ, zero, suc, List, [], ◌∷◌, length, arith, append-nil, append_assoc}
+use Rattle.std.proofs.Common.{◌≡◌, ◌≤◌, ◌∙◌, ◌++◌, sym, ap, ap₂, refl, subst, ℕ, zero, suc, List, [], ◌∷◌, length, arith, append-nil, append_assoc}
 use Rattle.std.specs.Prelude.{slice_index_or, Result, Ok, Err}
 use Rattle.std.proofs.lemmas.List.{length-append}
 use Rattle.ft_base.specs.Budget.{Budget}
 use Rattle.ft_items.specs.Item.{Name, Item, Stated, variable, metavariable, rule, entry, shown}
-use Rattle.ft_items.specs.Store.{Assertion, variables_in}
+use Rattle.ft_items.specs.Store.{variables_in}
 use Rattle.ft_judge.specs.declared.fault.Fault.{Fault}
 use Rattle.ft_judge.specs.declared.fault.Fault.TheVariants.{Refused, Memory}
 use Rattle.ft_kernel.specs.State.{State, next_number, IsThesisOf, IsBoundaryOf}
 use Rattle.ft_calls.specs.Answers.{Answers}
-use Rattle.ft_meaning.specs.Values as meaning
 use Rattle.ft_telling.proofs.Calls.{goes_on}
 use Rattle.ft_values.specs.declared.scopes.Scope.{Scope}
 use Rattle.ft_values.specs.declared.scopes.Scope.TheVariants as scope

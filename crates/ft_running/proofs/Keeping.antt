@@ -1,16 +1,15 @@
 -- States with one more value, or with one more name.
-use Rattle.std.proofs.Common.{◌≡◌, ◌∙◌, ◌++◌, sym, ap, ap₂, refl, subst, ℕ, List, [], ◌∷◌, length}
+use Rattle.std.proofs.Common.{◌≡◌, ◌++◌, sym, ap, subst, List, [], ◌∷◌}
 use Rattle.std.specs.Prelude.{Result, Ok, Err, IfOk, OnOk, OnErr}
 use Rattle.ft_items.specs.Item.{Name}
 use Rattle.ft_kernel.specs.State.{State}
-use Rattle.ft_meaning.specs.Values as meaning
 use Rattle.ft_values.specs.declared.scopes.Scope.{Scope}
 use Rattle.ft_values.specs.declared.values.Value.{Value}
 use Rattle.ft_values.specs.Kept.{Kept, value_of, IsOver}
 use Rattle.ft_values.specs.Named.{value_in, environment_in}
 use Rattle.ft_values.specs.Rows.{kept_in}
 use Rattle.ft_values.specs.Scopes.{names_in}
-use Rattle.ft_running.specs.Evaluation.{Evaluation, IsValueOf, value_over, IsScopeIn, names_over, environment_of, IsEvaluation, GoesFurther, with_kept, with_row, with_top}
+use Rattle.ft_running.specs.Evaluation.{Evaluation, IsValueOf, value_over, IsScopeIn, environment_of, IsEvaluation, GoesFurther, with_kept, with_row, with_top}
 use Rattle.ft_running.proofs.Further.{kept_evaluation, kept_goes, row_evaluation, row_goes, top_evaluation, further_same}
 
 -- ---- one more value, or memory was refused

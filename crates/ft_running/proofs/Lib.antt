@@ -4,3 +4,10 @@ pub mod Matched
 pub mod Applied
 pub mod Told
 pub mod Keeping
+pub mod Declared
+pub mod Ended
+pub mod Coerce
+pub mod Called
+pub mod AtValues
+pub mod AtPairs
+pub mod Argued

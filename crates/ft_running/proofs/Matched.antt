@@ -1,27 +1,22 @@
 -- Patterns against values, as the meaning has them.
-use Rattle.std.proofs.Common.{◌≡◌, ◌≢◌, ◌∙◌, ◌+◌, ◌<◌, sym, ap, ap₂, refl, subst, ℕ, suc, List, [], ◌∷◌, length, map, get_or, drop, drop-cons, add-one, Some, None, Bool, true, false, cond, Option, if◌then◌else◌}
-use Rattle.std.specs.Prelude.{Result, Ok, Err, option_map}
+use Rattle.std.proofs.Common.{◌≡◌, ◌∙◌, sym, ap, ap₂, refl, subst, ℕ, ◌∷◌, Some, None, Bool, true, false, cond, Option, if◌then◌else◌}
+use Rattle.std.specs.Prelude.{Result, Ok, Err}
 use Rattle.std.proofs.lemmas.Option.{same_Some}
 use Rattle.ft_items.specs.Rows.{when}
 use Rattle.ft_items.specs.Good.{same_truth}
-use Rattle.ft_items.specs.Store.{Assertion}
-use Rattle.ft_grammar.specs.declared.syntax.Named.{Named}
-use Rattle.ft_grammar.specs.declared.syntax.Pattern.{Pattern as AnyPattern}
-use Rattle.ft_grammar.specs.declared.syntax.Pattern.TheVariants as any
 use Rattle.ft_items.specs.Item.{Name}
-use Rattle.ft_meaning.specs.Matching.{matches, match_arguments, ◌and_also◌, if_found, is_applied}
-use Rattle.ft_meaning.specs.Names.{rule_of_name}
-use Rattle.ft_meaning.specs.Trees.{Pattern, pattern, Patterns, patterns, cons_pattern, some_pattern, symbol_pattern, name_pattern, wildcard, truth_pattern, unit_pattern, none_pattern, nil_pattern, pair_pattern, and_pattern}
-use Rattle.ft_meaning.specs.Values.{Value, judgement, boundary, unit, truth, pair, nil, cons, none, some, Environment, State as Running, Outcome, Run, End, halts, stuck, after, pure, the, ◌>>=◌}
+use Rattle.ft_meaning.specs.Matching.{matches, ◌and_also◌, if_found}
+use Rattle.ft_meaning.specs.Trees.{Pattern, cons_pattern, some_pattern, name_pattern, truth_pattern, unit_pattern, none_pattern, nil_pattern, pair_pattern}
+use Rattle.ft_meaning.specs.Values.{Value, judgement, boundary, unit, truth, pair, nil, cons, none, some, Environment, State as Running, Outcome, Run, halts, stuck, after, pure}
 use Rattle.ft_telling.specs.declared.halt.Halt.{Halt}
 use Rattle.ft_telling.specs.declared.halt.Why.TheVariants as why
 use Rattle.ft_values.specs.declared.scopes.Scope.{Scope}
 use Rattle.ft_values.specs.declared.values.Value.{Value as AnyValue}
 use Rattle.ft_running.specs.Evaluation.{Evaluation, run_of, value_over, IsValueOf, environment_of, IsScopeIn, IsEvaluation, GoesFurther}
-use Rattle.ft_running.specs.Matching.{no_member, nothing_held, symbol_applied, argument_of, matches_argument}
+use Rattle.ft_running.specs.Matching.{no_member, nothing_held}
 use Rattle.ft_running.specs.Readers.{truth_in, is_unit, is_nil, is_none, pair_in, list_in, option_in}
-use Rattle.ft_running.specs.Telling.{TellsMatch, found_in, IsFoundIn, TellsArgument}
-use Rattle.ft_running.proofs.Further.{below_further, means_further}
+use Rattle.ft_running.specs.Telling.{TellsMatch, found_in, IsFoundIn}
+use Rattle.ft_running.proofs.Further.{means_further}
 
 -- ---- what is found where a value is of the kind
 

@@ -1,5 +1,5 @@
 -- What is read of values over a list.
-use Rattle.std.proofs.Common.{◌≡◌, ◌∙◌, ◌++◌, sym, ap, ap₂, refl, subst, ℕ, List, [], ◌∷◌, length, Some, None, Bool, true, false, cond, Option}
+use Rattle.std.proofs.Common.{◌≡◌, ◌∙◌, ◌++◌, sym, ap, refl, subst, ℕ, List, [], ◌∷◌, Some, None, Bool, true, false, cond, Option}
 use Rattle.std.specs.Prelude.{option_map, map, IfSome}
 use Rattle.std.proofs.lemmas.Option.{none-some, same_Some}
 use Rattle.ft_items.specs.Item.{Name}

@@ -1,9 +1,7 @@
 -- Patterns as they are written, against values.
-use Rattle.std.proofs.Common.{◌≡◌, ◌≢◌, ◌∙◌, sym, ap, subst, refl, ℕ, List, map, Some, None, true, false, Option}
-use Rattle.std.specs.Prelude.{Result, Ok, Err, option_map}
+use Rattle.std.proofs.Common.{◌≡◌, ◌∙◌, sym, ap, subst, refl, ℕ, List, map, Some, None, true, false, Option}
+use Rattle.std.specs.Prelude.{Result, Ok, Err}
 use Rattle.ft_items.specs.Item.{Name}
-use Rattle.ft_items.specs.Store.{Assertion}
-use Rattle.ft_kernel.specs.State.{IsThesisOf}
 use Rattle.ft_grammar.specs.declared.syntax.Named.{Named}
 use Rattle.ft_grammar.specs.declared.syntax.Pattern.{Pattern as AnyPattern}
 use Rattle.ft_grammar.specs.declared.syntax.Pattern.TheVariants as any

@@ -1,17 +1,15 @@
 -- What holds of states that go further, as the laws state it.
-use Rattle.std.specs.Prelude.{ℕ, ◌≡◌, ◌≤◌, Result, Ok, Some, List, [], length}
-use Rattle.ft_items.specs.Item.{Name, Stated}
-use Rattle.ft_items.specs.Store.{Assertion, variables_in}
+use Rattle.std.specs.Prelude.{ℕ, ◌≡◌, ◌≤◌, Result}
+use Rattle.ft_items.specs.Item.{Stated}
+use Rattle.ft_items.specs.Store.{variables_in}
 use Rattle.ft_base.specs.Budget.{Budget}
 use Rattle.ft_judge.specs.declared.fault.Fault.{Fault}
 use Rattle.ft_kernel.specs.State.{State, next_number, IsThesisOf, IsBoundaryOf}
-use Rattle.ft_calls.specs.Answers.{Answers, Stays}
+use Rattle.ft_calls.specs.Answers.{Answers}
 use Rattle.ft_meaning.specs.Values.{Value as Meant, as_judgement, the, State as Running}
 use Rattle.ft_values.specs.declared.scopes.Scope.{Scope}
 use Rattle.ft_values.specs.declared.values.Value.{Value}
-use Rattle.ft_values.specs.Kept.{Kept, IsOver, GoesOn}
-use Rattle.ft_values.specs.Rows.{kept_in}
-use Rattle.ft_values.specs.Named.{NamesBelow}
+use Rattle.ft_values.specs.Kept.{GoesOn}
 use Rattle.ft_running.specs.Evaluation.{Evaluation, IsEvaluation, GoesFurther, IsValueOf}
 use Rattle.ft_running.specs.Evaluation.{value_over, IsScopeIn, environment_of, with_list}
 use Rattle.ft_running.specs.Readers.{judgement_in}

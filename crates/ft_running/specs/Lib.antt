@@ -4,3 +4,4 @@ pub mod Ends
 pub mod Matching
 pub mod Telling
 pub mod Laws
+pub mod Asked

@@ -2,7 +2,7 @@
 use Rattle.std.specs.Prelude.{ℕ, ◌≡◌, Option, Some, None, option_map, Result, Ok, Err}
 use Rattle.ft_items.specs.Store.{Assertion}
 use Rattle.ft_meaning.specs.Values as meaning
-use Rattle.ft_telling.specs.Telling.{halt_in, HaltsSo}
+use Rattle.ft_telling.specs.Telling.{HaltsSo}
 use Rattle.ft_telling.specs.declared.halt.Halt.{Halt}
 use Rattle.ft_values.specs.declared.scopes.Scope.{Scope}
 use Rattle.ft_values.specs.Kept.{stated_at}

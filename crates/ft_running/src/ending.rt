@@ -1,7 +1,10 @@
 //! How an evaluation ends without a value.
 
+ghost use Rattle.std.specs.Prelude.{◌≡◌};
+ghost use Rattle.ft_running.specs.declared.ending.End.TheVariants.{Halts};
+
 use ft_base::{Memory, Name};
-use ft_telling::Halt;
+use ft_telling::{Halt, Why};
 use ft_values::Value;
 
 /// An operation that is performed, with its argument, at a place.
@@ -17,6 +20,15 @@ pub struct Operation {
 pub enum End {
     Performs(Operation),
     Halts(Halt),
+}
+
+impl End {
+    /// The run halts at a place.
+    pub fn halts(at: u64, why: Why) -> End
+        ensures { result ≡ Halts (record { at = at; why = why }) }
+    {
+        End::Halts(Halt { at, why })
+    }
 }
 
 impl From<Halt> for End {

@@ -2,13 +2,18 @@
 #![tactic(auto)]
 
 mod applications;
+mod arguing;
+mod asking;
+mod concluding;
 mod ending;
 mod laws;
 mod literals;
 mod matching;
 mod names;
+mod paired;
 mod state;
 mod values;
+mod worded;
 
 pub use ending::{End, Operation};
 pub use laws::{

@@ -72,6 +72,11 @@ impl State {
         }
     }
 
+    /// Where memory is taken from.
+    pub fn allocator(&self) -> Global {
+        self.alloc
+    }
+
     /// What holds of each state. It takes no memory.
     pub fn holds(&self)
         ensures { IsEvaluation self.now }

@@ -14,6 +14,7 @@ pub fn spend(k: &Kernel, at: u64, units: &mut Units) -> Result<(), Halt>
     ensures means { TellsUnit (spend_unit at (state_of k.now units.old)) result k.now units.new }
     ensures used { OnOk result (units.new.used ≡ units.old.used + 1) }
     ensures more { units.old.used ≤ units.new.used }
+    ensures total { units.new.total ≡ units.old.total }
 {
     let _items = k.len();
     if units.spend() {

@@ -19,7 +19,9 @@ fn asked(alloc: Global, words: &[&str]) -> Result<Option<Wanted>, Fail> {
 }
 
 const RUN: Wanted = Wanted::Run { budget: 1_000_000 };
+
 const EXPORT: Wanted = Wanted::Export { budget: 1_000_000 };
+
 const CHECK: Wanted = Wanted::Check { one_thread: false };
 
 #[test]

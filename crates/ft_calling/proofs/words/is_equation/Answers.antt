@@ -1,6 +1,4 @@
-use Rattle.std.proofs.Common.{rules, ◌≡◌, ◌∙◌, ap, sym, length, arith, false}
-use Rattle.ft_telling.specs.Words.{is_term_equation}
-use Rattle.ft_values.specs.Kept.{stated_at}
+use Rattle.std.proofs.Common.{◌∙◌, ap, sym, length}
 use Rattle.ft_calling.proofs.Fitting.{no_plain_equation}
 use Rattle.ft_calling.proofs.words.is_equation.Goals as goal
 

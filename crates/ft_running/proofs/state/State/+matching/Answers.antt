@@ -1,11 +1,11 @@
-use Rattle.std.proofs.Common.{arith, ◌≡◌, ◌∙◌, ◌+◌, sym, ap, subst, ℕ, map, Some, None}
-use Rattle.std.specs.Prelude.{Ok, Err}
+use Rattle.std.proofs.Common.{arith, ◌∙◌, ◌+◌, sym, ap, subst}
+use Rattle.std.specs.Prelude.{Ok}
 use denote.Param.Weighed.{at_most}
 use Rattle.ft_grammar.specs.declared.syntax.Pattern.{size-Pattern}
 use Rattle.ft_meaning.specs.Matching.{matches}
 use Rattle.ft_meaning.specs.Trees.{pattern}
 use Rattle.ft_values.specs.Kept.{stated_at}
-use Rattle.ft_running.specs.Evaluation.{Evaluation, run_of, environment_of, value_over, GoesFurther}
+use Rattle.ft_running.specs.Evaluation.{run_of, environment_of, value_over}
 use Rattle.ft_running.specs.Matching.{matches_argument}
 use Rattle.ft_running.specs.Telling.{TellsMatch}
 use Rattle.ft_running.proofs.Further.{further_both, thesis_further, stated_further}

@@ -1,6 +1,5 @@
-use Rattle.std.proofs.Common.{◌≡◌, ◌∙◌, sym, ap, subst, Some, None}
+use Rattle.std.proofs.Common.{◌≡◌, ◌∙◌, sym, subst, Some}
 use Rattle.std.specs.Prelude.{Ok, Err}
-use Rattle.ft_values.specs.Kept.{stated_at}
 use Rattle.ft_running.specs.Evaluation.{Evaluation, run_of, value_over}
 use Rattle.ft_running.specs.Matching.{symbol_applied}
 use Rattle.ft_running.specs.Readers.{stated_in, judgement_in}

@@ -1,5 +1,5 @@
 use Rattle.std.proofs.Common.{◌≡◌, ◌∙◌, sym, ap, subst, ℕ}
-use Rattle.std.specs.Prelude.{Ok, Err, Result}
+use Rattle.std.specs.Prelude.{Ok, Result}
 use Rattle.ft_items.specs.Item.{by_arg}
 use Rattle.ft_kernel.specs.State.{IsThesisOf}
 use Rattle.ft_telling.specs.Telling.{TellsStatement, HaltsSo, state_of}

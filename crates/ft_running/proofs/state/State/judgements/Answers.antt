@@ -1,4 +1,4 @@
-use Rattle.std.proofs.Common.{◌≡◌, ◌∙◌, sym, ap, subst, [], List, ℕ, Some, None}
+use Rattle.std.proofs.Common.{◌∙◌, sym, ap, subst, Some, None}
 use Rattle.ft_apply.specs.Named.{AreThesesOf}
 use Rattle.ft_values.specs.Kept.{judgements_in, if_list, found_before}
 use Rattle.ft_values.specs.Rows.{kept_in}

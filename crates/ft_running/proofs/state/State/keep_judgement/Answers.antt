@@ -1,9 +1,7 @@
-use Rattle.std.proofs.Common.{◌≡◌, sym, ap, subst, length}
-use Rattle.ft_kernel.specs.State.{IsThesisOf, IsBoundaryOf}
-use Rattle.ft_values.specs.Kept.{judgement, boundary, pair, cons, some}
-use Rattle.ft_values.specs.Rows.{kept_in}
-use Rattle.ft_running.specs.Evaluation.{Evaluation, IsValueOf}
-use Rattle.ft_running.proofs.Further.{over_value}
+use Rattle.std.proofs.Common.{sym, subst}
+use Rattle.ft_kernel.specs.State.{IsThesisOf}
+use Rattle.ft_values.specs.Kept.{judgement}
+use Rattle.ft_running.specs.Evaluation.{Evaluation}
 use Rattle.ft_running.proofs.Keeping.{kept_holds, kept_further}
 use Rattle.ft_running.proofs.state.State.keep_judgement.Goals as goal
 

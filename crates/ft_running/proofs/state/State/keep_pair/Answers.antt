@@ -1,6 +1,5 @@
-use Rattle.std.proofs.Common.{◌≡◌, sym, ap, subst, length}
-use Rattle.ft_kernel.specs.State.{IsThesisOf, IsBoundaryOf}
-use Rattle.ft_values.specs.Kept.{judgement, boundary, pair, cons, some}
+use Rattle.std.proofs.Common.{sym, subst}
+use Rattle.ft_values.specs.Kept.{pair}
 use Rattle.ft_values.specs.Rows.{kept_in}
 use Rattle.ft_running.specs.Evaluation.{Evaluation, IsValueOf}
 use Rattle.ft_running.proofs.Further.{over_value}

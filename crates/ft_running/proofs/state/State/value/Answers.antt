@@ -1,7 +1,6 @@
-use Rattle.std.proofs.Common.{◌≡◌, ◌∙◌, ◌++◌, sym, ap, subst, length, Some, None}
-use Rattle.std.specs.Prelude.{IfSome, option_map}
+use Rattle.std.proofs.Common.{◌≡◌, ◌∙◌, sym, subst, length, Some}
+use Rattle.std.specs.Prelude.{IfSome}
 use Rattle.ft_meaning.specs.Names.{named}
-use Rattle.ft_values.specs.Named.{value_in}
 use Rattle.ft_values.specs.Scopes.{names_in}
 use Rattle.ft_running.specs.Evaluation.{Evaluation, IsValueOf, IsScopeIn, names_over, environment_of}
 use Rattle.ft_running.specs.Readers as readers

@@ -1,0 +1,11 @@
+pub mod Chains
+pub mod Passing
+pub mod Staying
+pub mod Waiting
+pub mod Entered
+pub mod Handling
+pub mod Terms
+pub mod Searching
+pub mod Resumed
+pub mod Outwards
+pub mod Rules

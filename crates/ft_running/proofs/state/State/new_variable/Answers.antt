@@ -1,0 +1,15 @@
+use Rattle.std.proofs.Common.{arith}
+use Rattle.ft_running.proofs.Further.{list_evaluation}
+use Rattle.ft_running.proofs.Called.{variables_are}
+use Rattle.ft_running.proofs.state.State.new_variable.Goals as goal
+
+pub invariant_of-self : goal.invariant_of-self
+invariant_of-self c =
+    list_evaluation (record { list = c.self.inside.kernel; values = c.self.inside.values; scopes = c.self.inside.scopes; top = c.self.inside.top; units = c.self.inside.units }) c.new_variable-answer.new.k c.new_variable-answer.new.units c.self.invariant
+    c.new_variable-answer.ensures.told.goes_on c.new_variable-answer.ensures.told.below
+    (omega (arith, c.used-used.ensures.value, c.used-used.ensures.within))
+
+pub declared-requires : goal.declared-requires
+declared-requires c =
+    variables_are (record { list = c.new_variable-answer.new.k; values = c.self.inside.values; scopes = c.self.inside.scopes; top = c.self.inside.top; units = c.new_variable-answer.new.units })
+    c.new_variable-answer.result c.len-items.ensures.good c.new_variable-answer.ensures.told.kind

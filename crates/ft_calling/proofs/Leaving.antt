@@ -33,7 +33,7 @@ gained_leaves : (s t : State) (a : Assertion) (n : Stated) (j : ℕ) → Gains s
 gained_leaves s t a n j g =
     let e : Item = entry (record { statement = a.statement; set = a.set; step = n }) in
     record {
-      goes_on = (e ∷ [], g.0);
+      goes_on = (e ∷ [], g.0, (tt, tt));
       trees = g.2;
       declared = ap declared_by g.0 ∙ declared_last s.items e;
       variables = ap variables_in g.0 ∙ variables_append s.items (e ∷ []) ∙ append-nil (variables_in s.items);
@@ -42,7 +42,7 @@ gained_leaves s t a n j g =
 pub stays_leaves : (s t : State) → Stays s t → Leaves s t
 stays_leaves s t h =
     record {
-      goes_on = ([], h.0 ∙ sym (append-nil s.items));
+      goes_on = ([], h.0 ∙ sym (append-nil s.items), tt);
       trees = h.1;
       declared = ap declared_by h.0;
       variables = ap variables_in h.0;

@@ -97,10 +97,13 @@ pub unspent_told : (s t : State) (u w : Budget) (at : ℕ) (n : Name) (p : ℕ) 
 unspent_told s t u w at n p h e next more halts =
     subst (λ t. ToldVariable s u (make_variable at n (stated_at s p)) (Err h) t w) e
     (record {
-      tells = λ no. ap (λ (o : meaning.Outcome (Unit {0})). after o
-          (λ _. declare meaning.Refused at (λ W. new_variable W u.used n (stated_at s p)))) (halts no);
+      tells = λ no. (
+        (halts no).0,
+        ap (λ (o : meaning.Outcome (Unit {0})). after o
+            (λ _. declare meaning.Refused at (λ W. new_variable W u.used n (stated_at s p)))) (halts no).1,
+      );
       kind = tt;
-      goes_on = ([], sym (append-nil s.items));
+      goes_on = ([], sym (append-nil s.items), tt);
       trees = extends_same s.trees s.trees refl;
       below = omega (arith, next, more);
       same = refl;

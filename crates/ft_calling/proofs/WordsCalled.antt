@@ -20,7 +20,7 @@ use Rattle.ft_nucleus.specs.declared.parts.Which.TheVariants as which
 use Rattle.ft_values.specs.Kept.{stated_at}
 use Rattle.ft_telling.specs.declared.halt.Halt.{Halt}
 use Rattle.ft_telling.specs.declared.halt.Why.TheVariants as why
-use Rattle.ft_telling.specs.Telling.{state_of, halted_at, halt_by}
+use Rattle.ft_telling.specs.Telling.{state_of, halted_at, halt_by, IsWhyOver}
 use Rattle.ft_telling.specs.Words.{WordIsTold, BoundaryWordIsTold, PairWordIsTold, is_term_equation}
 use Rattle.ft_telling.proofs.Calls.{tells_one, tells_two}
 use Rattle.ft_telling.proofs.WordsTold.{refl_tells, sym_tells, left_tells, right_tells, typeof_tells, domain_tells, boundaryof_tells, boundary_left_tells, boundary_right_tells, boundary_typeof_tells, boundary_domain_tells, trans_tells, widen_tells, convert_equation_tells, convert_tells}
@@ -148,8 +148,11 @@ stuck_told : (s t : State) (m : meaning.Run meaning.Value) (h : Halt)
 stuck_told s t m h is e w =
     subst (λ t. ToldJudgement s m (Err h) t) e
     (record {
-      tells = λ u no. is (state_of s u)
-          ∙ ap (λ y. (Err (meaning.halts (halt_by s.trees h.at y)), state_of s u)) (sym w);
+      tells = λ u no. (
+        subst (λ y. IsWhyOver s.trees y) (sym w) tt,
+        is (state_of s u)
+            ∙ ap (λ y. (Err (meaning.halts (halt_by s.trees h.at y)), state_of s u)) (sym w),
+      );
       kind = tt;
       leaves = stays_leaves s s (refl, extends_same s.trees s.trees refl);
       same = refl;

@@ -22,4 +22,4 @@ after_same (Err e, s) f g same = refl
 pub ends_after : {A B : Type 0} (o : Outcome A) (f : A → Run B) (e : End) (S : Evaluation)
     → TellsEnd o e S → TellsEnd (after o f) e S
 ends_after o f (ending.Performs op) S h = (ap (λ o. after o f) h.0, h.1)
-ends_after o f (ending.Halts q) S h = λ no. ap (λ o. after o f) (h no)
+ends_after o f (ending.Halts q) S h = λ no. ((h no).0, ap (λ o. after o f) (h no).1)

@@ -4,6 +4,7 @@ use Rattle.std.specs.Prelude.{IfOk, OnOk}
 use Rattle.ft_values.specs.declared.scopes.Scope.{Scope}
 use Rattle.ft_values.specs.declared.values.Value.{Value}
 use Rattle.ft_eval.specs.declared.machine.Progress.{Progress}
+use Rattle.ft_eval.specs.declared.machine.Progress.TheVariants as progress
 use Rattle.ft_eval.specs.Progress.{ProgressesTo}
 use Rattle.std.proofs.lemmas.List.{length-append}
 use Rattle.ft_meaning.specs.Values.{Outcome, halts}
@@ -70,9 +71,11 @@ unwind_ok S T U all rest fs f op here t h g is told = taken S T U all rest fs f 
 pub unwind_halts : (S T U : Evaluation) (all rest fs : List Frame) (f : Frame) (op here : Operation) (q : Halt) → Unwinds S T all rest op here → GoesFurther T U → rest ≡ fs ++ f ∷ []
     → Halts (passed T f (performed T here)) q U
     → Halts (passed_all S all (performed S op)) q U
-unwind_halts S T U all rest fs f op here q h g is told = λ other.
-    taken S T U all rest fs f op here h g is ∙ ap (passed_all U fs) (told other)
-    ∙ halted_through U fs (halt_in U.list.trees q) (run_of U)
+unwind_halts S T U all rest fs f op here q h g is told = λ other. (
+  (told other).0,
+  taken S T U all rest fs f op here h g is ∙ ap (passed_all U fs) (told other).1
+      ∙ halted_through U fs (halt_in U.list.trees q) (run_of U),
+)
 
 shorter_by_one : (rest fs all : List Frame) (f : Frame) → rest ≡ fs ++ f ∷ [] → length rest ≤ length all → length fs + 1 ≤ length all
 shorter_by_one rest fs all f is l = omega (arith, ap length is, length-append fs (f ∷ []), l)
@@ -112,7 +115,7 @@ steps_same o p r fs S same h = subst (λ o. StepsInto o r fs S) same h
 
 -- a halt is one for all frames
 pub halt_told : (S : Evaluation) (fs : List Frame) (o : Outcome meaning.Value) (q : Halt) → Halts o q S → Halts (passed_all S fs o) q S
-halt_told S fs o q told = λ other. ap (passed_all S fs) (told other) ∙ halted_through S fs (halt_in S.list.trees q) (run_of S)
+halt_told S fs o q told = λ other. ((told other).0, ap (passed_all S fs) (told other).1 ∙ halted_through S fs (halt_in S.list.trees q) (run_of S))
 
 -- what is left to do falls
 pub at_most_one : (t : Turn) → turn_left t ≤ 1
@@ -136,6 +139,16 @@ pub record Runs (S T : Evaluation) (o : Outcome meaning.Value) (fs : List Frame)
   pub frames : AllFit T fs
   pub fits : TurnFits T t
   pub same : o ≡ passed_all T fs (turned T t)
+
+-- a further turn
+pub runs_on : (S T U : Evaluation) (o : Outcome meaning.Value) (fs gs : List Frame) (t n : Turn) → Runs S T o fs t → GoesFurther T U → AllFit U gs → TurnFits U n
+    → ProgressesTo (passed_all T fs (turned T t)) (Ok (progress.Further n)) gs U → Runs S U o gs n
+runs_on S T U o fs gs t n h g frames fits told = record {
+  further = further_both S T U h.further g;
+  frames = frames;
+  fits = fits;
+  same = h.same ∙ told;
+}
 
 pub progresses_same : (o p : Outcome meaning.Value) (r : Result Progress End) (fs : List Frame) (S : Evaluation) → o ≡ p → ProgressesTo o r fs S → ProgressesTo p r fs S
 progresses_same o p r fs S same h = subst (λ o. ProgressesTo o r fs S) same h

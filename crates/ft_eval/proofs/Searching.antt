@@ -81,10 +81,12 @@ pub search_halts : (S T U : Evaluation) (at : ℕ) (v : Value) (G : Scope) (all 
     → Searches S T at v G all (c ∷ rest)
     → Halts (matches at (pattern c.pattern) (value_over T v) (environment_of T G) (run_of T)) q U
     → Halts (given_by S at v G all) q U
-search_halts S T U at v G all c rest q h told = λ no.
-    sym h.same
-    ∙ first_is at c rest (value_over T v) (environment_of T G) (run_of T)
-    ∙ ap (λ o. after o (λ found. if_found found (meaning_of (form c.body)) (first_match at (cases (map case rest)) (value_over T v) (environment_of T G)))) (told no)
+search_halts S T U at v G all c rest q h told = λ no. (
+  (told no).0,
+  sym h.same
+      ∙ first_is at c rest (value_over T v) (environment_of T G) (run_of T)
+      ∙ ap (λ o. after o (λ found. if_found found (meaning_of (form c.body)) (first_match at (cases (map case rest)) (value_over T v) (environment_of T G)))) (told no).1,
+)
 
 -- the value and the scope in the state at hand
 pub search_value : (S T : Evaluation) (at : ℕ) (v : Value) (G : Scope) (all rest : List Case) → Searches S T at v G all rest → IsValueOf T v

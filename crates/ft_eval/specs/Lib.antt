@@ -4,3 +4,4 @@ pub mod Frames
 pub mod Fits
 pub mod Turns
 pub mod Progress
+pub mod CommandsAsking

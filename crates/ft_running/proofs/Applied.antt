@@ -200,7 +200,7 @@ stuck_without n (some v) x h = refl
 pub unnamed_told : (e : Evaluation) (n : Named) (w : Value) (at : ℕ) (h : Halt) → Good e.list.items → None ≡ place_of_name (rule_names e.list.items) n.name
     → h ≡ record { at = at; why = why.Stuck } → TellsApplied (symbol_applied n w (run_of e)) (Err h) e
 unnamed_told e n w at h g place is =
-    subst (λ h. TellsApplied (symbol_applied n w (run_of e)) (Err h) e) (sym is) (λ _. stuck_without n w (run_of e) (rule_missing e.list.items n.name g place))
+    subst (λ h. TellsApplied (symbol_applied n w (run_of e)) (Err h) e) (sym is) (λ _. (tt, stuck_without n w (run_of e) (rule_missing e.list.items n.name g place)))
 
 stuck_at_other : (n : Named) (w : Value) (x : Running) → None ≡ judgement_in w → symbol_applied n w x ≡ (Err (halts stuck), x)
 stuck_at_other n (judgement j) x h = cc
@@ -215,7 +215,7 @@ stuck_at_other n (some v) x h = refl
 
 pub other_told : (e : Evaluation) (n : Named) (w : Value) (at : ℕ) (h : Halt) → None ≡ judgement_in w → h ≡ record { at = at; why = why.Stuck }
     → TellsApplied (symbol_applied n w (run_of e)) (Err h) e
-other_told e n w at h other is = subst (λ h. TellsApplied (symbol_applied n w (run_of e)) (Err h) e) (sym is) (λ _. stuck_at_other n w (run_of e) other)
+other_told e n w at h other is = subst (λ h. TellsApplied (symbol_applied n w (run_of e)) (Err h) e) (sym is) (λ _. (tt, stuck_at_other n w (run_of e) other))
 
 -- ---- a pattern of a symbol
 
@@ -318,7 +318,7 @@ argument_found e f g at i p J s v r is further within first second =
 
 pub argument_halts : (e f : Evaluation) (at i : ℕ) (p : Pattern) (J : Assertion) (G : Environment) (h : Halt) → TellsArgument (argument_of at i J (run_of e)) (Err h) f
     → TellsMatch (matches_argument at p J i G (run_of e)) (Err h) f
-argument_halts e f at i p J G h told = λ other. ap (λ o. after o (λ a. matches at p (judgement a) G)) (told other)
+argument_halts e f at i p J G h told = λ other. ((told other).0, ap (λ o. after o (λ a. matches at p (judgement a) G)) (told other).1)
 
 -- one argument, and the further ones
 one_argument : (at i : ℕ) (p : Pattern) (ps : Patterns) (J : Assertion) (G : Environment) (x : Running)

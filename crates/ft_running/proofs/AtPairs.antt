@@ -28,7 +28,7 @@ use Rattle.ft_common.proofs.Options.{some_none}
 pub ends_after : {A B : Type 0} (o : Outcome A) (f : A → Run B) (e : End) (S : Evaluation)
     → TellsEnd o e S → TellsEnd (after o f) e S
 ends_after o f (ending.Performs op) S h = (ap (λ o. after o f) h.0, h.1)
-ends_after o f (ending.Halts q) S h = λ m. ap (λ o. after o f) (h m)
+ends_after o f (ending.Halts q) S h = λ no. ((h no).0, ap (λ o. after o f) (h no).1)
 
 -- ---- `fill`
 

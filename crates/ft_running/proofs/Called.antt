@@ -1,5 +1,5 @@
 -- Calls of the nucleus on the kernel of a state.
-use Rattle.std.proofs.Common.{◌≡◌, ◌∙◌, ℕ, ap, sym, refl, arith, Some, None, Ok, Err}
+use Rattle.std.proofs.Common.{◌≡◌, ◌∙◌, ◌≤◌, ℕ, ap, sym, refl, arith, Some, None, Ok, Err}
 use Rattle.std.specs.Prelude.{Option, Result, IfSome, IfNone, IfOk}
 use Rattle.ft_common.proofs.Results.{ok_ok, err_ok}
 use Rattle.ft_items.specs.Item.{Name}
@@ -16,15 +16,25 @@ use Rattle.ft_calling.proofs.RulesCalled.{rule_known}
 use Rattle.ft_running.specs.Evaluation.{Evaluation, IsEvaluation, GoesFurther, with_list, run_of}
 use Rattle.ft_running.specs.Asked.{rule_in, rule_or, IsRuleOf, IsVariableIn}
 use Rattle.ft_telling.proofs.Variables.{known_variable}
-use Rattle.ft_running.proofs.Further.{list_evaluation, list_goes}
+use Rattle.ft_base.specs.Budget.{Budget}
+use Rattle.ft_values.specs.Kept.{GoesOn}
+use Rattle.ft_running.proofs.Further.{list_evaluation, list_goes, further_both}
 
 -- a call leaves a state that goes further
 pub leaves_evaluation : (e : Evaluation) (t : State) → IsEvaluation e → Leaves e.list t → IsEvaluation (with_list t e)
 leaves_evaluation e t is l =
-    list_evaluation e t e.units is l.goes_on (omega (arith, is.numbered, ap next_number l.variables)) is.within
+    list_evaluation e t e.units is (l.goes_on.0, l.goes_on.1) (omega (arith, is.numbered, ap next_number l.variables)) is.within
 
 pub leaves_goes : (e : Evaluation) (t : State) → Leaves e.list t → GoesFurther e (with_list t e)
 leaves_goes e t l = list_goes e t e.units l.goes_on (omega arith) refl
+
+-- what goes on from there goes on from before the call
+pub leaves_further : (e f : Evaluation) (t : State) → Leaves e.list t → GoesFurther (record e { list = t }) f → GoesFurther e f
+leaves_further e f t l g = further_both e (record e { list = t }) f (leaves_goes e t l) g
+
+pub declared_further : (e f : Evaluation) (t : State) (u : Budget) → GoesOn e.list t → e.units.used ≤ u.used → u.total ≡ e.units.total
+    → GoesFurther (record e { list = t; units = u }) f → GoesFurther e f
+declared_further e f t u on more total g = further_both e (record e { list = t; units = u }) f (list_goes e t u on more total) g
 
 -- a rule of a good list
 pub rule_is_in : (e : Evaluation) (r : ℕ) → Good e.list.items → calling.IsRuleOf e.list r → IsRuleOf e r × (rule_in e r ≡ rule_at e.list r)

@@ -121,7 +121,7 @@ theses_further e f [] g h = tt
 theses_further e f (j ∷ js) g h = (thesis_further e f j g h.0, theses_further e f js g h.1)
 
 pub stated_further : (e f : Evaluation) (j : ℕ) → GoesFurther e f → IsThesisOf e.list j → stated_at f.list j ≡ stated_at e.list j
-stated_further e f j g h = ap stated (entry_goes_on e.list f.list j h.0 g.list h.1 ∙ sym h.1)
+stated_further e f j g h = ap stated (entry_goes_on e.list f.list j h.0 (g.list.0, g.list.1) h.1 ∙ sym h.1)
 
 pub judgements_further : (e f : Evaluation) (js : List ℕ) → GoesFurther e f → AreThesesOf e.list js
     → judgements_of f js ≡ judgements_of e js

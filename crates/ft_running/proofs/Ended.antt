@@ -34,7 +34,7 @@ memory_told o (ending.Halts h) e is = λ no. absurd (no is)
 
 pub stuck_told : {A : Type 0} (o : Outcome A) (at : ℕ) (end : End) (e : Evaluation) → end ≡ ending.Halts (record { at = at; why = why.Stuck })
     → o ≡ (Err (halts stuck), run_of e) → TellsEnd o end e
-stuck_told o at end e is told = halt_told o (record { at = at; why = why.Stuck }) end e is (λ no. told)
+stuck_told o at end e is told = halt_told o (record { at = at; why = why.Stuck }) end e is (λ no. (tt, told))
 
 -- ---- values
 

@@ -14,12 +14,12 @@ use Rattle.ft_values.specs.declared.scopes.Scope.{Scope}
 use Rattle.ft_values.specs.declared.scopes.Scope.TheVariants as scope
 use Rattle.ft_values.specs.declared.values.Value.{Value}
 use Rattle.ft_values.specs.declared.values.Value.TheVariants as value
-use Rattle.ft_values.specs.Kept.{Kept, unit, value_of, IsOver, GoesOn, stated, stated_at}
+use Rattle.ft_values.specs.Kept.{Kept, unit, value_of, IsOver, HasMore, GoesOn, stated, stated_at}
 use Rattle.ft_values.specs.Named.{environment_in, NamesBelow}
 use Rattle.ft_values.specs.Rows.{kept_in, Below}
 use Rattle.ft_values.specs.Scopes.{names_in, IsScopeOf}
 use Rattle.ft_values.proofs.Rows.{below_more}
-use Rattle.ft_values.proofs.Staying.{value_stays, over_stays, rows_stay, entry_goes_on}
+use Rattle.ft_values.proofs.Staying.{value_stays, over_stays, rows_stay, entry_goes_on, quiet_append}
 use Rattle.ft_values.proofs.Layers.{scope_stays, names_stay}
 use Rattle.ft_running.specs.Evaluation.{Evaluation, IsValueOf, value_over, IsScopeIn, names_over, environment_of, AllOver, AllBelow, IsEvaluation, GoesFurther, with_list, with_kept, with_row, with_top, without_scopes}
 
@@ -30,7 +30,7 @@ more_both xs ys zs more further g h = h ∙ ap (λ l. l ++ further) g ∙ append
 
 pub further_same : (e : Evaluation) → GoesFurther e e
 further_same e = record {
-  list = ([], sym (append-nil e.list.items));
+  list = ([], sym (append-nil e.list.items), tt);
   values = ([], sym (append-nil e.values));
   scopes = ([], sym (append-nil e.scopes));
   top = refl;
@@ -40,7 +40,11 @@ further_same e = record {
 
 pub further_both : (e f g : Evaluation) → GoesFurther e f → GoesFurther f g → GoesFurther e g
 further_both e f g h k = record {
-  list = (h.list.0 ++ k.list.0, more_both e.list.items f.list.items g.list.items h.list.0 k.list.0 h.list.1 k.list.1);
+  list = (
+    h.list.0 ++ k.list.0,
+    more_both e.list.items f.list.items g.list.items h.list.0 k.list.0 h.list.1 k.list.1,
+    quiet_append h.list.0 k.list.0 h.list.2 k.list.2,
+  );
   values = (h.values.0 ++ k.values.0, more_both e.values f.values g.values h.values.0 k.values.0 h.values.1 k.values.1);
   scopes = (h.scopes.0 ++ k.scopes.0, more_both e.scopes f.scopes g.scopes h.scopes.0 k.scopes.0 h.scopes.1 k.scopes.1);
   top = k.top ∙ h.top;
@@ -67,7 +71,7 @@ kept_further e f v g b = ap (λ ks. kept_in ks v) g.values.1 ∙ rows_stay e.val
 pub means_further : (e f : Evaluation) (v : Value) → IsEvaluation e → GoesFurther e f → IsValueOf e v → value_over f v ≡ value_over e v
 means_further e f v is g b =
     ap (value_of f.list) (kept_further e f v g b)
-    ∙ value_stays e.list f.list (kept_in e.values v) g.list (over_value e.list e.values v is.values_over b)
+    ∙ value_stays e.list f.list (kept_in e.values v) (g.list.0, g.list.1) (over_value e.list e.values v is.values_over b)
 
 -- ---- names
 
@@ -103,14 +107,14 @@ environment_further e f s is g w =
     ∙ names_mean_further e f (names_over e s) is g (all_names_below e s is w)
 
 pub thesis_further : (e f : Evaluation) (j : ℕ) → GoesFurther e f → IsThesisOf e.list j → IsThesisOf f.list j
-thesis_further e f j g h = (h.0, entry_goes_on e.list f.list j h.0 g.list h.1, h.2)
+thesis_further e f j g h = (h.0, entry_goes_on e.list f.list j h.0 (g.list.0, g.list.1) h.1, h.2)
 
 -- what a thesis states stays
 pub stated_further : (e f : Evaluation) (j : ℕ) → GoesFurther e f → IsThesisOf e.list j → stated_at f.list j ≡ stated_at e.list j
-stated_further e f j g h = ap stated (entry_goes_on e.list f.list j h.0 g.list h.1 ∙ sym h.1)
+stated_further e f j g h = ap stated (entry_goes_on e.list f.list j h.0 (g.list.0, g.list.1) h.1 ∙ sym h.1)
 
 pub boundary_further : (e f : Evaluation) (b : ℕ) → GoesFurther e f → IsBoundaryOf e.list b → IsBoundaryOf f.list b
-boundary_further e f b g h = (h.0, entry_goes_on e.list f.list b h.0 g.list h.1, h.2)
+boundary_further e f b g h = (h.0, entry_goes_on e.list f.list b h.0 (g.list.0, g.list.1) h.1, h.2)
 
 -- ---- one more value
 
@@ -136,7 +140,7 @@ kept_evaluation e k is o =
 
 pub kept_goes : (e : Evaluation) (k : Kept) → GoesFurther e (with_kept k e)
 kept_goes e k = record {
-  list = ([], sym (append-nil e.list.items));
+  list = ([], sym (append-nil e.list.items), tt);
   values = (k ∷ [], refl);
   scopes = ([], sym (append-nil e.scopes));
   top = refl;
@@ -163,7 +167,7 @@ row_evaluation e s n v is w b = record {
 
 pub row_goes : (e : Evaluation) (s : Scope) (n : Name) (v : Value) → GoesFurther e (with_row s n v e)
 row_goes e s n v = record {
-  list = ([], sym (append-nil e.list.items));
+  list = ([], sym (append-nil e.list.items), tt);
   values = ([], sym (append-nil e.values));
   scopes = (((n, v) ∷ names_in e.scopes s) ∷ [], refl);
   top = refl;
@@ -191,7 +195,7 @@ cleared_evaluation e is = record {
 
 -- ---- a list that goes on
 
-pub list_evaluation : (e : Evaluation) (t : State) (u : Budget) → IsEvaluation e → GoesOn e.list t → next_number (variables_in t.items) ≤ u.used → u.used ≤ u.total
+pub list_evaluation : (e : Evaluation) (t : State) (u : Budget) → IsEvaluation e → HasMore e.list t → next_number (variables_in t.items) ≤ u.used → u.used ≤ u.total
     → IsEvaluation (record e { list = t; units = u })
 list_evaluation e t u is g next within = record {
   values_over = λ n lt. over_stays e.list t (slice_index_or e.values n unit) g (is.values_over n lt);
@@ -228,7 +232,7 @@ call_variables s t n (Err Memory) h = ap variables_in h.0
 
 pub call_evaluation : (e : Evaluation) (n : Stated) (r : Result ℕ Fault) (t : State) → IsEvaluation e → Answers e.list n r t → IsEvaluation (with_list t e)
 call_evaluation e n r t is h =
-    list_evaluation e t e.units is (goes_on e.list t n r h) (omega (arith, is.numbered, ap next_number (call_variables e.list t n r h))) is.within
+    let g = goes_on e.list t n r h in list_evaluation e t e.units is (g.0, g.1) (omega (arith, is.numbered, ap next_number (call_variables e.list t n r h))) is.within
 
 pub call_goes : (e : Evaluation) (n : Stated) (r : Result ℕ Fault) (t : State) → Answers e.list n r t → GoesFurther e (with_list t e)
 call_goes e n r t h = list_goes e t e.units (goes_on e.list t n r h) (omega arith) refl

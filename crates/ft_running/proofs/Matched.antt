@@ -34,7 +34,7 @@ found_told e o at b found r is h w = subst (λ r. TellsMatch o r e) (sym is) (go
   where
     go : (b : Bool) → o ≡ or_stuck b (found_in e found) (run_of e) → TellsMatch o (found_or at b found) e
     go true h = (h, w)
-    go false h = λ _. h
+    go false h = λ _. (tt, h)
 
 unit_is : (at a : ℕ) (w : Value) (G : Environment) (x : Running) → matches at (unit_pattern a) w G x ≡ or_stuck (is_unit w) (Some G) x
 unit_is at a (judgement j) G x = refl
@@ -191,7 +191,7 @@ truth_told e s at a b c w h within =
 pub truth_stuck : (e : Evaluation) (s : Scope) (at a : ℕ) (b : Bool) (w : Value) (h : Halt) → None ≡ truth_in w → h ≡ record { at = at; why = why.Stuck }
     → TellsMatch (matches at (truth_pattern a b) w (environment_of e s) (run_of e)) (Err h) e
 truth_stuck e s at a b w h n is =
-    subst (λ h. TellsMatch (matches at (truth_pattern a b) w (environment_of e s) (run_of e)) (Err h) e) (sym is) (λ _. truth_none at a b w (environment_of e s) (run_of e) n)
+    subst (λ h. TellsMatch (matches at (truth_pattern a b) w (environment_of e s) (run_of e)) (Err h) e) (sym is) (λ _. (tt, truth_none at a b w (environment_of e s) (run_of e) n))
 
 -- ---- names
 
@@ -209,7 +209,7 @@ none_next m next x y h = ap (λ o. after o (λ found. if_found found next (pure 
 
 pub halts_next : (m : Run (Option Environment)) (next : Environment → Run (Option Environment)) (x : Running) (h : Halt) (e : Evaluation) → TellsMatch (m x) (Err h) e
     → TellsMatch ((m and_also next) x) (Err h) e
-halts_next m next x h e told = λ other. ap (λ o. after o (λ found. if_found found next (pure None))) (told other)
+halts_next m next x h e told = λ other. ((told other).0, ap (λ o. after o (λ found. if_found found next (pure None))) (told other).1)
 
 pub both_found : (e f g : Evaluation) (at : ℕ) (p q : Pattern) (s found : Scope) (a b : AnyValue) (r : Result (Option Scope) Halt)
     → IsEvaluation e → GoesFurther e f → IsValueOf e b

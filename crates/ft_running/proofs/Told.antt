@@ -63,7 +63,7 @@ pub no_pair_told : (e : Evaluation) (at a : ℕ) (P p q : AnyPattern) (w : Value
     → None ≡ pair_in w → h ≡ record { at = at; why = why.Stuck } → TellsMatch (matches at (pattern P) w G (run_of e)) (Err h) e
 no_pair_told e at a P p q w G h is none same =
     pattern_told at P _ w G (run_of e) (Err h) e (ap pattern is ∙ pattern_Pair a p q)
-    (subst (λ h. TellsMatch (matches at (pair_pattern a (pattern p) (pattern q)) w G (run_of e)) (Err h) e) (sym same) (λ _. no_pair_is at a (pattern p) (pattern q) w G (run_of e) none))
+    (subst (λ h. TellsMatch (matches at (pair_pattern a (pattern p) (pattern q)) w G (run_of e)) (Err h) e) (sym same) (λ _. (tt, no_pair_is at a (pattern p) (pattern q) w G (run_of e) none)))
 
 pub symbol_told : (e f : Evaluation) (at a : ℕ) (P : AnyPattern) (n : Named) (ps : List AnyPattern) (j : ℕ) (w : Value) (G : Environment) (r : Result (Option Scope) Halt) → P ≡ any.Symbol a n ps
     → TellsApplied (symbol_applied n w (run_of e)) (Ok (Some j)) e → TellsMatch (match_arguments at (patterns (map pattern ps)) (stated_at e.list j) 1 G (run_of e)) r f
@@ -82,7 +82,7 @@ pub halting_symbol_told : (e : Evaluation) (at a : ℕ) (P : AnyPattern) (n : Na
     → TellsApplied (symbol_applied n w (run_of e)) (Err h) e → TellsMatch (matches at (pattern P) w G (run_of e)) (Err h) e
 halting_symbol_told e at a P n ps w G h is applied =
     pattern_told at P _ w G (run_of e) (Err h) e (ap pattern is ∙ pattern_Symbol a n ps)
-    (λ other. symbol_halts at a n (patterns (map pattern ps)) w G (run_of e) _ (applied other))
+    (λ other. ((applied other).0, symbol_halts at a n (patterns (map pattern ps)) w G (run_of e) _ (applied other).1))
 
 pub named_told : (at a : ℕ) (P : AnyPattern) (n : Name) (w : Value) (G : Environment) (x : Running) (r : Result (Option Scope) Halt) (f : Evaluation) → P ≡ any.Name a n
     → ((at a : ℕ) → TellsMatch (matches at (name_pattern a n) w G x) r f) → TellsMatch (matches at (pattern P) w G x) r f

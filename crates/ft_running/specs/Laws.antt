@@ -9,7 +9,7 @@ use Rattle.ft_calls.specs.Answers.{Answers}
 use Rattle.ft_meaning.specs.Values.{Value as Meant, as_judgement, the, State as Running}
 use Rattle.ft_values.specs.declared.scopes.Scope.{Scope}
 use Rattle.ft_values.specs.declared.values.Value.{Value}
-use Rattle.ft_values.specs.Kept.{GoesOn}
+use Rattle.ft_values.specs.Kept.{HasMore, GoesOn}
 use Rattle.ft_running.specs.Evaluation.{Evaluation, IsEvaluation, GoesFurther, IsValueOf}
 use Rattle.ft_running.specs.Evaluation.{value_over, IsScopeIn, environment_of, with_list}
 use Rattle.ft_running.specs.Readers.{judgement_in}
@@ -49,6 +49,11 @@ ListsGoFurther = (e : Evaluation) (t : State) (u : Budget) → IsEvaluation e �
     → next_number (variables_in t.items) ≤ u.used → e.units.used ≤ u.used → u.used ≤ u.total
     → u.total ≡ e.units.total
     → let f : Evaluation = record e { list = t; units = u } in IsEvaluation f × GoesFurther e f
+
+-- where items are added to the list, and no variable among them, a state is left
+abbrev pub ListsMayGrow : Type 0
+ListsMayGrow = (e : Evaluation) (t : State) → IsEvaluation e → HasMore e.list t
+    → variables_in t.items ≡ variables_in e.list.items → IsEvaluation (with_list t e)
 
 -- a judgement as the meaning wants one
 abbrev pub JudgementsAreRead : Type 0

@@ -2,7 +2,7 @@
 
 ghost use Rattle.ft_running.specs.Laws.{StaysItself, GoesOverBoth, ValuesStay, ScopesStay};
 ghost use Rattle.ft_running.specs.Laws.{ThesesStay, BoundariesStay, CallsGoFurther};
-ghost use Rattle.ft_running.specs.Laws.{ListsGoFurther, JudgementsAreRead};
+ghost use Rattle.ft_running.specs.Laws.{ListsGoFurther, ListsMayGrow, JudgementsAreRead};
 
 /// A state goes further than itself, and what goes further than one that goes further does.
 pub fn goes_further()
@@ -30,6 +30,11 @@ pub fn calls_go_further()
 /// So does what adds items to the list, with units for its variables.
 pub fn lists_go_further()
     ensures { ListsGoFurther }
+{}
+
+/// Where items are added to the kernel of a state, a state is left.
+pub fn lists_may_grow()
+    ensures { ListsMayGrow }
 {}
 
 /// The judgement that a value is, where it is one, is what the meaning reads.

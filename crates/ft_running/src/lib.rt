@@ -17,7 +17,7 @@ mod worded;
 
 pub use ending::{End, Operation};
 pub use laws::{
-    calls_go_further, goes_further, judgements_are_read, lists_go_further, scopes_stay_further,
-    values_stay_further,
+    calls_go_further, goes_further, judgements_are_read, lists_go_further, lists_may_grow,
+    scopes_stay_further, values_stay_further,
 };
 pub use state::State;

@@ -39,9 +39,9 @@ stays_state : (s t : State) (u : Budget) → Stays s t → state_of t u ≡ stat
 stays_state s t u h = ap (λ items. record (state_of s u) { declarations = declared_by items }) h.0
 
 pub goes_on : (s t : State) (n : Stated) (r : Result ℕ Fault) → Answers s n r t → GoesOn s t
-goes_on s t n (Ok j) h = (entry (record { statement = h.0.statement; set = h.0.set; step = n }) ∷ [], h.2.0)
-goes_on s t n (Err (Refused q)) h = ([], h.2.0 ∙ sym (append-nil s.items))
-goes_on s t n (Err Memory) h = ([], h.0 ∙ sym (append-nil s.items))
+goes_on s t n (Ok j) h = (entry (record { statement = h.0.statement; set = h.0.set; step = n }) ∷ [], h.2.0, (tt, tt))
+goes_on s t n (Err (Refused q)) h = ([], h.2.0 ∙ sym (append-nil s.items), tt)
+goes_on s t n (Err Memory) h = ([], h.0 ∙ sym (append-nil s.items), tt)
 
 -- ---- what is answered
 
@@ -61,9 +61,11 @@ pub tells_judgement : (s t : State) (u : Budget) (at : ℕ) (n : Stated) (R : Re
 tells_judgement s t u at n R (Ok j) e h =
     ap (λ r. judged_by at r (state_of s u)) (answer_is s n R (Ok h.0) e h.1)
     ∙ ap₂ (λ (a : Assertion) (x : meaning.State). (Ok (judgement a), x)) (ap stated (sym (gained_entry s t h.0 n j h.2))) (sym (gained_state s t h.0 n j u h.2))
-tells_judgement s t u at n R (Err (Refused q)) e h = λ _.
-    ap (λ r. judged_by at r (state_of s u)) (answer_is s n R (Err (refusal_in t.trees q)) e h.0)
-    ∙ ap (λ (x : meaning.State). (Err (halts (meaning.fails (meaning.Refused (refusal_in t.trees q)) at)), x)) (sym (stays_state s t u h.2))
+tells_judgement s t u at n R (Err (Refused q)) e h = λ _. (
+  h.1,
+  ap (λ r. judged_by at r (state_of s u)) (answer_is s n R (Err (refusal_in t.trees q)) e h.0)
+      ∙ ap (λ (x : meaning.State). (Err (halts (meaning.fails (meaning.Refused (refusal_in t.trees q)) at)), x)) (sym (stays_state s t u h.2)),
+)
 tells_judgement s t u at n R (Err Memory) e h = λ no. absurd (no refl)
 
 pub tells_boundary : (s t : State) (u : Budget) (at : ℕ) (n : Stated) (R : Resolved) (r : Result ℕ Fault) → resolve (store_of s.items) n ≡ Some R → Answers s n r t
@@ -71,9 +73,11 @@ pub tells_boundary : (s t : State) (u : Budget) (at : ℕ) (n : Stated) (R : Res
 tells_boundary s t u at n R (Ok j) e h =
     ap (λ r. bounded_by at r (state_of s u)) (answer_is s n R (Ok h.0) e h.1)
     ∙ ap₂ (λ (a : Assertion) (x : meaning.State). (Ok (boundary a), x)) (ap stated (sym (gained_entry s t h.0 n j h.2))) (sym (gained_state s t h.0 n j u h.2))
-tells_boundary s t u at n R (Err (Refused q)) e h = λ _.
-    ap (λ r. bounded_by at r (state_of s u)) (answer_is s n R (Err (refusal_in t.trees q)) e h.0)
-    ∙ ap (λ (x : meaning.State). (Err (halts (meaning.fails (meaning.Refused (refusal_in t.trees q)) at)), x)) (sym (stays_state s t u h.2))
+tells_boundary s t u at n R (Err (Refused q)) e h = λ _. (
+  h.1,
+  ap (λ r. bounded_by at r (state_of s u)) (answer_is s n R (Err (refusal_in t.trees q)) e h.0)
+      ∙ ap (λ (x : meaning.State). (Err (halts (meaning.fails (meaning.Refused (refusal_in t.trees q)) at)), x)) (sym (stays_state s t u h.2)),
+)
 tells_boundary s t u at n R (Err Memory) e h = λ no. absurd (no refl)
 
 pub tells_statement : (s t : State) (u : Budget) (at : ℕ) (n : Stated) (R : Resolved) (r : Result ℕ Fault) → resolve (store_of s.items) n ≡ Some R → Answers s n r t
@@ -81,9 +85,11 @@ pub tells_statement : (s t : State) (u : Budget) (at : ℕ) (n : Stated) (R : Re
 tells_statement s t u at n R (Ok j) e h =
     ap (λ r. answered at r (state_of s u)) (answer_is s n R (Ok h.0) e h.1)
     ∙ ap₂ (λ (a : Assertion) (x : meaning.State). (Ok a, x)) (ap stated (sym (gained_entry s t h.0 n j h.2))) (sym (gained_state s t h.0 n j u h.2))
-tells_statement s t u at n R (Err (Refused q)) e h = λ _.
-    ap (λ r. answered at r (state_of s u)) (answer_is s n R (Err (refusal_in t.trees q)) e h.0)
-    ∙ ap (λ (x : meaning.State). (Err (halts (meaning.fails (meaning.Refused (refusal_in t.trees q)) at)), x)) (sym (stays_state s t u h.2))
+tells_statement s t u at n R (Err (Refused q)) e h = λ _. (
+  h.1,
+  ap (λ r. answered at r (state_of s u)) (answer_is s n R (Err (refusal_in t.trees q)) e h.0)
+      ∙ ap (λ (x : meaning.State). (Err (halts (meaning.fails (meaning.Refused (refusal_in t.trees q)) at)), x)) (sym (stays_state s t u h.2)),
+)
 tells_statement s t u at n R (Err Memory) e h = λ no. absurd (no refl)
 
 -- ---- calls of one and of two entries

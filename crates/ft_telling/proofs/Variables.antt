@@ -1,6 +1,7 @@
 -- Variables that are declared, and that are bound.
 use Rattle.std.proofs.Common.{◌≡◌, ◌≢◌, ◌∙◌, ◌≤◌, ◌++◌, ap, ap₂, refl, sym, subst, ℕ, arith, Some, None, List, [], ◌∷◌, Bool, true, false, cond, nat_eq, append-nil}
-use Rattle.std.specs.Prelude.{Result, Ok, Err, option_map}
+use Rattle.std.specs.Prelude.{Result, Ok, Err, option_map, length}
+use Rattle.ft_theory.specs.Expressions.{Expression}
 use Rattle.std.proofs.lemmas.Option.{same_Some}
 use Rattle.ft_common.proofs.Choices.{if_same, if_other}
 use Rattle.ft_common.proofs.Options.{some_none}
@@ -16,10 +17,12 @@ use Rattle.ft_base.specs.Budget.{Budget}
 use Rattle.ft_meaning.specs.Values as meaning
 use Rattle.ft_meaning.specs.Values.{after, declare, after_declaration, spend, judgement, boundary, halts, fails}
 use Rattle.ft_meaning.specs.Forms.{make_variable, abstract_value}
+use Rattle.ft_judge.specs.declared.fault.Refusal.{Refusal}
+use Rattle.ft_judge.specs.declared.fault.Refusal.TheVariants as refusal
 use Rattle.ft_judge.specs.declared.fault.Fault.{Fault}
 use Rattle.ft_judge.specs.declared.fault.Fault.TheVariants.{Refused, Memory}
 use Rattle.ft_kernel.specs.State.{State, entry_at, variable_numbered, next_number, IsThesisOf, IsBoundaryOf, IsVariableOf}
-use Rattle.ft_calls.specs.Answers.{refusal_in, Answers}
+use Rattle.ft_calls.specs.Answers.{refusal_in, RefusalBelow, Answers}
 use Rattle.ft_calls.specs.Declaring.{DeclaresVariable}
 use Rattle.ft_calls.proofs.Answering.{entry_in}
 use Rattle.ft_calls.proofs.Variables.{variable_is, no_variable}
@@ -73,6 +76,33 @@ declared_there s t v w n a x g next is after_is =
 abbrev declared_from : ℕ → Declarations → Result (ℕ × Annotation) reference.Refusal → meaning.State → meaning.Outcome (ℕ × Annotation)
 declared_from at W r x = after_declaration meaning.Refused at W r x
 
+-- the refusal names no expression; so where there is one
+abbrev NamesNothing : reference.Refusal → Type 0
+NamesNothing (reference.TypeDiffers d) = ⊥
+NamesNothing (reference.SidesDiffer d) = ⊥
+NamesNothing r = Unit {0}
+
+abbrev NamesNothingIn : {A : Type 0} → Result A reference.Refusal → Type 0
+NamesNothingIn (Ok a) = Unit {0}
+NamesNothingIn (Err r) = NamesNothing r
+
+names_below : (ts : List Expression) (q : Refusal) → NamesNothing (refusal_in ts q) → RefusalBelow (length ts) q
+names_below ts refusal.WrongForm h = tt
+names_below ts refusal.NotAbstracted h = tt
+names_below ts (refusal.TypeDiffers d) h = absurd h
+names_below ts (refusal.SidesDiffer d) h = absurd h
+names_below ts (refusal.DependentVariable w) h = tt
+names_below ts (refusal.OpenBoundary w) h = tt
+names_below ts (refusal.ArgumentCount m k) h = tt
+names_below ts refusal.TooBig h = tt
+names_below ts refusal.NotApplication h = tt
+
+-- a variable is refused for the form of its type alone
+variable_names : (b : Bool) (W : Declarations) (v : ℕ) (n : Name) (p : Assertion)
+    → NamesNothingIn {A = ℕ × Annotation} (outcome (refused_unless b reference.WrongForm) W (add_variable W v n (Some p)) (v, declared_variable n p)).answer
+variable_names true W v n p = tt
+variable_names false W v n p = tt
+
 -- the declaration after the unit
 declare_tells : (s t : State) (u : Budget) (at v : ℕ) (n : Name) (p : ℕ) (a : Assertion) (r : Result ℕ Fault) → Good s.items → next_number (variables_in s.items) ≤ v
     → entry_at s p ≡ Some a → DeclaresVariable s v n p r t
@@ -88,9 +118,11 @@ declare_tells s t u at v n p a (Ok w) g next here h =
 declare_tells s t u at v n p a (Err (Refused q)) g next here h = λ _.
     let same : h.0 ≡ a = same_Some h.0 a (sym h.1 ∙ here) in
     let W : Declarations = declared_by s.items in
-    let is : (new_variable W v n a).answer ≡ Err (refusal_in t.trees q) = ap (λ a. (new_variable W v n a).answer) (sym same) ∙ h.2.0 in
-    ap (λ o. declared_from at (new_variable W v n a).after o (state_of s u)) is
-    ∙ ap (λ items. (Err (halts (fails (meaning.Refused (refusal_in t.trees q)) at)), record (state_of s u) { declarations = declared_by items })) (sym h.2.1.0)
+    let is : (new_variable W v n a).answer ≡ Err (refusal_in t.trees q) = ap (λ a. (new_variable W v n a).answer) (sym same) ∙ h.2.0 in (
+      names_below t.trees q (subst (NamesNothingIn {A = ℕ × Annotation}) is (variable_names (is_plain_type a.statement) W v n a)),
+      ap (λ o. declared_from at (new_variable W v n a).after o (state_of s u)) is
+          ∙ ap (λ items. (Err (halts (fails (meaning.Refused (refusal_in t.trees q)) at)), record (state_of s u) { declarations = declared_by items })) (sym h.2.1.0),
+    )
 declare_tells s t u at v n p a (Err Memory) g next here h = λ no. absurd (no refl)
 
 pub variable_tells : (s t : State) (u w : Budget) (at : ℕ) (n : Name) (p : ℕ) (r : Result ℕ Fault) → Good s.items → next_number (variables_in s.items) ≤ u.used → IsThesisOf s p
@@ -104,9 +136,9 @@ variable_tells s t u w at n p r g next is spent h =
 
 -- the list after it
 pub declared_goes_on : (s t : State) (v : ℕ) (n : Name) (p : ℕ) (r : Result ℕ Fault) → DeclaresVariable s v n p r t → GoesOn s t
-declared_goes_on s t v n p (Ok w) h = (variable v n p ∷ [], h.2.3)
-declared_goes_on s t v n p (Err (Refused q)) h = ([], h.2.1.0 ∙ sym (append-nil s.items))
-declared_goes_on s t v n p (Err Memory) h = ([], h.2.0 ∙ sym (append-nil s.items))
+declared_goes_on s t v n p (Ok w) h = (variable v n p ∷ [], h.2.3, (tt, tt))
+declared_goes_on s t v n p (Err (Refused q)) h = ([], h.2.1.0 ∙ sym (append-nil s.items), tt)
+declared_goes_on s t v n p (Err Memory) h = ([], h.2.0 ∙ sym (append-nil s.items), tt)
 
 -- ---- a variable that is bound
 

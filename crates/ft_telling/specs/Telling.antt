@@ -1,5 +1,5 @@
 -- What is told of an evaluation over the list of a kernel.
-use Rattle.std.specs.Prelude.{ℕ, zero, ◌≡◌, ◌≢◌, ◌-◌, Option, Some, None, List, [], Result, Ok, Err}
+use Rattle.std.specs.Prelude.{ℕ, zero, ◌≡◌, ◌≢◌, ◌-◌, Option, Some, None, List, [], length, Result, Ok, Err}
 use Rattle.ft_theory.specs.Expressions.{Expression, bound}
 use Rattle.ft_theory.specs.Rules.{look_up}
 use Rattle.ft_items.specs.Store.{Assertion, Annotation, declared_by}
@@ -9,7 +9,7 @@ use Rattle.ft_meaning.specs.Values as meaning
 use Rattle.ft_judge.specs.declared.fault.Fault.{Fault}
 use Rattle.ft_judge.specs.declared.fault.Fault.TheVariants as fault
 use Rattle.ft_kernel.specs.State.{State}
-use Rattle.ft_calls.specs.Answers.{refusal_in}
+use Rattle.ft_calls.specs.Answers.{refusal_in, RefusalBelow}
 use Rattle.ft_values.specs.Kept.{stated_at}
 use Rattle.ft_telling.specs.declared.halt.Why.{Why}
 use Rattle.ft_telling.specs.declared.halt.Why.TheVariants as why
@@ -34,10 +34,15 @@ halt_by ts at why.Memory = meaning.stuck
 abbrev pub halt_in : List Expression → Halt → meaning.Halt
 halt_in ts h = halt_by ts h.at h.why
 
--- the run halts as is told, unless memory was refused
+-- the expressions that a refusal names are in the table
+abbrev pub IsWhyOver : List Expression → Why → Type 0
+IsWhyOver ts (why.Refused r) = RefusalBelow (length ts) r
+IsWhyOver ts w = Unit {0}
+
+-- the run halts as is told, by expressions of the table, unless memory was refused
 abbrev pub HaltsSo : {A : Type 0} → meaning.Outcome A → Halt → State → Budget → Type 0
-HaltsSo o h t u =
-    h.why ≢ why.Memory → o ≡ (Err (meaning.halts (halt_in t.trees h)), state_of t u)
+HaltsSo o h t u = h.why ≢ why.Memory → IsWhyOver t.trees h.why
+    × (o ≡ (Err (meaning.halts (halt_in t.trees h)), state_of t u))
 
 -- The run gives what a number is seen as over the list, and leaves the list and the units so; or it
 -- halts as is told.

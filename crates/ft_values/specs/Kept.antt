@@ -2,7 +2,7 @@
 use Rattle.std.specs.Prelude.{ℕ, ◌≡◌, Bool, true, false, Option, Some, None, option_map}
 use Rattle.std.specs.Prelude.{List, [], ◌∷◌, ◌++◌}
 use Rattle.ft_theory.specs.Statements.{type_goal, plain}
-use Rattle.ft_items.specs.Item.{Item}
+use Rattle.ft_items.specs.Item.{Item, rule, shown}
 use Rattle.ft_items.specs.Store.{Assertion}
 use Rattle.ft_kernel.specs.State.{State, entry_at, IsThesisOf, IsBoundaryOf}
 use Rattle.ft_meaning.specs.Values as meaning
@@ -54,8 +54,23 @@ IsOver s none = Unit {0}
 IsOver s (some v) = IsOver s v
 
 -- the second list has the items of the first, and perhaps more after them
+abbrev pub HasMore : State → State → Type 0
+HasMore s t = (more : List Item) × (t.items ≡ s.items ++ more)
+
+-- the item declares no rule, and does not mark an entry as shown; so each of the items
+abbrev pub IsQuiet : Item → Type 0
+IsQuiet (rule n ms p) = ⊥
+IsQuiet (shown p) = ⊥
+IsQuiet i = Unit {0}
+
+abbrev pub AreQuiet : List Item → Type 0
+AreQuiet [] = Unit {0}
+AreQuiet (i ∷ items) = IsQuiet i × AreQuiet items
+
+-- the second list has the items of the first, and perhaps more after them, which declare no rule and
+-- mark nothing as shown
 abbrev pub GoesOn : State → State → Type 0
-GoesOn s t = (more : List Item) × (t.items ≡ s.items ++ more)
+GoesOn s t = (more : List Item) × (t.items ≡ s.items ++ more) × AreQuiet more
 
 -- What a value is, where it is of the kind: the number of the judgement, or of the boundary; the
 -- truth value.

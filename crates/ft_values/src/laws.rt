@@ -6,15 +6,15 @@ ghost use Rattle.ft_meaning.specs.Values.{the, as_judgements, State as Running};
 ghost use Rattle.ft_items.specs.Item.{Name};
 ghost use Rattle.ft_values.specs.declared.scopes.Scope.{Scope};
 ghost use Rattle.ft_values.specs.declared.values.Value.{Value};
-ghost use Rattle.ft_values.specs.Kept.{Kept, value_of, stated_at, judgements_in, IsOver, GoesOn};
+ghost use Rattle.ft_values.specs.Kept.{Kept, value_of, stated_at, judgements_in, IsOver, HasMore};
 ghost use Rattle.ft_values.specs.Rows.{kept_in, Below};
 ghost use Rattle.ft_values.specs.Scopes.{names_in, IsScopeOf};
 
 /// A value stays the same when items are added to the list, and when rows are added to the table.
 pub fn values_stay()
-    ensures items { (s t : State) (k : Kept) → GoesOn s t → IsOver s k
+    ensures items { (s t : State) (k : Kept) → HasMore s t → IsOver s k
         → value_of t k ≡ value_of s k }
-    ensures over { (s t : State) (k : Kept) → GoesOn s t → IsOver s k → IsOver t k }
+    ensures over { (s t : State) (k : Kept) → HasMore s t → IsOver s k → IsOver t k }
     ensures rows { (ks more : List Kept) (v : Value) → Below (length ks) v
         → kept_in (ks ++ more) v ≡ kept_in ks v }
 {}

@@ -10,4 +10,4 @@ pub returns-in-len1-up-clause-turns : goal.returns-in-len1-up-clause-turns
 returns-in-len1-up-clause-turns c = λ o.
     subst (λ e. TellsEnd (value_or_rule (Some (value_over c.args.state.now c.args.v)) (forms (map form c.args.es.now)) o (run_of c.args.state.now)) e c.args.state.now)
     (sym c.halts.ensures)
-    (λ m. named_alone c.args.es.now (value_over c.args.state.now c.args.v) o (run_of c.args.state.now) c.in-len1-up.len_at_least)
+    (λ no. (tt, named_alone c.args.es.now (value_over c.args.state.now c.args.v) o (run_of c.args.state.now) c.in-len1-up.len_at_least))

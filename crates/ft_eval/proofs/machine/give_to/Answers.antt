@@ -1,6 +1,7 @@
 use Rattle.ft_running.specs.Evaluation.{run_of, value_over}
 use Rattle.std.proofs.Common.{Ok}
 use Rattle.ft_eval.specs.Frames.{passed, passed_all}
+use Rattle.ft_running.proofs.Further.{further_both}
 use Rattle.ft_eval.proofs.Staying.{all_passed_still, all_fit_further}
 use Rattle.ft_eval.proofs.Outwards.{steps_same}
 use Rattle.ft_eval.proofs.machine.give_to.Goals as goal
@@ -17,3 +18,7 @@ returns-clause-steps c =
     steps_same (passed_all c.resume-answer.new.state fs o) (passed_all S fs o) c.outwards.result c.outwards.new.stack.items c.outwards.new.state
     (all_passed_still S c.resume-answer.new.state fs o c.holds.ensures c.resume-answer.ensures.further c.requires.frames)
     (c.outwards.ensures.steps o c.resume-answer.ensures.turns)
+
+pub returns-clause-further : goal.returns-clause-further
+returns-clause-further c =
+    further_both c.args.state.now c.resume-answer.new.state c.outwards.new.state c.resume-answer.ensures.further c.outwards.ensures.further

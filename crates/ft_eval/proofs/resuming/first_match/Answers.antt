@@ -64,7 +64,7 @@ loop-c-preserved c =
 pub returns-clause-turns : goal.returns-clause-turns
 returns-clause-turns c =
     subst (λ e. TellsEnd (given_by c.args.state.now c.args.at c.args.v c.args.scope c.args.cs.now) e c.loop-c.state) (sym c.halts.ensures)
-    (λ no. none_left c.args.state.now c.loop-c.state c.args.at c.args.v c.args.scope c.args.cs.now c.loop-c.c-index c.loop-c-test.false c.loop-c.invariant)
+    (λ no. (tt, none_left c.args.state.now c.loop-c.state c.args.at c.args.v c.args.scope c.args.cs.now c.loop-c.c-index c.loop-c-test.false c.loop-c.invariant))
 
 pub returns-clause-further : goal.returns-clause-further
 returns-clause-further c = c.loop-c.invariant.further

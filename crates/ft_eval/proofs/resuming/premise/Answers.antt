@@ -1,7 +1,7 @@
 use Rattle.std.proofs.Common.{rules, sym, subst}
 use Rattle.ft_apply.specs.Named.{AreThesesOf}
 use Rattle.ft_running.specs.Evaluation.{environment_of, value_over}
-use Rattle.ft_running.proofs.Further.{environment_further}
+use Rattle.ft_running.proofs.Further.{environment_further, further_both}
 use Rattle.ft_running.proofs.Declared.{rule_further, theses_further}
 use Rattle.ft_eval.specs.Frames.{TurnsInto}
 use Rattle.ft_eval.proofs.Resumed.{argued_is, theses_more}
@@ -26,3 +26,7 @@ returns-in-Ok-clause-turns c =
     (environment_further c.args.state.now c.next_argument.new.self c.args.scope c.holds.ensures c.next_argument.ensures.further c.requires.scope)
     c.next_argument.ensures.further c.requires.rule c.requires.given c.in_ok-push-in-Ok.ensures))
     c.apply.ensures.turns
+
+pub returns-in-Ok-clause-further : goal.returns-in-Ok-clause-further
+returns-in-Ok-clause-further c =
+    further_both c.args.state.now c.next_argument.new.self c.apply.new.state c.next_argument.ensures.further c.apply.ensures.further

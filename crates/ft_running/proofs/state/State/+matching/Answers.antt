@@ -65,10 +65,13 @@ match_arguments-returns-in-Err-clause-tells t c =
     let G = environment_of w c.matching.found in
     let told = subst (λ r. TellsMatch (matches_argument c.args.at (pattern p) J (c.matching.i + 1) G (run_of w)) r f) c.in-Err.is
     (subst (λ a. TellsMatch (matches_argument c.args.at (pattern p) a (c.matching.i + 1) G (run_of w)) c.match_argument.result f) (stated_further e w c.args.j c.matching.invariant.further c.requires.thesis) c.match_argument.ensures.tells) in
-    λ other.
-    sym c.matching.invariant.left
-    ∙ next_argument c.args.at c.args.ps.now J c.matching.i p G (run_of w) c.index-ps-i.is c.matching-test.true
-    ∙ halts_next (matches_argument c.args.at (pattern p) J (c.matching.i + 1) G) (arguments_from c.args.at c.args.ps.now J (c.matching.i + 1)) (run_of w) c.in-Err.halt f told other
+    let halts = halts_next (matches_argument c.args.at (pattern p) J (c.matching.i + 1) G) (arguments_from c.args.at c.args.ps.now J (c.matching.i + 1)) (run_of w) c.in-Err.halt f told in
+    λ other. (
+      (halts other).0,
+      sym c.matching.invariant.left
+          ∙ next_argument c.args.at c.args.ps.now J c.matching.i p G (run_of w) c.index-ps-i.is c.matching-test.true
+          ∙ (halts other).1,
+    )
 
 pub match_arguments-matching-preserved : goal.match_arguments-matching-preserved
 match_arguments-matching-preserved t c =
@@ -88,3 +91,19 @@ match_arguments-matching-preserved t c =
           ∙ sym (next_argument c.args.at c.args.ps.now J c.matching.i p G (run_of w) c.index-ps-i.is c.matching-test.true)
           ∙ c.matching.invariant.left;
     }
+
+pub match_argument-returns-in-Ok-clause-further : goal.match_argument-returns-in-Ok-clause-further
+match_argument-returns-in-Ok-clause-further t c =
+    further_both c.args.self.now c.argument_value.new.self c.matches.new.self c.argument_value.ensures.further c.matches.ensures.further
+
+pub match_arguments-returns-in-Ok-None-clause-further : goal.match_arguments-returns-in-Ok-None-clause-further
+match_arguments-returns-in-Ok-None-clause-further t c =
+    further_both c.args.self.now c.matching.self c.match_argument.new.self c.matching.invariant.further c.match_argument.ensures.further
+
+pub match_arguments-returns-in-Err-clause-further : goal.match_arguments-returns-in-Err-clause-further
+match_arguments-returns-in-Err-clause-further t c =
+    further_both c.args.self.now c.matching.self c.match_argument.new.self c.matching.invariant.further c.match_argument.ensures.further
+
+pub match_both-returns-in-Ok-Some-clause-further : goal.match_both-returns-in-Ok-Some-clause-further
+match_both-returns-in-Ok-Some-clause-further t c =
+    further_both c.args.self.now c.matches.new.self c.matches-in-Ok-Some.new.self c.matches.ensures.further c.matches-in-Ok-Some.ensures.further

@@ -5,9 +5,9 @@ use Rattle.ft_kernel.specs.State.{IsThesisOf}
 use Rattle.ft_telling.specs.Telling.{TellsStatement, HaltsSo, state_of}
 use Rattle.ft_telling.specs.declared.halt.Halt.{Halt}
 use Rattle.ft_values.specs.Kept.{stated_at}
-use Rattle.ft_running.specs.Evaluation.{Evaluation, run_of}
+use Rattle.ft_running.specs.Evaluation.{Evaluation, GoesFurther, run_of}
 use Rattle.ft_running.specs.Matching.{argument_of}
-use Rattle.ft_running.proofs.Further.{call_evaluation}
+use Rattle.ft_running.proofs.Further.{call_evaluation, call_goes, further_both}
 use Rattle.ft_running.proofs.Applied.{argument_answered}
 use Rattle.ft_running.proofs.state.State.argument_value.Goals as goal
 
@@ -45,3 +45,17 @@ returns-clause-tells c =
       c.in_ok-value.ensures.means,
       c.in_ok-value.ensures.value,
     )
+
+pub returns-in_err-value-clause-further : goal.returns-in_err-value-clause-further
+returns-in_err-value-clause-further c =
+    let e : Evaluation = (record { list = c.self.inside.kernel; values = c.self.inside.values; scopes = c.self.inside.scopes; top = c.self.inside.top; units = c.self.inside.units }) in
+    subst (λ (e : Evaluation). GoesFurther e c.keep_judgement.new.self) c.self.view_is
+    (further_both e (record e { list = c.argument-answer.new.k }) c.keep_judgement.new.self
+    (call_goes e (by_arg c.args.i c.args.j) c.argument-answer.result c.argument-answer.new.k c.argument-answer.ensures.answers) c.keep_judgement.ensures.further)
+
+pub returns-clause-further : goal.returns-clause-further
+returns-clause-further c =
+    let e : Evaluation = (record { list = c.self.inside.kernel; values = c.self.inside.values; scopes = c.self.inside.scopes; top = c.self.inside.top; units = c.self.inside.units }) in
+    subst (λ (e : Evaluation). GoesFurther e c.keep_judgement.new.self) c.self.view_is
+    (further_both e (record e { list = c.argument-answer.new.k }) c.keep_judgement.new.self
+    (call_goes e (by_arg c.args.i c.args.j) c.argument-answer.result c.argument-answer.new.k c.argument-answer.ensures.answers) c.keep_judgement.ensures.further)

@@ -1,5 +1,13 @@
-use Rattle.ft_running.proofs.Called.{leaves_evaluation}
+use Rattle.std.proofs.Common.{subst}
+use Rattle.ft_running.specs.Evaluation.{Evaluation, GoesFurther}
+use Rattle.ft_running.proofs.Called.{leaves_evaluation, leaves_further}
 use Rattle.ft_running.proofs.state.State.boundary_of.Goals as goal
 
 pub invariant_of-self : goal.invariant_of-self
 invariant_of-self c = leaves_evaluation (record { list = c.self.inside.kernel; values = c.self.inside.values; scopes = c.self.inside.scopes; top = c.self.inside.top; units = c.self.inside.units }) c.boundaryof-answer.new.k c.self.invariant c.boundaryof-answer.ensures.told.leaves
+
+pub returns-clause-further : goal.returns-clause-further
+returns-clause-further c =
+    subst (λ (e : Evaluation). GoesFurther e c.bounded.new.self) c.self.view_is
+    (leaves_further (record { list = c.self.inside.kernel; values = c.self.inside.values; scopes = c.self.inside.scopes; top = c.self.inside.top; units = c.self.inside.units }) c.bounded.new.self
+    c.boundaryof-answer.new.k c.boundaryof-answer.ensures.told.leaves c.bounded.ensures.further)

@@ -1,10 +1,11 @@
+use Rattle.ft_running.proofs.Called.{leaves_further}
 use Rattle.std.proofs.Common.{sym, subst, ℕ}
 use Rattle.ft_theory.specs.Rules.{Rule}
 use Rattle.ft_reference.specs.Nucleus as reference
 use Rattle.ft_meaning.specs.Values.{nucleus}
 use Rattle.ft_calling.specs.Calling.{rule_at}
 use Rattle.ft_running.specs.Asked.{IsRuleOf, rule_in, judgements_of, TellsGoal}
-use Rattle.ft_running.specs.Evaluation.{Evaluation, run_of}
+use Rattle.ft_running.specs.Evaluation.{Evaluation, run_of, GoesFurther}
 use Rattle.ft_running.proofs.Called.{leaves_evaluation, rule_is_in}
 use Rattle.ft_running.proofs.state.State.next_boundary.Goals as goal
 
@@ -19,3 +20,9 @@ returns-clause-tells c =
     (subst (λ (R : ℕ × Rule). TellsGoal (nucleus c.args.at (λ W. reference.next_boundary W R (judgements_of V c.args.given.now)) (run_of V)) c.goal.result c.goal.new.self)
     (sym (rule_is_in V c.args.rule c.terms-terms.ensures.good rule.0).1)
     (c.goal.ensures.tells (nucleus c.args.at (λ W. reference.next_boundary W (rule_at c.self.inside.kernel c.args.rule) (judgements_of V c.args.given.now)) (run_of V)) (c.next_boundary-answer.ensures.told.tells c.self.inside.units)))
+
+pub returns-clause-further : goal.returns-clause-further
+returns-clause-further c =
+    subst (λ (e : Evaluation). GoesFurther e c.goal.new.self) c.self.view_is
+    (leaves_further (record { list = c.self.inside.kernel; values = c.self.inside.values; scopes = c.self.inside.scopes; top = c.self.inside.top; units = c.self.inside.units }) c.goal.new.self
+    c.next_boundary-answer.new.k c.next_boundary-answer.ensures.told.leaves c.goal.ensures.further)

@@ -1,5 +1,13 @@
-use Rattle.ft_running.proofs.Called.{leaves_evaluation}
+use Rattle.std.proofs.Common.{subst}
+use Rattle.ft_running.specs.Evaluation.{Evaluation, GoesFurther}
+use Rattle.ft_running.proofs.Called.{leaves_evaluation, leaves_further}
 use Rattle.ft_running.proofs.state.State.substitute_judgement.Goals as goal
 
 pub invariant_of-self : goal.invariant_of-self
 invariant_of-self c = leaves_evaluation (record { list = c.self.inside.kernel; values = c.self.inside.values; scopes = c.self.inside.scopes; top = c.self.inside.top; units = c.self.inside.units }) c.substitute_judgement-answer.new.k c.self.invariant c.substitute_judgement-answer.ensures.told.leaves
+
+pub returns-clause-further : goal.returns-clause-further
+returns-clause-further c =
+    subst (λ (e : Evaluation). GoesFurther e c.concluded.new.self) c.self.view_is
+    (leaves_further (record { list = c.self.inside.kernel; values = c.self.inside.values; scopes = c.self.inside.scopes; top = c.self.inside.top; units = c.self.inside.units }) c.concluded.new.self
+    c.substitute_judgement-answer.new.k c.substitute_judgement-answer.ensures.told.leaves c.concluded.ensures.further)

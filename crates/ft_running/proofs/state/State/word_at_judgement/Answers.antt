@@ -1,5 +1,13 @@
-use Rattle.ft_running.proofs.Called.{leaves_evaluation}
+use Rattle.std.proofs.Common.{subst}
+use Rattle.ft_running.specs.Evaluation.{Evaluation, GoesFurther}
+use Rattle.ft_running.proofs.Called.{leaves_evaluation, leaves_further}
 use Rattle.ft_running.proofs.state.State.word_at_judgement.Goals as goal
 
 pub invariant_of-self : goal.invariant_of-self
 invariant_of-self c = leaves_evaluation (record { list = c.self.inside.kernel; values = c.self.inside.values; scopes = c.self.inside.scopes; top = c.self.inside.top; units = c.self.inside.units }) c.word_at-answer.new.k c.self.invariant c.word_at-answer.ensures.told.leaves
+
+pub returns-clause-further : goal.returns-clause-further
+returns-clause-further c =
+    subst (λ (e : Evaluation). GoesFurther e c.concluded.new.self) c.self.view_is
+    (leaves_further (record { list = c.self.inside.kernel; values = c.self.inside.values; scopes = c.self.inside.scopes; top = c.self.inside.top; units = c.self.inside.units }) c.concluded.new.self
+    c.word_at-answer.new.k c.word_at-answer.ensures.told.leaves c.concluded.ensures.further)

@@ -1,0 +1,4 @@
+pub mod Bounded
+pub mod BoundInTurn
+pub mod Drafted
+pub mod Staying

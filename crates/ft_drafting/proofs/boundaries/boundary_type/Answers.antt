@@ -1,0 +1,5 @@
+use Rattle.ft_running.proofs.Called.{leaves_evaluation}
+use Rattle.ft_drafting.proofs.boundaries.boundary_type.Goals as goal
+
+pub invariant_of-state : goal.invariant_of-state
+invariant_of-state c = leaves_evaluation (record { list = c.state.inside.kernel; values = c.state.inside.values; scopes = c.state.inside.scopes; top = c.state.inside.top; units = c.state.inside.units }) c.types-answer.new.k c.state.invariant c.types-answer.ensures.told.leaves

@@ -1,0 +1,9 @@
+mod Claimed
+mod Bounded
+mod Binding
+mod Premised
+mod Ruled
+mod Shown
+mod Marks
+mod Faulting
+mod Doing

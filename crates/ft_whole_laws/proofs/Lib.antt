@@ -1,0 +1,5 @@
+pub mod Asked
+pub mod Answered
+pub mod Caused
+pub mod Exported
+pub mod Checked

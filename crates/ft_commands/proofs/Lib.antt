@@ -4,6 +4,6 @@ mod Binding
 mod Premised
 mod Ruled
 mod Shown
-mod Marks
+pub mod Marks
 mod Faulting
 mod Doing

@@ -1,0 +1,4 @@
+mod Stepping
+mod Telling
+mod Halting
+mod Wholes
